@@ -1,0 +1,4 @@
+pub mod CrcSteps
+pub mod CrcTable
+pub mod CrcFold
+pub mod CrcVectors
