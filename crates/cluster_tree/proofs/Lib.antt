@@ -1,0 +1,5 @@
+pub mod TextLemmas
+pub mod NodeLemmas
+pub mod StepLemmas
+pub mod PointLemmas
+pub mod SinkLemmas

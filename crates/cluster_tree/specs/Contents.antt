@@ -1,0 +1,32 @@
+-- What a tree of files holds: POSIX.1-2017, Base Definitions, "File Hierarchy". Own: "The tree of files".
+use Rattle.std.specs.Prelude.{ℕ, ◌+◌, ◌-◌, Bool, false, List, [], ◌∷◌, ◌++◌, length, take, drop, Option, None, Some}
+use Rattle.std.specs.FinMap.{FinMap, get}
+use Rattle.cluster_tree.specs.PathValue.{PathValue, path_cmp}
+
+-- A folder tells whether it holds a name that isn't UTF-8. A link stands for every link or special file.
+pub data Entry : Type 0 where
+  FolderEntry : (has_bad_name : Bool) → Entry
+  FileEntry : (bytes : List ℕ) → Entry
+  LinkEntry : Entry
+
+-- the entries by their paths, in the order of paths
+abbrev pub Contents : Type 0
+Contents = FinMap path_cmp Entry
+
+-- the folder that a path lies in
+abbrev pub parent : PathValue → PathValue
+parent path = record { absolute = path.absolute; parts = take (length path.parts - 1) path.parts }
+
+-- the current folder and the root are always folders
+abbrev pub or_root : List (List ℕ) → Option Entry → Option Entry
+or_root parts (Some entry) = Some entry
+or_root [] None = Some (FolderEntry false)
+or_root (part ∷ parts) None = None
+
+-- what stands at a path
+abbrev pub entry_at : Contents → PathValue → Option Entry
+entry_at c path = or_root path.parts (get c path)
+
+-- the bytes with these in the place of those from an offset on
+abbrev pub spliced : List ℕ → ℕ → List ℕ → List ℕ
+spliced old at bytes = take at old ++ bytes ++ drop (at + length bytes) old

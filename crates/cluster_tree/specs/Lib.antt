@@ -1,0 +1,11 @@
+pub mod PathValue
+pub mod PathOrder
+pub mod Paths
+pub mod Contents
+pub mod Causes
+pub mod Tree
+pub mod Step
+pub mod Sink
+pub mod Plan
+pub mod Memory
+pub mod Fakes

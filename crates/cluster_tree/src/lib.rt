@@ -1,0 +1,31 @@
+//! Paths, the tree of files, sinks, and fakes of both in memory.
+#![tactic(auto)]
+
+mod failing;
+mod file_fault;
+mod log;
+mod memory;
+mod memory_sink;
+mod names;
+mod nodes;
+mod out_of_memory;
+mod path;
+mod path_fault;
+mod plan;
+mod sink;
+mod tree;
+
+pub use failing::FailingTree;
+pub use file_fault::FileFault;
+pub use memory::MemoryTree;
+pub use memory_sink::MemorySink;
+pub use names::Names;
+pub use out_of_memory::OutOfMemory;
+pub use path::Path;
+pub use path_fault::PathFault;
+pub use plan::FailPlan;
+pub use sink::{Sink, SinkFailed};
+pub use tree::{ChangeCall, Kind, Tree, TreeFault};
+
+#[cfg(test)]
+mod tests;

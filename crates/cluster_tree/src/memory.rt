@@ -1,0 +1,129 @@
+// A tree in memory, which tells its contents.
+ghost use Rattle.std.specs.Prelude.{◌≡◌, ◌≤◌, [], length, slice_get, Ok, Err, OnOk, OnErr};
+ghost use Rattle.std.specs.Option.{option_copied};
+ghost use Rattle.std.specs.FinMap.{empty};
+ghost use Rattle.cluster_tree.specs.Causes.{Rose};
+
+use crate::log::Log;
+use crate::nodes::{Node, Placed, check_room, file_in, place_of, put_file, put_folder, write_in};
+use crate::{ChangeCall, Kind, OutOfMemory, Path, Tree, TreeFault};
+use std::alloc::Global;
+
+/// A tree in memory, which tells its contents. Its space is its device: a changing call that finds
+/// no memory fails. Its reads take no memory, and none fails.
+#[derive(Drop)]
+pub struct MemoryTree {
+    alloc: Global,
+    nodes: Vec<Placed>,
+    log: Log,
+    failed: u64,
+}
+
+impl MemoryTree {
+    /// An empty tree, in which no changing call was made.
+    pub fn new(alloc: Global) -> MemoryTree
+        ensures empty { ⟦<MemoryTree as Tree>⟧.contents result ≡ empty }
+        ensures uncalled { ⟦<MemoryTree as Tree>⟧.calls result ≡ [] }
+        ensures unfailed { ⟦<MemoryTree as Tree>⟧.failed_changes result ≡ 0 }
+    {
+        MemoryTree {
+            alloc,
+            nodes: Vec::new(alloc),
+            log: Log::new(alloc),
+            failed: 0,
+        }
+    }
+
+    /// How many changing calls are in the list.
+    pub fn changes(&self) -> usize
+        ensures { result ≡ length (⟦<MemoryTree as Tree>⟧.calls self.now) }
+    {
+        self.log.calls.len()
+    }
+
+    /// The changing call at a place of the list, counted from 0, or `None` at and past its length.
+    pub fn change(&self, at: usize) -> Option<&ChangeCall>
+        ensures { option_copied result ≡ slice_get (⟦<MemoryTree as Tree>⟧.calls self.now) at }
+    {
+        self.log.calls.get(at)
+    }
+}
+
+// The answer of a changing call: want of memory is a failure of the device, and is counted.
+fn counted(failed: &mut u64, done: Result<(), OutOfMemory>) -> Result<(), TreeFault>
+    ensures done { OnOk done ((result ≡ Ok tt) × (failed.new ≡ failed.old)) }
+    ensures undone { OnErr done ((result ≡ Err TreeFault.Failed) × Rose failed.old failed.new) }
+    ensures later { failed.old ≤ failed.new }
+{
+    match done {
+        Ok(()) => Ok(()),
+        Err(OutOfMemory) => {
+            *failed = failed.saturating_add(1);
+            Err(TreeFault::Failed)
+        }
+    }
+}
+
+impl Tree for MemoryTree {
+    ghost use Rattle.std.specs.Prelude.{true};
+    ghost use Rattle.cluster_tree.specs.Memory.{contents_of};
+
+    ghost tells = { true };
+
+    ghost contents = { λ m. contents_of m.nodes.items };
+
+    ghost calls = { λ m. m.log.calls.items };
+
+    ghost failed_reads = { λ m. 0 };
+
+    ghost failed_changes = { λ m. m.failed };
+
+    fn kind(&mut self, path: &Path) -> Result<Kind, TreeFault> {
+        let Some(i) = place_of(&self.nodes, path) else {
+            if path.len() == 0 {
+                return Ok(Kind::Folder);
+            }
+            return Ok(Kind::Absent);
+        };
+        match &self.nodes[i].node {
+            Node::Folder(_) => Ok(Kind::Folder),
+            Node::File(_) => Ok(Kind::File),
+            Node::Link => Err(TreeFault::Link),
+        }
+    }
+
+    fn size(&mut self, path: &Path) -> Result<u64, TreeFault> {
+        Ok(file_in(&self.nodes, path)?.len() as u64)
+    }
+
+    fn read_at(&mut self, path: &Path, at: u64, into: &mut [u8]) -> Result<(), TreeFault> {
+        let bytes = file_in(&self.nodes, path)?;
+        let at = at as usize;
+        if at > bytes.len() || into.len() > bytes.len() - at {
+            return Err(TreeFault::PastEnd);
+        }
+        into.copy_from_slice(&bytes[at..at + into.len()]);
+        Ok(())
+    }
+
+    fn write_at(&mut self, path: &Path, at: u64, bytes: &[u8]) -> Result<(), TreeFault> {
+        let at = at as usize;
+        if at > file_in(&self.nodes, path)?.len() {
+            return Err(TreeFault::PastEnd);
+        }
+        let done = write_in(self.alloc, &mut self.nodes, &mut self.log, path, at, bytes);
+        counted(&mut self.failed, done)
+    }
+
+    fn make_file(&mut self, path: &Path) -> Result<(), TreeFault> {
+        check_room(&self.nodes, path)?;
+        let done = put_file(self.alloc, &mut self.nodes, &mut self.log, path);
+        counted(&mut self.failed, done)
+    }
+
+    fn make_folder(&mut self, path: &Path) -> Result<(), TreeFault> {
+        check_room(&self.nodes, path)?;
+        let done = put_folder(self.alloc, &mut self.nodes, &mut self.log, path);
+        counted(&mut self.failed, done)
+    }
+}

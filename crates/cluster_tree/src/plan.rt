@@ -1,0 +1,35 @@
+// Which calls of a fake fail.
+ghost use Rattle.std.specs.Prelude.{◌≡◌, ◌+◌, ◌<◌, ℕ};
+
+/// Which calls of a fake fail, by their number from 1.
+#[derive(Clone, Copy, Debug, PartialEq, Eq)]
+pub enum FailPlan {
+    /// None fails.
+    Never,
+    /// The call of this number fails.
+    At(u64),
+    /// The call of this number fails, and each later one.
+    From(u64),
+}
+
+impl FailPlan {
+    ghost use Rattle.cluster_tree.specs.Plan.{fails_at};
+
+    /// Whether the next call fails. What is left is the plan of the calls after it.
+    pub(crate) fn fails_next(&mut self) -> bool
+        ensures next { result ≡ fails_at self.old 1 }
+        ensures left { (n : ℕ) → 0 < n → fails_at self.new n ≡ fails_at self.old (n + 1) }
+    {
+        match *self {
+            FailPlan::Never => false,
+            FailPlan::At(n) => {
+                *self = FailPlan::At(n.saturating_sub(1));
+                n == 1
+            }
+            FailPlan::From(n) => {
+                *self = FailPlan::From(n.saturating_sub(1));
+                n <= 1
+            }
+        }
+    }
+}

@@ -1,0 +1,169 @@
+// The machine's files as every other crate sees them.
+ghost use Rattle.std.specs.Prelude.{◌≡◌, ℕ, ◌≤◌, Bool, false, List, [], ◌∷◌, length, OnOk, IsTrue};
+ghost use Rattle.std.specs.FinMap.{insert};
+ghost use Rattle.cluster_tree.specs.Contents.{Contents, entry_at, FileEntry, FolderEntry};
+ghost use Rattle.cluster_tree.specs.Tree.{kind_of, file_of, size_of, range_of, write_refusal, make_refusal, written, Answers, AnswersInto, Refuses, RefusesOnly, Counts, Keeps, Lists, file_faults, range_faults, make_faults};
+ghost use Rattle.cluster_tree.specs.Step.{Step};
+
+use crate::Path;
+use thiserror::Error;
+
+/// What stands at a path. A link or special file is no kind, but the refusal `Link`.
+#[derive(Clone, Copy, Debug, PartialEq, Eq)]
+pub enum Kind {
+    /// Nothing.
+    Absent,
+    /// A file.
+    File,
+    /// A folder.
+    Folder,
+}
+
+/// Why a call on a tree was refused or failed.
+#[derive(Clone, Copy, Debug, PartialEq, Eq, Error)]
+pub enum TreeFault {
+    /// The device failed, and the call's own count of failures rose.
+    #[error("the device failed")]
+    Failed,
+    /// Nothing stands there, or of what is to be made the folder above is missing.
+    #[error("there is no such entry")]
+    Absent,
+    /// A folder stands where a file is needed.
+    #[error("a folder stands there")]
+    IsFolder,
+    /// A file stands where a folder is needed.
+    #[error("a file stands where a folder is needed")]
+    NotFolder,
+    /// A link or a special file stands there.
+    #[error("a link or special file stands there")]
+    Link,
+    /// A folder holds a name that isn't UTF-8.
+    #[error("a name isn't UTF-8")]
+    NameNotText,
+    /// What is to be made is there.
+    #[error("the entry exists")]
+    Exists,
+    /// A folder that is to be removed holds something.
+    #[error("the folder isn't empty")]
+    NotEmpty,
+    /// The place lies past the file's end.
+    #[error("the place is past the end of the file")]
+    PastEnd,
+    /// There was no memory for the answer.
+    #[error("out of memory")]
+    OutOfMemory,
+}
+
+/// A changing call of a tree.
+#[derive(Debug, Drop)]
+pub enum ChangeCall {
+    /// `write_at`: the path, the offset, and how many bytes were given.
+    Write(Path, u64, u64),
+    /// `make_file`.
+    MakeFile(Path),
+    /// `make_folder`.
+    MakeFolder(Path),
+}
+
+/// The machine's files, as every other crate sees them. All calls but the reads `kind`, `size` and
+/// `read_at` are changing calls. Each call answers `Failed` only where its own count of failures
+/// rose, and every other refusal where the contents say so, which it then leaves unchanged.
+pub trait Tree {
+    ghost use Rattle.cluster_tree.specs.declared.tree.ChangeCall.{ChangeCall};
+
+    /// Whether it tells its contents.
+    ghost tells: { Bool };
+
+    /// What it holds, where it tells that.
+    ghost contents: { Self → Contents };
+
+    /// The changing calls so far, in order. One that failed and changed nothing may be missing.
+    ghost calls: { Self → List ChangeCall };
+
+    /// How many reads have failed.
+    ghost failed_reads: { Self → ℕ };
+
+    /// How many changing calls have failed.
+    ghost failed_changes: { Self → ℕ };
+
+    /// What stands at a path. Answers `Link` where that is a link or special file.
+    fn kind(&mut self, path: &Path) -> Result<Kind, TreeFault>
+        ensures answer { IsTrue tells →
+            Answers (kind_of (entry_at (contents self.old) path.now)) result }
+        ensures row { RefusesOnly (TreeFault.Link ∷ []) result }
+        ensures same { contents self.new ≡ contents self.old }
+        ensures uncalled { calls self.new ≡ calls self.old }
+        ensures cause { Counts (failed_reads self.old) (failed_reads self.new) result }
+        ensures changes { failed_changes self.old ≤ failed_changes self.new };
+
+    /// The size of a file in bytes. Answers `Absent`, `IsFolder` or `Link` where no file is there.
+    fn size(&mut self, path: &Path) -> Result<u64, TreeFault>
+        ensures answer { IsTrue tells →
+            Answers (size_of (file_of (entry_at (contents self.old) path.now))) result }
+        ensures row { RefusesOnly file_faults result }
+        ensures same { contents self.new ≡ contents self.old }
+        ensures uncalled { calls self.new ≡ calls self.old }
+        ensures cause { Counts (failed_reads self.old) (failed_reads self.new) result }
+        ensures changes { failed_changes self.old ≤ failed_changes self.new };
+
+    /// Fills `into` with the bytes of a file from the offset `at` on. Answers as `size` does, and
+    /// then `PastEnd` where they reach past the file's end. What `into` holds after an error is
+    /// open.
+    fn read_at(&mut self, path: &Path, at: u64, into: &mut [u8]) -> Result<(), TreeFault>
+        ensures answer { IsTrue tells → AnswersInto
+            (range_of (file_of (entry_at (contents self.old) path.now)) at (length into.old))
+            into.new result }
+        ensures row { RefusesOnly range_faults result }
+        ensures same { contents self.new ≡ contents self.old }
+        ensures uncalled { calls self.new ≡ calls self.old }
+        ensures cause { Counts (failed_reads self.old) (failed_reads self.new) result }
+        ensures changes { failed_changes self.old ≤ failed_changes self.new };
+
+    /// Writes over the bytes of a file from the offset `at` on, and past its end. Answers as `size`
+    /// does, and then `PastEnd` where `at` is past the file's end. One that failed leaves open what
+    /// the range holds.
+    fn write_at(&mut self, path: &Path, at: u64, bytes: &[u8]) -> Result<(), TreeFault>
+        ensures written { IsTrue tells →
+            OnOk result (contents self.new ≡ written (contents self.old) path.now at bytes.now) }
+        ensures refused { IsTrue tells →
+            Refuses (write_refusal (contents self.old) path.now at) result }
+        ensures kept { IsTrue tells → Keeps (contents self.old) (contents self.new) result }
+        ensures step { IsTrue tells → Step (ChangeCall.Write path.now at (length bytes.now))
+            (contents self.old) (contents self.new) }
+        ensures row { RefusesOnly range_faults result }
+        ensures listed { IsTrue tells → Lists (ChangeCall.Write path.now at (length bytes.now))
+            (calls self.old) (calls self.new) (contents self.old) (contents self.new) result }
+        ensures cause { Counts (failed_changes self.old) (failed_changes self.new) result }
+        ensures reads { failed_reads self.old ≤ failed_reads self.new };
+
+    /// Makes an empty file. Answers `Exists` where an entry is there, and then `Absent`,
+    /// `NotFolder` or `Link` where it would not lie in a folder. One that failed may have made it.
+    fn make_file(&mut self, path: &Path) -> Result<(), TreeFault>
+        ensures made { IsTrue tells →
+            OnOk result (contents self.new ≡ insert (contents self.old) path.now (FileEntry [])) }
+        ensures refused { IsTrue tells →
+            Refuses (make_refusal (contents self.old) path.now) result }
+        ensures kept { IsTrue tells → Keeps (contents self.old) (contents self.new) result }
+        ensures step { IsTrue tells →
+            Step (ChangeCall.MakeFile path.now) (contents self.old) (contents self.new) }
+        ensures row { RefusesOnly make_faults result }
+        ensures listed { IsTrue tells → Lists (ChangeCall.MakeFile path.now) (calls self.old)
+            (calls self.new) (contents self.old) (contents self.new) result }
+        ensures cause { Counts (failed_changes self.old) (failed_changes self.new) result }
+        ensures reads { failed_reads self.old ≤ failed_reads self.new };
+
+    /// Makes an empty folder, with the refusals of `make_file`. One that failed may have made it.
+    fn make_folder(&mut self, path: &Path) -> Result<(), TreeFault>
+        ensures made { IsTrue tells → OnOk result
+            (contents self.new ≡ insert (contents self.old) path.now (FolderEntry false)) }
+        ensures refused { IsTrue tells →
+            Refuses (make_refusal (contents self.old) path.now) result }
+        ensures kept { IsTrue tells → Keeps (contents self.old) (contents self.new) result }
+        ensures step { IsTrue tells →
+            Step (ChangeCall.MakeFolder path.now) (contents self.old) (contents self.new) }
+        ensures row { RefusesOnly make_faults result }
+        ensures listed { IsTrue tells → Lists (ChangeCall.MakeFolder path.now) (calls self.old)
+            (calls self.new) (contents self.old) (contents self.new) result }
+        ensures cause { Counts (failed_changes self.old) (failed_changes self.new) result }
+        ensures reads { failed_reads self.old ≤ failed_reads self.new };
+}
