@@ -1,0 +1,10 @@
+use Rattle.std.proofs.Common.{rules, w64, FitsSigned}
+use Rattle.std.proofs.lemmas.Int.{to_z-of_z}
+use Rattle.control_file.specs.Reading.{checkpoint_at}
+use Rattle.control_file.proofs.reading.checkpoint.Goals as goal
+
+pub returns : goal.returns
+unfolding checkpoint_at
+returns c =
+    let fits : FitsSigned w64 c.i64_at.result = search rules in
+    rw (to_z-of_z w64 c.i64_at.result fits) cc

@@ -1,0 +1,4 @@
+pub mod Admission
+pub mod Names
+pub mod Reading
+pub mod Rows

@@ -1,0 +1,92 @@
+//! Values by hand from the layout of numbers with the lowest byte first.
+
+use crate::{
+    Row, Rule, Value, first_broken, i64_at, is_segment_size, raw_at, u8_at, u16_at, u32_at, u64_at,
+};
+
+/// The byte at place k is k + 1, but the last eight are FE and seven FF: -2 in two's complement.
+const BYTES: [u8; 40] = [
+    1, 2, 3, 4, 5, 6, 7, 8, 9, 10, 11, 12, 13, 14, 15, 16, 17, 18, 19, 20, 21, 22, 23, 24, 25, 26,
+    27, 28, 29, 30, 31, 32, 0xFE, 0xFF, 0xFF, 0xFF, 0xFF, 0xFF, 0xFF, 0xFF,
+];
+
+#[test]
+fn reads_the_lowest_byte_first(rt: HostRuntime) {
+    assert_eq!(rt; u8_at(&BYTES, 39), 0xFF);
+    assert_eq!(rt; u16_at(&BYTES, 1), 0x0302);
+    assert_eq!(rt; u32_at(&BYTES, 2), 0x0605_0403);
+    assert_eq!(rt; u64_at(&BYTES, 3), 0x0B0A_0908_0706_0504);
+    assert_eq!(rt; i64_at(&BYTES, 32), -2);
+    assert_eq!(rt; raw_at(&BYTES, 8)[24..], BYTES[32..]);
+}
+
+#[test]
+fn a_row_has_the_number_of_its_value(rt: HostRuntime) {
+    let any = Rule::Any;
+    let rows = [
+        (Row::byte('a', 0, 0xFF, any), 0xFF),
+        (Row::half('b', 2, 0xFFFF, any), 0xFFFF),
+        (Row::word('c', 4, 0xFFFF_FFFF, any), 0xFFFF_FFFF),
+        (Row::long('d', 8, u64::MAX, any), u64::MAX),
+        (Row::signed('e', 16, -1, any), 0),
+        (Row::raw('f', 24, [1; 32], any), 0),
+    ];
+    for (row, number) in rows {
+        assert_eq!(rt; row.value.number(), number, "at {}", row.field);
+    }
+}
+
+#[test]
+fn rules_allow(rt: HostRuntime) {
+    let rows = [
+        (Rule::Any, u64::MAX, true),
+        (Rule::AtMost(6), 6, true),
+        (Rule::AtMost(6), 7, false),
+        (Rule::Only(8), 8, true),
+        (Rule::Only(8), 9, false),
+        (Rule::Between(1, 3), 0, false),
+        (Rule::Between(1, 3), 1, true),
+        (Rule::Between(1, 3), 3, true),
+        (Rule::Between(1, 3), 4, false),
+        (Rule::SegmentSize, 0x100_0000, true),
+        (Rule::SegmentSize, 0x180_0000, false),
+    ];
+    for (rule, number, allowed) in rows {
+        assert_eq!(rt; rule.allows(number), allowed, "{rule:?} at {number}");
+    }
+}
+
+#[test]
+fn a_segment_has_a_power_of_two(rt: HostRuntime) {
+    for n in [0x10_0000, 0x20_0000, 0x100_0000, 0x2000_0000, 0x4000_0000] {
+        assert!(rt; is_segment_size(n), "{n}");
+    }
+    for n in [
+        0,
+        1,
+        0x8_0000,
+        0xF_FFFF,
+        0x10_0001,
+        0x30_0000,
+        0x6000_0000,
+        0x8000_0000,
+    ] {
+        assert!(rt; !is_segment_size(n), "{n}");
+    }
+}
+
+#[test]
+fn finds_the_first_broken_row(rt: HostRuntime) {
+    let kept = Row::byte('a', 0, 1, Rule::AtMost(1));
+    let second = Row::word('b', 4, 9, Rule::Only(8));
+    let third = Row::long('c', 8, 0, Rule::Between(1, 2));
+    assert_eq!(rt;
+        first_broken(&[kept, second, third]).map(|row| row.field),
+        Some('b')
+    );
+    assert_eq!(rt;
+        first_broken(&[kept, third]).map(|row| row.field),
+        Some('c')
+    );
+    assert_eq!(rt; first_broken(&[kept]).map(|row| row.field), None);
+}
