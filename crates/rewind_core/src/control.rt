@@ -1,0 +1,80 @@
+// The control file of a root.
+ghost use Rattle.std.specs.Prelude.{◌≡◌, ◌≢◌, ◌≤◌, length, IsTrue, Err, IsErrOf};
+ghost use Rattle.cluster_tree.specs.PathValue.{PathValue};
+ghost use Rattle.cluster_tree.specs.Tree.{file_of};
+ghost use Rattle.cluster_tree.specs.Contents.{entry_at};
+ghost use Rattle.cluster_tree.specs.Causes.{OnlyReads, Meets, Rose};
+ghost use Rattle.rewind_core.specs.Faults.{IsFree};
+ghost use Rattle.rewind_core.specs.RootControl.{at_root, control_at, control_in};
+
+use crate::RewindFault;
+use crate::paths::path_in;
+use crate::whole_file::{Found, read_whole};
+use cluster_tree::{Path, Tree};
+use control_file::{Control, ControlFault, read_control};
+use std::alloc::Global;
+
+/// What the control file of a root says.
+///
+/// Answers `ControlMissing` where `global/pg_control` is not a file, then what `read_control`
+/// refuses, with the root.
+#[tactic(auto, using(crate::proofs::RoomLemmas::room_steps), unfolding(crate::specs::RootControl::control_at))]
+pub fn control_at<F: Tree>(alloc: Global, tree: &mut F, root: &Path) -> Result<Control, RewindFault>
+    requires { length root.now.parts ≤ 61 }
+    ensures exact { IsTrue F.tells → Meets IsFree (control_at (F.contents tree.old) root.now)
+        result }
+    ensures reads { OnlyReads F.contents F.calls F.failed_reads F.failed_changes tree.old tree.new }
+    ensures read_fault { IsErrOf result RewindFault.ReadFault →
+        Rose (F.failed_reads tree.old) (F.failed_reads tree.new) }
+    ensures changed { IsTrue F.tells → (p : PathValue) → result ≢ Err (RewindFault.Changed p) }
+{
+    let path = path_in(alloc, root, "global/pg_control")?;
+    control_in(alloc, tree, root, path)
+}
+
+// What the control file at this path says.
+#[tactic(auto, using(crate::proofs::ReadingLemmas::control_steps))]
+fn control_in<F: Tree>(
+    alloc: Global,
+    tree: &mut F,
+    root: &Path,
+    path: Path,
+) -> Result<Control, RewindFault>
+    ensures exact { IsTrue F.tells → Meets IsFree (control_in root.now
+        (file_of (entry_at (F.contents tree.old) path))) result }
+    ensures reads { OnlyReads F.contents F.calls F.failed_reads F.failed_changes tree.old tree.new }
+    ensures read_fault { IsErrOf result RewindFault.ReadFault →
+        Rose (F.failed_reads tree.old) (F.failed_reads tree.new) }
+    ensures changed { IsTrue F.tells → (p : PathValue) → result ≢ Err (RewindFault.Changed p) }
+{
+    let mut bytes = [0; 8192];
+    match read_whole(tree, path, &mut bytes)? {
+        Found::Missing => Err(RewindFault::ControlMissing(root.copy(alloc)?)),
+        Found::OtherSize(size) => Err(RewindFault::Size(root.copy(alloc)?, size)),
+        Found::Filled => at_root(alloc, root, read_control(&bytes)),
+    }
+}
+
+// The refusals of a control file, with its root.
+fn at_root(
+    alloc: Global,
+    root: &Path,
+    read: Result<Control, ControlFault>,
+) -> Result<Control, RewindFault>
+    ensures exact { Meets IsFree (at_root root.now read) result }
+    ensures read_fault { result ≢ Err RewindFault.ReadFault }
+    ensures changed { (p : PathValue) → result ≢ Err (RewindFault.Changed p) }
+{
+    let fault = match read {
+        Ok(control) => return Ok(control),
+        Err(fault) => fault,
+    };
+    let root = root.copy(alloc)?;
+    Err(match fault {
+        ControlFault::Size(size) => RewindFault::Size(root, size),
+        ControlFault::Crc(stored, computed) => RewindFault::Crc(root, stored, computed),
+        ControlFault::Version(version) => RewindFault::Version(root, version),
+        ControlFault::Catalog(catalog) => RewindFault::Catalog(root, catalog),
+        ControlFault::Shape(field, value) => RewindFault::Shape(root, field, value),
+    })
+}

@@ -1,0 +1,78 @@
+// Why nothing was rewound.
+use cluster_tree::{FileFault, OutOfMemory, Path};
+use control_file::Field;
+use thiserror::Error;
+
+/// Why nothing was rewound, in the order in which it is looked for. A root is the target's or the
+/// source's.
+#[derive(Debug, Drop, Error)]
+pub enum RewindFault {
+    /// The mark of an unfinished run stands at this path.
+    #[error("an unfinished run left {0}")]
+    Unfinished(Path),
+    /// `global/pg_control` is not a file below this root.
+    #[error("{0} has no control file")]
+    ControlMissing(Path),
+    /// The root, and the number of bytes of its control file, which is not 8192.
+    #[error("the control file of {0} has {1} bytes")]
+    Size(Path, u64),
+    /// The root, the checksum stored in its control file, and the one computed.
+    #[error("the control file of {0} has the checksum {1:08X} and not {2:08X}")]
+    Crc(Path, u32, u32),
+    /// The root, and the version of its control file, which is not 1300.
+    #[error("the control file of {0} has version {1}")]
+    Version(Path, u32),
+    /// The root, and the catalog version in its control file, which is not 202307071.
+    #[error("the control file of {0} has catalog version {1}")]
+    Catalog(Path, u32),
+    /// The root, a field of its control file, and the field's value, which is out of shape.
+    #[error("the control file of {0} has {2} as {1}")]
+    Shape(Path, Field, u64),
+    /// The system identifiers of the target and of the source, which differ.
+    #[error("the target is of system {0} and the source of system {1}")]
+    SystemsDiffer(u64, u64),
+    /// The target, whose log has neither its hints nor checksums that have hints logged.
+    #[error("{0} did not log hints")]
+    NoHints(Path),
+    /// The root of a cluster that was not shut down, and its state.
+    #[error("{0} was not shut down cleanly: its state is {1}")]
+    NotClean(Path, u32),
+    /// The timelines differ, which is not built yet.
+    #[error("a rewind from another timeline is not built yet")]
+    NotBuilt,
+    /// A read of the device failed.
+    #[error("a read failed")]
+    ReadFault,
+    /// The tree contradicted, about this path, what it had answered before.
+    #[error("{0} was changed during the run")]
+    Changed(Path),
+    /// Memory is wanting.
+    #[error("out of memory")]
+    OutOfMemory,
+}
+
+impl From<FileFault> for RewindFault {
+    ghost use Rattle.std.specs.Prelude.{◌≡◌};
+    ghost use Rattle.rewind_core.specs.Faults.{raised};
+
+    ghost from_gives = { λ f e. e ≡ raised f };
+
+    fn from(fault: FileFault) -> RewindFault {
+        match fault {
+            FileFault::ReadFault => RewindFault::ReadFault,
+            FileFault::Changed(path) => RewindFault::Changed(path),
+            FileFault::OutOfMemory => RewindFault::OutOfMemory,
+        }
+    }
+}
+
+impl From<OutOfMemory> for RewindFault {
+    ghost use Rattle.std.specs.Prelude.{◌≡◌};
+    ghost use Rattle.rewind_core.specs.declared.fault.RewindFault.TheVariants as fault;
+
+    ghost from_gives = { λ _ e. e ≡ fault.OutOfMemory };
+
+    fn from(_: OutOfMemory) -> RewindFault {
+        RewindFault::OutOfMemory
+    }
+}

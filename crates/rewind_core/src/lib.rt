@@ -1,0 +1,21 @@
+//! Whether a cluster needs a rewind, and the rewind.
+#![tactic(auto)]
+
+mod answer;
+mod control;
+mod fault;
+mod fitness;
+mod marks;
+mod outcome;
+mod paths;
+mod whole_file;
+
+pub use answer::rewind;
+pub use control::control_at;
+pub use fault::RewindFault;
+pub use marks::Mark;
+pub use outcome::{Divergence, RewindDone, Told};
+pub use whole_file::{Found, read_whole};
+
+#[cfg(test)]
+mod tests;

@@ -1,0 +1,55 @@
+-- The causes: which of them are free, which come from the words, and the status of each.
+use Rattle.std.specs.Prelude.{ℕ, ◌≡◌, ◌⊎◌, Result, Ok, Err}
+use Rattle.rewind_core.specs.declared.fault.RewindFault.{RewindFault}
+use Rattle.rewind_core.specs.declared.fault.RewindFault.TheVariants as fault
+use Rattle.wal_tools_main.specs.declared.cause.Cause.{Cause}
+use Rattle.wal_tools_main.specs.declared.cause.Cause.TheVariants as cause
+use Rattle.wal_tools_main.specs.declared.cause.ControlCause.TheVariants as control
+use Rattle.wal_tools_main.specs.declared.cause.RewindCause.TheVariants as rewind
+
+-- the cause of a fault of a rewind; those that no command answers yet are NotBuilt
+abbrev pub rewind_cause : RewindFault → Cause
+rewind_cause (fault.Unfinished path) = cause.NotBuilt
+rewind_cause (fault.ControlMissing root) = cause.NotBuilt
+rewind_cause (fault.Size root n) = cause.NotBuilt
+rewind_cause (fault.Crc root stored computed) = cause.Control (control.Crc root stored computed)
+rewind_cause (fault.Version root n) = cause.NotBuilt
+rewind_cause (fault.Catalog root n) = cause.NotBuilt
+rewind_cause (fault.Shape root field n) = cause.NotBuilt
+rewind_cause (fault.SystemsDiffer target source) = cause.Rewind (rewind.SystemsDiffer target source)
+rewind_cause (fault.NoHints root) = cause.NotBuilt
+rewind_cause (fault.NotClean root n) = cause.NotBuilt
+rewind_cause fault.NotBuilt = cause.NotBuilt
+rewind_cause fault.ReadFault = cause.ReadFault
+rewind_cause (fault.Changed path) = cause.Changed path
+rewind_cause fault.OutOfMemory = cause.OutOfMemory
+
+-- a fault of a device or want of memory, which may come at any point
+abbrev pub IsFree : Cause → Type 0
+IsFree e = (e ≡ cause.ReadFault) ⊎ (e ≡ cause.WriteFault) ⊎ (e ≡ cause.SinkFault) ⊎ (e ≡ cause.OutOfMemory)
+
+-- what the words of a command that is named may answer
+abbrev pub IsUnfit : Cause → Type 0
+IsUnfit e = (e ≡ cause.NotBuilt) ⊎ (e ≡ cause.OutOfMemory)
+
+-- what any words may answer
+abbrev pub IsOfWords : Cause → Type 0
+IsOfWords e = (e ≡ cause.Usage) ⊎ IsUnfit e
+
+-- the cause of an outcome
+abbrev pub cause_of : Result (Unit {0}) Cause → Cause
+cause_of (Ok u) = cause.Done
+cause_of (Err e) = e
+
+-- the status of the program
+abbrev pub status_of : Cause → ℕ
+status_of cause.Done = 0
+status_of cause.ReadFault = 3
+status_of cause.WriteFault = 3
+status_of cause.SinkFault = 3
+status_of cause.OutOfMemory = 4
+status_of cause.Usage = 1
+status_of cause.NotBuilt = 1
+status_of (cause.Changed path) = 1
+status_of (cause.Control c) = 1
+status_of (cause.Rewind c) = 1

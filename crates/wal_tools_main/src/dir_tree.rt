@@ -1,0 +1,190 @@
+// The machine's files as a tree, which tells no contents.
+ghost use Rattle.std.specs.Prelude.{◌≡◌, ◌∷◌, []};
+ghost use Rattle.cluster_tree.specs.Tree.{Counts, RefusesOnly, file_faults, make_faults};
+
+use crate::opened::{Access, Opened};
+use crate::seen::{Seen, check_room, seen_at, size_at};
+use cluster_tree::{Kind, Path, Tree, TreeFault};
+use std::alloc::Global;
+use std::fs::{DirBuilder, File};
+use std::io;
+use std::io::ErrorKind;
+use std::os::unix::fs::DirBuilderExt;
+use std::rt::Files;
+
+// A folder is its owner's alone, as PostgreSQL makes it.
+const FOLDER_MODE: u32 = 0o700;
+
+/// The machine's files. Paths that are not absolute begin in the current folder.
+///
+/// It keeps the file that was used last open, reads and writes by position, and looks at each part
+/// of a path before it opens it, so that it follows no link that was there; a change between the
+/// look and the opening is outside what is claimed. Want of memory counts as a failure.
+#[derive(Drop)]
+pub struct DirTree<R> {
+    rt: R,
+    alloc: Global,
+    opened: Option<Opened>,
+    failed_reads: u64,
+    failed_changes: u64,
+}
+
+// The answer, with a failure counted.
+fn counted<T>(failed: &mut u64, answer: Result<T, TreeFault>) -> Result<T, TreeFault>
+    ensures same { result ≡ answer }
+    ensures counts { Counts failed.old failed.new result }
+{
+    if let Err(TreeFault::Failed) = &answer {
+        *failed = failed.saturating_add(1);
+    }
+    answer
+}
+
+impl<R: Files<File = File> + Drop> DirTree<R> {
+    /// The files that the runtime reaches.
+    pub fn new(rt: R, alloc: Global) -> DirTree<R> {
+        DirTree {
+            rt,
+            alloc,
+            opened: None,
+            failed_reads: 0,
+            failed_changes: 0,
+        }
+    }
+}
+
+// What stands at a path, as a kind.
+fn kind_at<R: Files>(rt: &R, alloc: Global, path: &Path) -> Result<Kind, TreeFault>
+    ensures { RefusesOnly (TreeFault.Link ∷ []) result }
+{
+    match seen_at(rt, alloc, path, path.len())? {
+        Seen::Absent => Ok(Kind::Absent),
+        Seen::File(_) => Ok(Kind::File),
+        Seen::Folder => Ok(Kind::Folder),
+        Seen::Link => Err(TreeFault::Link),
+    }
+}
+
+// Keeps the file at a path open for this access, if it isn't.
+fn keep<R: Files<File = File>>(
+    rt: &R,
+    alloc: Global,
+    kept: &mut Option<Opened>,
+    path: &Path,
+    access: Access,
+) -> Result<(), TreeFault>
+    ensures { RefusesOnly file_faults result }
+{
+    let serves = match kept {
+        Some(opened) => opened.serves(path, access),
+        None => false,
+    };
+    if !serves {
+        *kept = Some(Opened::new(rt, alloc, path, access)?);
+    }
+    Ok(())
+}
+
+// Fills `into` from the file that is kept open.
+fn read_kept(kept: &Option<Opened>, at: u64, into: &mut [u8]) -> Result<(), TreeFault>
+    ensures { RefusesOnly (TreeFault.PastEnd ∷ []) result }
+{
+    match kept {
+        Some(opened) => opened.read(at, into),
+        None => Err(TreeFault::Failed),
+    }
+}
+
+// Writes to the file that is kept open.
+fn write_kept(kept: &Option<Opened>, at: u64, bytes: &[u8]) -> Result<(), TreeFault>
+    ensures { RefusesOnly (TreeFault.PastEnd ∷ []) result }
+{
+    match kept {
+        Some(opened) => opened.write(at, bytes),
+        None => Err(TreeFault::Failed),
+    }
+}
+
+fn create_folder<R: Files>(rt: &R, alloc: Global, path: &Path) -> io::Result<()> {
+    let text = format!(in alloc; "{path}")?;
+    let mut builder = DirBuilder::new();
+    builder.mode(FOLDER_MODE);
+    builder.create(rt, text.as_str())
+}
+
+// Makes a folder where there was room for it.
+fn folder_at<R: Files>(rt: &R, alloc: Global, path: &Path) -> Result<(), TreeFault>
+    ensures { RefusesOnly make_faults result }
+{
+    check_room(rt, alloc, path)?;
+    match create_folder(rt, alloc, path) {
+        Ok(()) => Ok(()),
+        Err(error) if error.kind() == ErrorKind::AlreadyExists => Err(TreeFault::Exists),
+        Err(_) => Err(TreeFault::Failed),
+    }
+}
+
+// Makes an empty file where there was room for it, and keeps it open.
+fn make<R: Files<File = File>>(
+    rt: &R,
+    alloc: Global,
+    kept: &mut Option<Opened>,
+    path: &Path,
+) -> Result<(), TreeFault>
+    ensures { RefusesOnly make_faults result }
+{
+    check_room(rt, alloc, path)?;
+    *kept = Some(Opened::make(rt, alloc, path)?);
+    Ok(())
+}
+
+impl<R: Files<File = File> + Drop> Tree for DirTree<R> {
+    ghost use Rattle.std.specs.Prelude.{false, []};
+    ghost use Rattle.std.specs.FinMap.{empty};
+
+    ghost tells = { false };
+
+    ghost contents = { λ t. empty };
+
+    ghost calls = { λ t. [] };
+
+    ghost failed_reads = { λ t. t.failed_reads };
+
+    ghost failed_changes = { λ t. t.failed_changes };
+
+    fn kind(&mut self, path: &Path) -> Result<Kind, TreeFault> {
+        let answer = kind_at(&self.rt, self.alloc, path);
+        counted(&mut self.failed_reads, answer)
+    }
+
+    fn size(&mut self, path: &Path) -> Result<u64, TreeFault> {
+        let answer = size_at(&self.rt, self.alloc, path);
+        counted(&mut self.failed_reads, answer)
+    }
+
+    fn read_at(&mut self, path: &Path, at: u64, into: &mut [u8]) -> Result<(), TreeFault> {
+        let answer = match keep(&self.rt, self.alloc, &mut self.opened, path, Access::Read) {
+            Ok(()) => read_kept(&self.opened, at, into),
+            Err(fault) => Err(fault),
+        };
+        counted(&mut self.failed_reads, answer)
+    }
+
+    fn write_at(&mut self, path: &Path, at: u64, bytes: &[u8]) -> Result<(), TreeFault> {
+        let answer = match keep(&self.rt, self.alloc, &mut self.opened, path, Access::Write) {
+            Ok(()) => write_kept(&self.opened, at, bytes),
+            Err(fault) => Err(fault),
+        };
+        counted(&mut self.failed_changes, answer)
+    }
+
+    fn make_file(&mut self, path: &Path) -> Result<(), TreeFault> {
+        let answer = make(&self.rt, self.alloc, &mut self.opened, path);
+        counted(&mut self.failed_changes, answer)
+    }
+
+    fn make_folder(&mut self, path: &Path) -> Result<(), TreeFault> {
+        let answer = folder_at(&self.rt, self.alloc, path);
+        counted(&mut self.failed_changes, answer)
+    }
+}
