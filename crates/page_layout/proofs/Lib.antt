@@ -1,0 +1,14 @@
+pub mod ShapeLemmas
+pub mod BytesLemmas
+pub mod ReadLemmas
+pub mod Front
+pub mod Lent
+pub mod Packing
+pub mod LineViews
+pub mod PackViews
+pub mod PlacesLemmas
+pub mod ApartLemmas
+pub mod LineOut
+pub mod ClosedUp
+pub mod ItemOut
+pub mod ItemsStay

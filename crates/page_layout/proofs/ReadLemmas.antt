@@ -1,0 +1,29 @@
+-- The header's and the lines' numbers as words of the page.
+use Rattle.std.proofs.Common.{◌≡◌, ℕ, ◌+◌, ◌*◌, ◌/◌, ◌%◌, List, refl, ap}
+use Rattle.page_layout.specs.Bytes.{word}
+use Rattle.page_layout.specs.Page.{pd_lower, pd_upper, pd_special, lp_off, lp_flags, lp_len}
+
+pub lower_word : (p : List ℕ) → pd_lower p ≡ word p 12
+unfolding pd_lower
+lower_word p = refl
+
+pub upper_word : (p : List ℕ) → pd_upper p ≡ word p 14
+unfolding pd_upper
+upper_word p = refl
+
+pub special_word : (p : List ℕ) → pd_special p ≡ word p 16
+unfolding pd_special
+special_word p = refl
+
+-- lines with the same words
+pub off_same : (p q : List ℕ) (j k : ℕ) → word p (24 + 4 * j) ≡ word q (24 + 4 * k) → lp_off p j ≡ lp_off q k
+unfolding lp_off
+off_same p q j k e = ap (λ w. w % 32768) e
+
+pub len_same : (p q : List ℕ) (j k : ℕ) → word p (26 + 4 * j) ≡ word q (26 + 4 * k) → lp_len p j ≡ lp_len q k
+unfolding lp_len
+len_same p q j k e = ap (λ w. w / 2) e
+
+pub flags_same : (p q : List ℕ) (j k : ℕ) → word p (24 + 4 * j) ≡ word q (24 + 4 * k) → word p (26 + 4 * j) ≡ word q (26 + 4 * k) → lp_flags p j ≡ lp_flags q k
+unfolding lp_flags
+flags_same p q j k e f = λ t. e t / 32768 % 2 + 2 * (f t % 2)
