@@ -112,7 +112,7 @@ module _ (p : List ℕ) (ok : Packable p) where
               ∙ byte-splice_out one (24 + 4 * k) a i (omega (arith, there)) (⊎_elim (λ l. inl l) (λ (r : 28 + 4 * k ≤ i). inr (omega (arith, r))) out)
 
   -- what stands after the first n lines were laid
-  record Laid (n : ℕ) (page : List ℕ) : Type 0 where
+  pub record Laid (n : ℕ) (page : List ℕ) : Type 0 where
     pub size : length page ≡ 8192
     pub low : (i : ℕ) → i < 24 → byte page i ≡ byte p i
     pub off : (k : ℕ) → k < n → 0 < lp_len p k → lp_off page k ≡ packed_off p k
@@ -126,7 +126,7 @@ module _ (p : List ℕ) (ok : Packable p) where
   unfolding lp_off lp_len lp_flags
   from_words a b k j l h = (ap (λ w. w % 32768) l, ap (λ w. w / 2) h, λ t. l t / 32768 % 2 + 2 * (h t % 2))
 
-  laid : (n : ℕ) → n ≤ count p → Laid n (packed_lines p (splice p (pd_lower p) (replicate (pd_special p - pd_lower p) 0)) n)
+  pub laid : (n : ℕ) → n ≤ count p → Laid n (packed_lines p (splice p (pd_lower p) (replicate (pd_special p - pd_lower p) 0)) n)
   laid zero le =
       let z : length (replicate {A = ℕ} (pd_special p - pd_lower p) 0) ≡ pd_special p - pd_lower p = length-replicate {A = ℕ} (pd_special p - pd_lower p) 0 in
       let h = ok.head in

@@ -15,6 +15,14 @@ pub special_word : (p : List ℕ) → pd_special p ≡ word p 16
 unfolding pd_special
 special_word p = refl
 
+pub off_word : (p : List ℕ) (k : ℕ) → lp_off p k ≡ word p (24 + 4 * k) % 32768
+unfolding lp_off
+off_word p k = refl
+
+pub len_word : (p : List ℕ) (k : ℕ) → lp_len p k ≡ word p (26 + 4 * k) / 2
+unfolding lp_len
+len_word p k = refl
+
 -- lines with the same words
 pub off_same : (p q : List ℕ) (j k : ℕ) → word p (24 + 4 * j) ≡ word q (24 + 4 * k) → lp_off p j ≡ lp_off q k
 unfolding lp_off

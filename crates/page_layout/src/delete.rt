@@ -205,7 +205,8 @@ fn take_items(page: &mut [u8], places: &[u16])
 fn take_and_pack(page: &mut [u8], places: &[u16]) -> Result<(), PageRefusal>
     requires formed { IsFormed page.old }
     requires places { IsTrue (are_places (count page.old) 0 places.now) }
-    ensures { Answers (packed_if_room (without_lines page.old places.now)) page.old result page.new }
+    ensures { Answers (packed_if_room (without_lines page.old places.now))
+        page.old result page.new }
 {
     let mut kept = [0u8; 8192];
     kept.copy_from_slice(page);

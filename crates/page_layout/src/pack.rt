@@ -29,7 +29,8 @@ pub fn has_room(page: &[u8]) -> bool
     requires size { length page.now ≡ 8192 }
     requires head { Head page.now }
     ensures value { result ≡ has_room page.now }
-    ensures fits { IsTrue result → pd_lower page.now + total page.now (count page.now) ≤ pd_special page.now }
+    ensures fits { IsTrue result →
+        pd_lower page.now + total page.now (count page.now) ≤ pd_special page.now }
 {
     let b = bounds_of(page);
     b.lower + total_of(page) <= b.special
