@@ -1,0 +1,9 @@
+pub mod EditLaw
+pub mod TupleLaw
+pub mod PagesAlike
+pub mod SetLineLaw
+pub mod PackLaw
+pub mod AddViews
+pub mod AddLaw
+pub mod AddResult
+pub mod StepLaws

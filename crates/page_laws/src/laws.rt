@@ -1,0 +1,52 @@
+ghost use Rattle.std.specs.Prelude.{ℕ, ◌≡◌, ◌+◌, ◌<◌, ◌≤◌, List, true};
+ghost use Rattle.page_layout.specs.Page.{count, lp_flags, lp_len};
+ghost use Rattle.page_layout.specs.Edits.{with_pointer, add_item, trimmed};
+ghost use Rattle.page_layout.specs.Pack.{pack};
+ghost use Rattle.page_masks.specs.Mask.{mask};
+ghost use Rattle.page_masks.specs.Shapes.{HeapPage, IsHeap};
+ghost use Rattle.page_laws.specs.Change.{edited, ItemChange};
+ghost use Rattle.page_laws.specs.Results.{SameResults, TrimmedHeap};
+ghost use Rattle.page_laws.specs.Steps.{Setting, AreSettings, lines_set, OnlyHead};
+
+/// Trimming a heap page doesn't show, nor do its LSN, checksum, three flags and prune xid.
+#[tactic(auto, using(crate::proofs::StepLaws::trim_unshown, crate::proofs::StepLaws::head_unshown))]
+pub fn unshown()
+    ensures trim { (block : ℕ) (p : List ℕ) → IsHeap p → mask block (trimmed p) ≡ mask block p }
+    ensures head { (block : ℕ) (p q : List ℕ) → HeapPage p → OnlyHead p q →
+        mask block q ≡ mask block p }
+{}
+
+/// A change of one tuple that its mask determines respects the mask.
+#[tactic(auto, using(crate::proofs::StepLaws::edit_respects))]
+pub fn edit_respects()
+    ensures { (block k : ℕ) (change : List ℕ → List ℕ) (p q : List ℕ) →
+        ItemChange block (k + 1) change → TrimmedHeap p → TrimmedHeap q →
+        k < count p → lp_flags p k ≡ 1 → 23 ≤ lp_len p k → mask block p ≡ mask block q →
+        mask block (edited k change p) ≡ mask block (edited k change q) }
+{}
+
+/// Adding an item over an unused line or at the end respects the mask.
+#[tactic(auto, using(crate::proofs::StepLaws::add_respects))]
+pub fn add_respects()
+    ensures { (block place : ℕ) (p q bytes : List ℕ) → TrimmedHeap p → TrimmedHeap q →
+        mask block p ≡ mask block q →
+        SameResults block (add_item p bytes place true) (add_item q bytes place true) }
+{}
+
+/// A line without an item that gets other numbers, and no item, respects the mask.
+#[tactic(auto, using(crate::proofs::StepLaws::empty_line_respects))]
+pub fn empty_line_respects()
+    ensures { (block k off flags : ℕ) (p q : List ℕ) → off < 32768 → flags < 4 →
+        TrimmedHeap p → TrimmedHeap q → k < count p → lp_len p k ≡ 0 →
+        mask block p ≡ mask block q →
+        mask block (with_pointer p k off flags 0) ≡ mask block (with_pointer q k off flags 0) }
+{}
+
+/// Lines that lose their items and then a packed page, as one step, respect the mask.
+#[tactic(auto, using(crate::proofs::StepLaws::prune_respects))]
+pub fn prune_respects()
+    ensures { (block : ℕ) (settings : List Setting) (p q : List ℕ) →
+        TrimmedHeap p → TrimmedHeap q → AreSettings (count p) settings →
+        mask block p ≡ mask block q →
+        SameResults block (pack (lines_set settings p)) (pack (lines_set settings q)) }
+{}
