@@ -59,11 +59,11 @@ room_test p len place = nat_le (lower_after p place true + up8 len) (pd_upper p)
 pub refusal_is : (p : List ℕ) (len place : ℕ) → IsFormed p → add_refusal p len place true ≡ refusal_by (place_test p place) (room_test p len place)
 refusal_is p len place f = rw (well p f.head f.lines) refl
 
-record Allowed (p bytes : List ℕ) (place : ℕ) : Type 0 where
-  adds : Adds p bytes (place - 1) (lower_after p place true) (pd_upper p - up8 (length bytes))
-  is : added p bytes place true ≡ added_at p bytes (place - 1) (lower_after p place true) (pd_upper p - up8 (length bytes))
+pub record Allowed (p bytes : List ℕ) (place : ℕ) : Type 0 where
+  pub adds : Adds p bytes (place - 1) (lower_after p place true) (pd_upper p - up8 (length bytes))
+  pub is : added p bytes place true ≡ added_at p bytes (place - 1) (lower_after p place true) (pd_upper p - up8 (length bytes))
 
-allowed : (p bytes : List ℕ) (place : ℕ) → IsFormed p → place_test p place ≡ true → room_test p (length bytes) place ≡ true → Allowed p bytes place
+pub allowed : (p bytes : List ℕ) (place : ℕ) → IsFormed p → place_test p place ≡ true → room_test p (length bytes) place ≡ true → Allowed p bytes place
 allowed p bytes place f a b = by_case (nat_lt (count p) place) refl
   where
     t : ((nat_lt 0 place && nat_le place (count p + 1)) ≡ true) × ((nat_lt (count p) place || is_free p (place - 1)) ≡ true)

@@ -118,6 +118,9 @@ module _ (p bytes : List ℕ) (k lower upper : ℕ) (a : Adds p bytes k lower up
   pub added_special : pd_special new ≡ pd_special p
   added_special = special_word new ∙ (λ t. added_head 16 (inr (omega arith)) (omega arith) t + 256 * added_head 17 (inr (omega arith)) (omega arith) t) ∙ sym (special_word p)
 
+  pub added_there : k < count new
+  added_there = omega (arith, added_lower, line_room)
+
   pub old_or_new : (j : ℕ) → j < count new → j ≢ k → j < count p
   old_or_new j lt ne = ⊎_elim (λ (o : (k < count p) × (lower ≡ pd_lower p) × (lp_len p k ≡ 0)). omega (arith, lt, added_lower, o.1)) (λ (n : (k ≡ count p) × (lower ≡ pd_lower p + 4)). omega (arith, lt, added_lower, n.0, n.1, ne, f.head.low, f.head.by4)) a.line
 

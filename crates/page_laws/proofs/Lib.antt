@@ -7,3 +7,4 @@ pub mod AddViews
 pub mod AddLaw
 pub mod AddResult
 pub mod StepLaws
+pub mod ItemKept

@@ -1,3 +1,4 @@
 pub mod Change
 pub mod Results
 pub mod Steps
+pub mod Views
