@@ -8,3 +8,4 @@ pub mod AddLaw
 pub mod AddResult
 pub mod StepLaws
 pub mod ItemKept
+pub mod SoundHeap

@@ -1,9 +1,10 @@
-ghost use Rattle.std.specs.Prelude.{ℕ, ◌≡◌, ◌+◌, ◌<◌, ◌≤◌, List, true};
+ghost use Rattle.std.specs.Prelude.{ℕ, ◌≡◌, ◌+◌, ◌<◌, ◌≤◌, List, length, true, IsTrue};
 ghost use Rattle.page_layout.specs.Page.{count, lp_flags, lp_len};
 ghost use Rattle.page_layout.specs.Edits.{with_pointer, add_item, trimmed};
 ghost use Rattle.page_layout.specs.Pack.{pack};
 ghost use Rattle.page_masks.specs.Mask.{mask};
 ghost use Rattle.page_masks.specs.Shapes.{HeapPage, IsHeap};
+ghost use Rattle.page_masks.specs.Sound.{is_sound};
 ghost use Rattle.page_laws.specs.Change.{edited, ItemChange};
 ghost use Rattle.page_laws.specs.Results.{SameResults, TrimmedHeap};
 ghost use Rattle.page_laws.specs.Steps.{Setting, AreSettings, lines_set, OnlyHead};
@@ -49,4 +50,10 @@ pub fn prune_respects()
         TrimmedHeap p → TrimmedHeap q → AreSettings (count p) settings →
         mask block p ≡ mask block q →
         SameResults block (pack (lines_set settings p)) (pack (lines_set settings q)) }
+{}
+
+/// A sound heap page, and every page with its mask: once trimmed, the steps' laws speak of them.
+pub fn trims_alike()
+    ensures { (block : ℕ) (p q : List ℕ) → IsHeap p → IsTrue (is_sound p) → length q ≡ 8192 →
+        mask block p ≡ mask block q → TrimmedHeap (trimmed p) × TrimmedHeap (trimmed q) }
 {}
