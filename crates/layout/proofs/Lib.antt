@@ -1,2 +1,4 @@
 pub mod BrokenLemmas
+pub mod LaidLemmas
 pub mod OrderLemmas
+pub mod PutLemmas

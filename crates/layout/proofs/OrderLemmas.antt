@@ -1,9 +1,9 @@
 -- Rows that ascend don't overlap.
-use Rattle.std.proofs.Common.{Bool, true, false, ◌≡◌, ◌&&◌, ℕ, ◌≤◌, List, [], ◌∷◌, refl, arith}
+use Rattle.std.proofs.Common.{Bool, true, false, ◌≡◌, ◌&&◌, All, ℕ, ◌≤◌, List, [], ◌∷◌, refl, arith}
 use Rattle.std.specs.Prelude.{nat_le, AllPairs}
 use Rattle.std.specs.List.{AllByRecursion}
 use Rattle.std.proofs.lemmas.Bool.Decides.{nat_tests}
-use Rattle.std.proofs.lemmas.List.Elements.{All-from_recursion}
+use Rattle.std.proofs.lemmas.List.Elements.{All-from_recursion, All-weaker}
 use Rattle.std.proofs.lemmas.List.Kept.{AllPairs-cons}
 use Rattle.layout.specs.Rows.{end_of, ascends, AreApart}
 use Rattle.layout.specs.declared.row.Row.{Row}
@@ -64,3 +64,14 @@ pairs_apart from (row ∷ rows) end asc =
 
 pub are_apart : {F : Type 0} → (rows : List (Row F)) (end : ℕ) → ascends 0 rows end ≡ true → AreApart rows end
 are_apart rows end asc = record { apart = pairs_apart 0 rows end asc; within = within_each 0 rows end asc }
+
+-- each row ends by a number that isn't below the table's end
+pub rows_within : {F : Type 0} → (rows : List (Row F)) (end n : ℕ) → ascends 0 rows end ≡ true → end ≤ n → All (λ row. end_of row ≤ n) rows
+rows_within rows end n asc le = All-weaker (λ row. end_of row ≤ end) (λ row. end_of row ≤ n) (λ row fits. omega arith) rows (All-from_recursion (λ row. end_of row ≤ end) rows (within_each 0 rows end asc))
+
+-- a table's end may be put later
+pub ascends_on : {F : Type 0} → (from : ℕ) (rows : List (Row F)) (end n : ℕ) → ascends from rows end ≡ true → end ≤ n → ascends from rows n ≡ true
+ascends_on from [] end n asc le = grind (arith, nat_tests)
+ascends_on from (row ∷ rows) end n asc le =
+    let p : (nat_le from row.at ≡ true) × (ascends (end_of row) rows end ≡ true) = both _ _ asc in
+    rw (p.0, ascends_on (end_of row) rows end n p.1 le) refl

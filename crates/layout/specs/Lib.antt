@@ -2,3 +2,4 @@ pub mod Readers
 pub mod Rows
 pub mod Rules
 pub mod Values
+pub mod Writing
