@@ -1,4 +1,14 @@
 pub mod CrcSteps
 pub mod CrcTable
 pub mod CrcFold
+pub mod CrcLinear
+pub mod CrcWords
+pub mod CrcChunks
 pub mod CrcVectors
+pub mod HexDigits
+pub mod HexText
+pub mod LsnLemmas
+pub mod SizeLemmas
+pub mod HexLoop
+pub mod SpanLemmas
+pub mod SegmentLemmas

@@ -1,9 +1,9 @@
 //! CRC-32C of bytes that come in pieces.
 
-ghost use Rattle.std.specs.Prelude.{◌≡◌, ℕ, ◌^◌, bit_xor, List, [], ◌++◌};
-ghost use Rattle.wal_base.specs.Crc.{crc_byte, crc_fold, crc_start, crc32c};
+ghost use Rattle.std.specs.Prelude.{◌≡◌, ℕ, bit_xor, List, [], ◌++◌};
+ghost use Rattle.wal_base.specs.Crc.{crc_fold, crc_start, crc32c};
 
-use crate::table::TABLE;
+use crate::slices::add_all;
 use std::marker::Model;
 
 /// The CRC-32C of the bytes added so far; contracts see its state, a number below 2^32.
@@ -16,23 +16,6 @@ impl Model for Crc32c {
     ghost Value = { ℕ };
 
     ghost view = { λ c. c.state };
-}
-
-fn add_byte(state: u32, byte: u8) -> u32
-    ensures { result ≡ crc_byte state byte }
-{
-    let low = (state & 0xFF) as u8;
-    TABLE[(low ^ byte) as usize] ^ (state >> 8)
-}
-
-fn add_all(state: u32, bytes: &[u8]) -> u32
-    ensures { result ≡ crc_fold state bytes.now }
-{
-    let mut state = state;
-    for byte in bytes {
-        state = add_byte(state, *byte);
-    }
-    state
 }
 
 impl Crc32c {

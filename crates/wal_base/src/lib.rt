@@ -2,14 +2,26 @@
 #![tactic(auto)]
 
 mod crc;
+mod hex;
+mod laws;
 mod lsn;
 mod memory;
-mod table;
+mod plain;
+mod seg_size;
+mod segment;
+mod slices;
+mod spans;
+mod tables;
 mod text;
 
 pub use crc::Crc32c;
+pub use laws::{positions_are_named, segments_are_named};
 pub use lsn::Lsn;
 pub use memory::OutOfMemory;
+pub use plain::plain_crc32c;
+pub use seg_size::SegSize;
+pub use segment::Segment;
+pub use spans::{Span, Spans};
 pub use text::Text;
 
 #[cfg(test)]

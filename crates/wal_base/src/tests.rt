@@ -33,6 +33,16 @@ fn sums_are_the_published_ones(rt: HostRuntime) {
     assert_eq!(rt; sum_of(&[0xFF; 32]), 0x62A8_AB43);
 }
 
+/// Every rest of less than sixteen bytes; the sum of the whole comes from a Python script of the definition.
+#[test]
+fn the_fast_body_gives_the_plain_sums(rt: HostRuntime) {
+    let bytes = b"Sixteen bytes at a time, then four, then one: of 79 bytes, 64 and 12 and 3 are.";
+    for len in 0..=bytes.len() {
+        assert_eq!(rt; sum_of(&bytes[..len]), plain_crc32c(&bytes[..len]), "{len}");
+    }
+    assert_eq!(rt; sum_of(bytes), 0xC1CE_4FCF);
+}
+
 #[test]
 fn a_text_is_copied(rt: HostRuntime) -> Result<(), Fail> {
     let text = Text::new(rt.alloc(), "pg_wal")?;
@@ -48,4 +58,97 @@ fn a_text_is_copied(rt: HostRuntime) -> Result<(), Fail> {
 fn positions_compare_as_numbers(rt: HostRuntime) {
     assert!(rt; Lsn(0xFFFF_FFFF) < Lsn(0x1_0000_0000));
     assert_eq!(rt; Lsn(7), Lsn(7));
+}
+
+/// Texts of positions: PostgreSQL's pg_lsn takes and shows them so.
+#[test]
+fn positions_are_read_and_shown(rt: HostRuntime) -> Result<(), Fail> {
+    for (text, at) in [
+        ("0/16B3748", 23_803_720),
+        ("FFFFFFFF/FFFFFFFF", u64::MAX),
+        ("0/0", 0),
+        ("1/0", 0x1_0000_0000),
+    ] {
+        assert_eq!(rt; Lsn::parse(text), Some(Lsn(at)), "{text}");
+        assert_eq!(rt; Lsn(at).text(rt.alloc())?.as_str(), text);
+    }
+    assert_eq!(rt; Lsn::parse("00000000/016b3748"), Some(Lsn(23_803_720)));
+    assert_eq!(rt; Lsn(23_803_720).padded(rt.alloc())?.as_str(), "0/016B3748");
+    for text in [
+        "",
+        "/",
+        "0/",
+        "/0",
+        "1/123456789",
+        "123456789/1",
+        "g/0",
+        "0/0/0",
+        "+1/0",
+        " 0/0",
+        "0",
+    ] {
+        assert_eq!(rt; Lsn::parse(text), None, "{text}");
+    }
+    Ok(())
+}
+
+/// The segment that holds 5/3A000000 on timeline 2.
+#[test]
+fn segments_are_named_and_read(rt: HostRuntime) -> Result<(), Fail> {
+    for (bytes, name) in [
+        (0x100_0000, "00000002000000050000003A"),
+        (0x10_0000, "0000000200000005000003A0"),
+        (0x4000_0000, "000000020000000500000000"),
+    ] {
+        let size = SegSize::new(bytes).ok_or("no size")?;
+        let segment = Segment::of(2, Lsn(0x5_3A00_0000), size);
+        assert_eq!(rt; segment.name(rt.alloc())?.as_str(), name);
+        assert_eq!(rt; Segment::parse_name(name, size), Some(segment));
+    }
+    let largest = SegSize::new(0x4000_0000).ok_or("no size")?;
+    for name in [
+        "00000002000000050000003A",
+        "00000002000000050000000",
+        "0000000200000005000000000",
+        "00000002000000050000000a",
+        "00000002000000050000000g",
+        "00000002.00000050000000A",
+    ] {
+        assert_eq!(rt; Segment::parse_name(name, largest), None, "{name}");
+    }
+    Ok(())
+}
+
+#[test]
+fn sizes_are_powers_of_two(rt: HostRuntime) {
+    for (bytes, valid) in [
+        (0, false),
+        (0x8_0000, false),
+        (0x10_0000, true),
+        (0x18_0000, false),
+        (0x4000_0000, true),
+        (0x8000_0000, false),
+    ] {
+        assert_eq!(rt; SegSize::new(bytes).is_some(), valid, "{bytes}");
+    }
+}
+
+#[test]
+fn a_segment_is_read_from_the_first_timeline_that_reaches_its_end(
+    rt: HostRuntime,
+) -> Result<(), Fail> {
+    let size = SegSize::new(0x100_0000).ok_or("no size")?;
+    let mut spans = Spans::one(rt.alloc(), 1)?;
+    spans.end_and_add(Lsn(0x300_0000), 2)?;
+    spans.end_and_add(Lsn(0x480_0000), 5)?;
+    let spans = spans.copy(rt.alloc())?;
+    assert_eq!(rt; spans.len(), 3);
+    let begin = Lsn(0x300_0000);
+    let end = Lsn(0x480_0000);
+    assert_eq!(rt; spans.get(1), Some(Span { tli: 2, begin, end }));
+    assert_eq!(rt; spans.get(3), None);
+    for (number, tli) in [(0, 1), (2, 1), (3, 2), (4, 5), (1 << 40, 5), (u64::MAX, 5)] {
+        assert_eq!(rt; spans.segment_tli(number, size), tli, "{number}");
+    }
+    Ok(())
 }

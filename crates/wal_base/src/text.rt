@@ -35,3 +35,13 @@ impl Text {
         self.text.as_str()
     }
 }
+
+impl From<String> for Text {
+    ghost use Rattle.std.specs.Prelude.{◌≡◌, string_bytes};
+
+    ghost from_gives = { λ string text. text ≡ string_bytes string };
+
+    fn from(string: String) -> Text {
+        Text { text: string }
+    }
+}

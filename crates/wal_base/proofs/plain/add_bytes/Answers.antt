@@ -1,6 +1,6 @@
 use Rattle.std.proofs.Common.{arith, ◌∙◌, sym}
 use Rattle.wal_base.proofs.CrcFold.{fold_step, fold_end}
-use Rattle.wal_base.proofs.crc.add_all.Goals as goal
+use Rattle.wal_base.proofs.plain.add_bytes.Goals as goal
 
 pub loop-byte-preserved : goal.loop-byte-preserved
 loop-byte-preserved c =
