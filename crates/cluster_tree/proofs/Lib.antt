@@ -1,5 +1,12 @@
 pub mod TextLemmas
+pub mod PathLemmas
 pub mod NodeLemmas
+pub mod ContentsLemmas
+pub mod FolderLemmas
+pub mod ListingLemmas
+pub mod TreeLemmas
 pub mod StepLemmas
 pub mod PointLemmas
 pub mod SinkLemmas
+pub mod JoinedLemmas
+pub mod RootLemmas

@@ -1,5 +1,6 @@
 -- What a tree of files holds: POSIX.1-2017, Base Definitions, "File Hierarchy". Own: "The tree of files".
-use Rattle.std.specs.Prelude.{ℕ, ◌+◌, ◌-◌, Bool, false, List, [], ◌∷◌, ◌++◌, length, take, drop, Option, None, Some}
+use Rattle.std.specs.Prelude.{◌≡◌, ℕ, ◌+◌, ◌-◌, Bool, true, false, List, [], ◌∷◌, ◌++◌, length, take, drop, Option, None, Some, is_some}
+use Rattle.std.specs.Coded.{Coded-set, coded_bool, Π_prop}
 use Rattle.std.specs.FinMap.{FinMap, get}
 use Rattle.cluster_tree.specs.PathValue.{PathValue, path_cmp}
 
@@ -26,6 +27,21 @@ or_root (part ∷ parts) None = None
 -- what stands at a path
 abbrev pub entry_at : Contents → PathValue → Option Entry
 entry_at c path = or_root path.parts (get c path)
+
+-- whether a folder stands there
+abbrev pub is_folder : Option Entry → Bool
+is_folder None = false
+is_folder (Some (FolderEntry _)) = true
+is_folder (Some (FileEntry _)) = false
+is_folder (Some LinkEntry) = false
+
+-- whatever is there lies in a folder
+abbrev pub IsTree : Contents → Type 0
+IsTree c = (path : PathValue) → is_some (get c path) ≡ true → is_folder (entry_at c (parent path)) ≡ true
+
+-- that is one fact
+pub IsTree-prop : (c : Contents) → IsProp (IsTree c)
+IsTree-prop c = Π_prop (λ path. Π_prop (λ _. Coded-set coded_bool _ _))
 
 -- the bytes with these in the place of those from an offset on
 abbrev pub spliced : List ℕ → ℕ → List ℕ → List ℕ

@@ -4,8 +4,14 @@ pub mod Paths
 pub mod Contents
 pub mod Causes
 pub mod Tree
+pub mod Folders
 pub mod Step
+pub mod Untold
 pub mod Sink
 pub mod Plan
 pub mod Memory
 pub mod Fakes
+pub mod Marks
+pub mod Joined
+pub mod Below
+pub mod Laws

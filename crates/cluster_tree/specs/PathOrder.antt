@@ -31,14 +31,16 @@ path_cmp-IsAntisymmetric x y e =
     let mark : x.absolute ≡ y.absolute = bool_tie _ _ two.1 in
     λ i. record { absolute = mark i; parts = parts i }
 
--- whether two paths are the same, as a test that computes
-abbrev pub path_eq : PathValue → PathValue → Bool
+-- whether two paths are the same
+unfoldable pub path_eq : PathValue → PathValue → Bool
 path_eq = eq_by_cmp path_cmp
 
 pub path_eq-same : (x y : PathValue) → path_eq x y ≡ true → x ≡ y
+unfolding path_eq
 path_eq-same x y e = path_cmp-IsAntisymmetric x y ((Equal-is _).0 e)
 
 pub path_eq-own : (x : PathValue) → path_eq x x ≡ true
+unfolding path_eq
 path_eq-own x = (eq_by_cmp_equiv path_cmp_total).refl x
 
 pub path_eq-other : (x y : PathValue) → x ≢ y → path_eq x y ≡ false

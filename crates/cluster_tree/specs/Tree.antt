@@ -1,4 +1,4 @@
--- What the calls on a tree answer and leave: POSIX.1-2017, System Interfaces: stat, pread, pwrite, open, mkdir. Own: "The tree of files".
+-- What the calls on a tree answer and leave: POSIX.1-2017, System Interfaces: stat, pread, pwrite, open, mkdir, ftruncate. Own: "The tree of files".
 use Rattle.std.specs.Prelude.{◌≡◌, ℕ, ◌+◌, ◌≤◌, ◌⊎◌, cond, nat_lt, List, [], ◌∷◌, ◌++◌, length, take, drop, Option, None, Some, Result, Ok, Err, IfErr, MatchResult, is_some}
 use Rattle.std.specs.FinMap.{insert}
 use Rattle.cluster_tree.specs.PathValue.{PathValue}
@@ -58,6 +58,14 @@ write_refusal c path at = refusal_past (file_of (entry_at c path)) at
 abbrev pub written : Contents → PathValue → ℕ → List ℕ → Contents
 written c path at bytes = insert c path (FileEntry (spliced (bytes_at c path) at bytes))
 
+-- why a cut is refused, if it is
+abbrev pub cut_refusal : Contents → PathValue → ℕ → Option TreeFault
+cut_refusal c path size = refusal_past (file_of (entry_at c path)) size
+
+-- the contents after a cut
+abbrev pub shortened : Contents → PathValue → ℕ → Contents
+shortened c path size = insert c path (FileEntry (take size (bytes_at c path)))
+
 -- why nothing can be made in this parent, if so
 abbrev pub refusal_in : Option Entry → Option TreeFault
 refusal_in None = Some fault.Absent
@@ -96,6 +104,22 @@ range_faults = fault.Absent ∷ fault.IsFolder ∷ fault.Link ∷ fault.PastEnd 
 -- why an entry can't be made
 abbrev pub make_faults : List TreeFault
 make_faults = fault.Exists ∷ fault.Absent ∷ fault.NotFolder ∷ fault.Link ∷ []
+
+-- why no folder stands at a path
+abbrev pub folder_faults : List TreeFault
+folder_faults = fault.Absent ∷ fault.NotFolder ∷ fault.Link ∷ []
+
+-- why a folder can't be listed
+abbrev pub list_faults : List TreeFault
+list_faults = fault.Absent ∷ fault.NotFolder ∷ fault.Link ∷ fault.NameNotText ∷ fault.OutOfMemory ∷ []
+
+-- why an entry can't be removed
+abbrev pub remove_faults : List TreeFault
+remove_faults = fault.Absent ∷ fault.NotEmpty ∷ fault.Link ∷ []
+
+-- what a listing answers whatever stands there: the device failed, or there was no memory
+abbrev pub IsFreeOfListing : TreeFault → Type 0
+IsFreeOfListing = IsAmong (fault.Failed ∷ fault.OutOfMemory ∷ [])
 
 -- the count doesn't fall, and `Failed` comes only where it rose
 pub record Counts {A : Type 0} (before after : ℕ) (result : Result A TreeFault) : Type 0 where

@@ -1,7 +1,10 @@
 // A tree in memory whose calls fail by a plan.
-ghost use Rattle.std.specs.Prelude.{◌≡◌};
+ghost use Rattle.std.specs.Prelude.{◌≡◌, ◌≤◌};
+ghost use Rattle.std.specs.Bool.{OnTrue};
+ghost use Rattle.cluster_tree.specs.Causes.{Rose};
 
-use crate::{FailPlan, Kind, MemoryTree, Path, Tree, TreeFault};
+use crate::{FailPlan, Kind, MemoryTree, Names, Path, Tree, TreeFault};
+use std::alloc::Global;
 
 /// A tree in memory whose calls fail by a plan, besides those that find no memory. A call that
 /// fails changes nothing and is not listed.
@@ -42,6 +45,26 @@ impl FailingTree {
     {
         self.inner
     }
+
+    // Whether a read fails by the plan, which is then counted.
+    fn read_fails(&mut self) -> bool
+        ensures counted { OnTrue result (Rose self.old.failed_reads self.new.failed_reads) }
+        ensures later { self.old.failed_reads ≤ self.new.failed_reads }
+        ensures changes { self.new.failed_changes ≡ self.old.failed_changes }
+        ensures inner { self.new.inner ≡ self.old.inner }
+    {
+        self.plan.fails_next(&mut self.failed_reads)
+    }
+
+    // Whether a changing call fails by the plan, which is then counted.
+    fn change_fails(&mut self) -> bool
+        ensures counted { OnTrue result (Rose self.old.failed_changes self.new.failed_changes) }
+        ensures later { self.old.failed_changes ≤ self.new.failed_changes }
+        ensures reads { self.new.failed_reads ≡ self.old.failed_reads }
+        ensures inner { self.new.inner ≡ self.old.inner }
+    {
+        self.plan.fails_next(&mut self.failed_changes)
+    }
 }
 
 impl Tree for FailingTree {
@@ -58,51 +81,75 @@ impl Tree for FailingTree {
 
     ghost failed_changes = { λ f. f.failed_changes + f.inner.failed };
 
+    ghost is_tree = { λ told f. f.inner.rooted };
+
     fn kind(&mut self, path: &Path) -> Result<Kind, TreeFault> {
-        if self.plan.fails_next() {
-            self.failed_reads = self.failed_reads.saturating_add(1);
+        if self.read_fails() {
             return Err(TreeFault::Failed);
         }
         self.inner.kind(path)
     }
 
+    fn list(&mut self, alloc: Global, path: &Path) -> Result<Names, TreeFault> {
+        if self.read_fails() {
+            return Err(TreeFault::Failed);
+        }
+        self.inner.list(alloc, path)
+    }
+
     fn size(&mut self, path: &Path) -> Result<u64, TreeFault> {
-        if self.plan.fails_next() {
-            self.failed_reads = self.failed_reads.saturating_add(1);
+        if self.read_fails() {
             return Err(TreeFault::Failed);
         }
         self.inner.size(path)
     }
 
     fn read_at(&mut self, path: &Path, at: u64, into: &mut [u8]) -> Result<(), TreeFault> {
-        if self.plan.fails_next() {
-            self.failed_reads = self.failed_reads.saturating_add(1);
+        if self.read_fails() {
             return Err(TreeFault::Failed);
         }
         self.inner.read_at(path, at, into)
     }
 
     fn write_at(&mut self, path: &Path, at: u64, bytes: &[u8]) -> Result<(), TreeFault> {
-        if self.plan.fails_next() {
-            self.failed_changes = self.failed_changes.saturating_add(1);
+        if self.change_fails() {
             return Err(TreeFault::Failed);
         }
         self.inner.write_at(path, at, bytes)
     }
 
+    fn cut(&mut self, path: &Path, size: u64) -> Result<(), TreeFault> {
+        if self.change_fails() {
+            return Err(TreeFault::Failed);
+        }
+        self.inner.cut(path, size)
+    }
+
     fn make_file(&mut self, path: &Path) -> Result<(), TreeFault> {
-        if self.plan.fails_next() {
-            self.failed_changes = self.failed_changes.saturating_add(1);
+        if self.change_fails() {
             return Err(TreeFault::Failed);
         }
         self.inner.make_file(path)
     }
 
     fn make_folder(&mut self, path: &Path) -> Result<(), TreeFault> {
-        if self.plan.fails_next() {
-            self.failed_changes = self.failed_changes.saturating_add(1);
+        if self.change_fails() {
             return Err(TreeFault::Failed);
         }
         self.inner.make_folder(path)
+    }
+
+    fn remove(&mut self, path: &Path) -> Result<(), TreeFault> {
+        if self.change_fails() {
+            return Err(TreeFault::Failed);
+        }
+        self.inner.remove(path)
+    }
+
+    fn sync(&mut self) -> Result<(), TreeFault> {
+        if self.change_fails() {
+            return Err(TreeFault::Failed);
+        }
+        self.inner.sync()
     }
 }

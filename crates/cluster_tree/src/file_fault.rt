@@ -1,5 +1,5 @@
 // The common fault of whatever works on files.
-use crate::Path;
+use crate::{OutOfMemory, Path};
 use thiserror::Error;
 
 /// Why work on files stopped.
@@ -14,4 +14,15 @@ pub enum FileFault {
     /// There was no memory.
     #[error("out of memory")]
     OutOfMemory,
+}
+
+impl From<OutOfMemory> for FileFault {
+    ghost use Rattle.std.specs.Prelude.{◌≡◌};
+    ghost use Rattle.cluster_tree.specs.declared.file_fault.FileFault.TheVariants as fault;
+
+    ghost from_gives = { λ _ e. e ≡ fault.OutOfMemory };
+
+    fn from(_: OutOfMemory) -> FileFault {
+        FileFault::OutOfMemory
+    }
 }

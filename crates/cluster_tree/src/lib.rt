@@ -1,9 +1,13 @@
 //! Paths, the tree of files, sinks, and fakes of both in memory.
 #![tactic(auto)]
 
+mod children;
+mod edits;
 mod failing;
 mod file_fault;
+mod laws;
 mod log;
+mod marks;
 mod memory;
 mod memory_sink;
 mod names;
@@ -17,6 +21,8 @@ mod tree;
 
 pub use failing::FailingTree;
 pub use file_fault::FileFault;
+pub use laws::{entry_laws, folder_laws, joined_writes_law, root_laws, step_law};
+pub use marks::{Marks, mark_present};
 pub use memory::MemoryTree;
 pub use memory_sink::MemorySink;
 pub use names::Names;

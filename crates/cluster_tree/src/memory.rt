@@ -1,12 +1,19 @@
 // A tree in memory, which tells its contents.
-ghost use Rattle.std.specs.Prelude.{◌≡◌, ◌≤◌, [], length, slice_get, Ok, Err, OnOk, OnErr};
+ghost use Rattle.std.specs.Prelude.{◌≡◌, ◌≤◌, [], length, true, slice_get, Ok, Err, OnOk, OnErr};
 ghost use Rattle.std.specs.Option.{option_copied};
-ghost use Rattle.std.specs.FinMap.{empty};
+ghost use Rattle.std.specs.FinMap.{empty, insert};
 ghost use Rattle.cluster_tree.specs.Causes.{Rose};
+ghost use Rattle.cluster_tree.specs.Contents.{FolderEntry, LinkEntry, IsTree, IsTree-prop, entry_at};
+ghost use Rattle.cluster_tree.specs.Memory.{contents_of};
+ghost use Rattle.cluster_tree.specs.Tree.{make_refusal, refusal_in, Refuses, Counts};
 
+use crate::children::names_in;
+use crate::edits::{cut_in, put_file, put_folder, remove_in, set_node, write_in};
 use crate::log::Log;
-use crate::nodes::{Node, Placed, check_room, file_in, place_of, put_file, put_folder, write_in};
-use crate::{ChangeCall, Kind, OutOfMemory, Path, Tree, TreeFault};
+use crate::nodes::{
+    Node, Placed, check_folder, check_free, check_listed, check_room, file_in, place_of,
+};
+use crate::{ChangeCall, Kind, Names, OutOfMemory, Path, Tree, TreeFault};
 use std::alloc::Global;
 
 /// A tree in memory, which tells its contents. Its space is its device: a changing call that finds
@@ -17,6 +24,7 @@ pub struct MemoryTree {
     nodes: Vec<Placed>,
     log: Log,
     failed: u64,
+    ghost rooted: { IsTree (contents_of nodes.items) } by { IsTree-prop _ },
 }
 
 impl MemoryTree {
@@ -47,6 +55,43 @@ impl MemoryTree {
     {
         self.log.calls.get(at)
     }
+
+    /// Adds a link, with the refusals of `make_file`. It is no changing call.
+    pub fn add_link(&mut self, path: &Path) -> Result<(), TreeFault>
+        ensures linked { OnOk result (⟦<MemoryTree as Tree>⟧.contents self.new ≡ insert
+            (⟦<MemoryTree as Tree>⟧.contents self.old) path.now LinkEntry) }
+        ensures refused { Refuses
+            (make_refusal (⟦<MemoryTree as Tree>⟧.contents self.old) path.now) result }
+        ensures kept { OnErr result
+            (⟦<MemoryTree as Tree>⟧.contents self.new ≡ ⟦<MemoryTree as Tree>⟧.contents self.old) }
+        ensures uncalled { ⟦<MemoryTree as Tree>⟧.calls self.new ≡ ⟦<MemoryTree as Tree>⟧.calls
+            self.old }
+        ensures cause { Counts (⟦<MemoryTree as Tree>⟧.failed_changes self.old)
+            (⟦<MemoryTree as Tree>⟧.failed_changes self.new) result }
+    {
+        check_room(&self.nodes, path)?;
+        let done = set_node(self.alloc, &mut self.nodes, path, Node::Link);
+        counted(&mut self.failed, done)
+    }
+
+    /// Lets a folder hold a name that isn't UTF-8. Answers `Absent`, `NotFolder` or `Link` where no
+    /// folder is there. It is no changing call.
+    pub fn add_bad_name(&mut self, folder: &Path) -> Result<(), TreeFault>
+        ensures marked { OnOk result (⟦<MemoryTree as Tree>⟧.contents self.new ≡ insert
+            (⟦<MemoryTree as Tree>⟧.contents self.old) folder.now (FolderEntry true)) }
+        ensures refused { Refuses
+            (refusal_in (entry_at (⟦<MemoryTree as Tree>⟧.contents self.old) folder.now)) result }
+        ensures kept { OnErr result
+            (⟦<MemoryTree as Tree>⟧.contents self.new ≡ ⟦<MemoryTree as Tree>⟧.contents self.old) }
+        ensures uncalled { ⟦<MemoryTree as Tree>⟧.calls self.new ≡ ⟦<MemoryTree as Tree>⟧.calls
+            self.old }
+        ensures cause { Counts (⟦<MemoryTree as Tree>⟧.failed_changes self.old)
+            (⟦<MemoryTree as Tree>⟧.failed_changes self.new) result }
+    {
+        check_folder(&self.nodes, folder)?;
+        let done = set_node(self.alloc, &mut self.nodes, folder, Node::Folder(true));
+        counted(&mut self.failed, done)
+    }
 }
 
 // The answer of a changing call: want of memory is a failure of the device, and is counted.
@@ -65,9 +110,6 @@ fn counted(failed: &mut u64, done: Result<(), OutOfMemory>) -> Result<(), TreeFa
 }
 
 impl Tree for MemoryTree {
-    ghost use Rattle.std.specs.Prelude.{true};
-    ghost use Rattle.cluster_tree.specs.Memory.{contents_of};
-
     ghost tells = { true };
 
     ghost contents = { λ m. contents_of m.nodes.items };
@@ -77,6 +119,8 @@ impl Tree for MemoryTree {
     ghost failed_reads = { λ m. 0 };
 
     ghost failed_changes = { λ m. m.failed };
+
+    ghost is_tree = { λ told m. m.rooted };
 
     fn kind(&mut self, path: &Path) -> Result<Kind, TreeFault> {
         let Some(i) = place_of(&self.nodes, path) else {
@@ -90,6 +134,11 @@ impl Tree for MemoryTree {
             Node::File(_) => Ok(Kind::File),
             Node::Link => Err(TreeFault::Link),
         }
+    }
+
+    fn list(&mut self, alloc: Global, path: &Path) -> Result<Names, TreeFault> {
+        check_listed(&self.nodes, path)?;
+        Ok(names_in(alloc, &self.nodes, path)?)
     }
 
     fn size(&mut self, path: &Path) -> Result<u64, TreeFault> {
@@ -115,6 +164,15 @@ impl Tree for MemoryTree {
         counted(&mut self.failed, done)
     }
 
+    fn cut(&mut self, path: &Path, size: u64) -> Result<(), TreeFault> {
+        let size = size as usize;
+        if size > file_in(&self.nodes, path)?.len() {
+            return Err(TreeFault::PastEnd);
+        }
+        let done = cut_in(self.alloc, &mut self.nodes, &mut self.log, path, size);
+        counted(&mut self.failed, done)
+    }
+
     fn make_file(&mut self, path: &Path) -> Result<(), TreeFault> {
         check_room(&self.nodes, path)?;
         let done = put_file(self.alloc, &mut self.nodes, &mut self.log, path);
@@ -124,6 +182,17 @@ impl Tree for MemoryTree {
     fn make_folder(&mut self, path: &Path) -> Result<(), TreeFault> {
         check_room(&self.nodes, path)?;
         let done = put_folder(self.alloc, &mut self.nodes, &mut self.log, path);
+        counted(&mut self.failed, done)
+    }
+
+    fn remove(&mut self, path: &Path) -> Result<(), TreeFault> {
+        check_free(&self.nodes, path)?;
+        let done = remove_in(self.alloc, &mut self.nodes, &mut self.log, path);
+        counted(&mut self.failed, done)
+    }
+
+    fn sync(&mut self) -> Result<(), TreeFault> {
+        let done = self.log.add(ChangeCall::Sync);
         counted(&mut self.failed, done)
     }
 }

@@ -47,7 +47,10 @@ impl Sink for MemorySink {
     ghost failed_writes = { λ s. s.failed };
 
     fn write(&mut self, bytes: &[u8]) -> Result<(), SinkFailed> {
-        if self.plan.fails_next() || self.bytes.extend_from_slice(bytes).is_err() {
+        if self.plan.fails_next(&mut self.failed) {
+            return Err(SinkFailed);
+        }
+        if self.bytes.extend_from_slice(bytes).is_err() {
             self.failed = self.failed.saturating_add(1);
             return Err(SinkFailed);
         }

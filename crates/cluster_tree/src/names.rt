@@ -1,5 +1,5 @@
 // A list of texts.
-ghost use Rattle.std.specs.Prelude.{◌≡◌, ◌++◌, [], ◌∷◌, length, slice_get, OnOk, OnErr};
+ghost use Rattle.std.specs.Prelude.{◌≡◌, ◌++◌, [], ◌∷◌, length, map, string_bytes, slice_get, OnOk, OnErr};
 ghost use Rattle.std.specs.Option.{option_copied};
 
 use crate::OutOfMemory;
@@ -30,6 +30,13 @@ impl Names {
             alloc,
             texts: Vec::new(alloc),
         }
+    }
+
+    /// The list of these texts.
+    pub(crate) fn of_texts(alloc: Global, texts: Vec<String>) -> Names
+        ensures { result ≡ map string_bytes texts.items }
+    {
+        Names { alloc, texts }
     }
 
     /// Adds a text at the end.

@@ -1,14 +1,14 @@
 // The nodes of a tree in memory.
-ghost use Rattle.std.specs.Prelude.{◌≡◌, ◌<◌, ◌≤◌, ◌++◌, [], ◌∷◌, length, true, false, map, string_bytes, is_some, slice_index_or, IfOk, IfErr, OnOk, OnErr, IfSome, IfNone, Some, None, Ok, Err};
-ghost use Rattle.std.specs.FinMap.{get, insert};
-ghost use Rattle.cluster_tree.specs.Contents.{entry_at, FileEntry, FolderEntry, spliced, parent};
+ghost use Rattle.std.specs.Prelude.{◌≡◌, ◌<◌, length, true, map, string_bytes, is_some, slice_index_or, IfOk, IfErr, OnOk, IfSome, IfNone, Some, None, Ok, Err};
+ghost use Rattle.std.specs.FinMap.{get};
+ghost use Rattle.cluster_tree.specs.Contents.{entry_at, parent};
 ghost use Rattle.cluster_tree.specs.PathValue.{path_of};
-ghost use Rattle.cluster_tree.specs.Tree.{file_of, written, write_refusal, make_refusal, RefusesOnly, file_faults, make_faults};
+ghost use Rattle.cluster_tree.specs.Tree.{file_of, make_refusal, refusal_in, RefusesOnly, file_faults, folder_faults, list_faults, make_faults, remove_faults};
+ghost use Rattle.cluster_tree.specs.Folders.{list_refusal, remove_refusal};
 ghost use Rattle.cluster_tree.specs.Memory.{contents_of, entry_of, IsPlace};
 
-use crate::log::Log;
-use crate::{ChangeCall, OutOfMemory, Path, TreeFault};
-use std::alloc::Global;
+use crate::children::has_child;
+use crate::{Path, TreeFault};
 
 /// An entry of a tree in memory.
 #[derive(Drop)]
@@ -95,49 +95,6 @@ pub(crate) fn file_in<'a>(nodes: &'a [Placed], path: &Path) -> Result<&'a Vec<u8
     }
 }
 
-// The bytes with these in the place of those from an offset on.
-fn splice(alloc: Global, old: &[u8], at: usize, bytes: &[u8]) -> Result<Vec<u8>, OutOfMemory>
-    requires { at ≤ length old.now }
-    ensures { IfOk result (λ new. new.items ≡ spliced old.now at bytes.now) }
-{
-    let mut next = old[..at].to_vec(alloc)?;
-    next.extend_from_slice(bytes)?;
-    if bytes.len() < old.len() - at {
-        next.extend_from_slice(&old[at + bytes.len()..])?;
-    }
-    Ok(next)
-}
-
-/// Writes a file that is there, and adds the call to the list.
-pub(crate) fn write_in(
-    alloc: Global,
-    nodes: &mut Vec<Placed>,
-    log: &mut Log,
-    path: &Path,
-    at: usize,
-    bytes: &[u8],
-) -> Result<(), OutOfMemory>
-    requires { write_refusal (contents_of nodes.old.items) path.now at ≡ None }
-    ensures written { OnOk result (contents_of nodes.new.items ≡ written
-        (contents_of nodes.old.items) path.now at bytes.now) }
-    ensures kept { OnErr result (nodes.new.items ≡ nodes.old.items) }
-    ensures listed { OnOk result (log.new.calls.items ≡ log.old.calls.items ++ ChangeCall.Write
-        path.now at (length bytes.now) ∷ []) }
-    ensures unlisted { OnErr result (log.new.calls.items ≡ log.old.calls.items) }
-{
-    let Some(i) = place_of(nodes, path) else {
-        return Err(OutOfMemory);
-    };
-    let Node::File(old) = &nodes[i].node else {
-        return Err(OutOfMemory);
-    };
-    let next = splice(alloc, old, at, bytes)?;
-    let path = path.copy(alloc)?;
-    log.add(ChangeCall::Write(path, at as u64, bytes.len() as u64))?;
-    nodes[i].node = Node::File(next);
-    Ok(())
-}
-
 /// Refuses an entry that can't be made.
 pub(crate) fn check_room(nodes: &[Placed], path: &Path) -> Result<(), TreeFault>
     ensures room { OnOk result (make_refusal (contents_of nodes.now) path.now ≡ None) }
@@ -165,63 +122,64 @@ pub(crate) fn check_room(nodes: &[Placed], path: &Path) -> Result<(), TreeFault>
     }
 }
 
-// Puts an entry where none is, and adds the call to the list.
-fn put_in(
-    alloc: Global,
-    nodes: &mut Vec<Placed>,
-    log: &mut Log,
-    path: &Path,
-    node: Node,
-    call: ChangeCall,
-) -> Result<(), OutOfMemory>
-    requires { get (contents_of nodes.old.items) path.now ≡ None }
-    ensures made { OnOk result (contents_of nodes.new.items ≡ insert (contents_of nodes.old.items)
-        path.now (entry_of node)) }
-    ensures kept { OnErr result (nodes.new.items ≡ nodes.old.items) }
-    ensures listed { OnOk result (log.new.calls.items ≡ log.old.calls.items ++ call ∷ []) }
-    ensures unlisted { OnErr result (log.new.calls.items ≡ log.old.calls.items) }
+/// Refuses what is no folder.
+pub(crate) fn check_folder(nodes: &[Placed], path: &Path) -> Result<(), TreeFault>
+    ensures folder { OnOk result (refusal_in (entry_at (contents_of nodes.now) path.now) ≡ None) }
+    ensures refused { IfErr result
+        (λ fault. refusal_in (entry_at (contents_of nodes.now) path.now) ≡ Some fault) }
+    ensures row { RefusesOnly folder_faults result }
 {
-    let path = path.copy(alloc)?;
-    nodes.reserve(1)?;
-    log.add(call)?;
-    nodes.push(Placed { path, node })?;
-    Ok(())
+    let Some(i) = place_of(nodes, path) else {
+        if path.len() == 0 {
+            return Ok(());
+        }
+        return Err(TreeFault::Absent);
+    };
+    match &nodes[i].node {
+        Node::Folder(_) => Ok(()),
+        Node::File(_) => Err(TreeFault::NotFolder),
+        Node::Link => Err(TreeFault::Link),
+    }
 }
 
-/// Makes an empty file, and adds the call to the list.
-pub(crate) fn put_file(
-    alloc: Global,
-    nodes: &mut Vec<Placed>,
-    log: &mut Log,
-    path: &Path,
-) -> Result<(), OutOfMemory>
-    requires { get (contents_of nodes.old.items) path.now ≡ None }
-    ensures made { OnOk result (contents_of nodes.new.items ≡ insert (contents_of nodes.old.items)
-        path.now (FileEntry [])) }
-    ensures kept { OnErr result (nodes.new.items ≡ nodes.old.items) }
-    ensures listed { OnOk result
-        (log.new.calls.items ≡ log.old.calls.items ++ ChangeCall.MakeFile path.now ∷ []) }
-    ensures unlisted { OnErr result (log.new.calls.items ≡ log.old.calls.items) }
+/// Refuses what can't be listed.
+pub(crate) fn check_listed(nodes: &[Placed], path: &Path) -> Result<(), TreeFault>
+    ensures listed { OnOk result (list_refusal (entry_at (contents_of nodes.now) path.now) ≡ None) }
+    ensures refused { IfErr result
+        (λ fault. list_refusal (entry_at (contents_of nodes.now) path.now) ≡ Some fault) }
+    ensures row { RefusesOnly list_faults result }
 {
-    let call = ChangeCall::MakeFile(path.copy(alloc)?);
-    put_in(alloc, nodes, log, path, Node::File(Vec::new(alloc)), call)
+    let Some(i) = place_of(nodes, path) else {
+        if path.len() == 0 {
+            return Ok(());
+        }
+        return Err(TreeFault::Absent);
+    };
+    match &nodes[i].node {
+        Node::Folder(false) => Ok(()),
+        Node::Folder(true) => Err(TreeFault::NameNotText),
+        Node::File(_) => Err(TreeFault::NotFolder),
+        Node::Link => Err(TreeFault::Link),
+    }
 }
 
-/// Makes an empty folder, and adds the call to the list.
-pub(crate) fn put_folder(
-    alloc: Global,
-    nodes: &mut Vec<Placed>,
-    log: &mut Log,
-    path: &Path,
-) -> Result<(), OutOfMemory>
-    requires { get (contents_of nodes.old.items) path.now ≡ None }
-    ensures made { OnOk result (contents_of nodes.new.items ≡ insert (contents_of nodes.old.items)
-        path.now (FolderEntry false)) }
-    ensures kept { OnErr result (nodes.new.items ≡ nodes.old.items) }
-    ensures listed { OnOk result
-        (log.new.calls.items ≡ log.old.calls.items ++ ChangeCall.MakeFolder path.now ∷ []) }
-    ensures unlisted { OnErr result (log.new.calls.items ≡ log.old.calls.items) }
+/// Refuses what can't be removed.
+pub(crate) fn check_free(nodes: &[Placed], path: &Path) -> Result<(), TreeFault>
+    ensures free { OnOk result (remove_refusal (contents_of nodes.now) path.now ≡ None) }
+    ensures refused { IfErr result
+        (λ fault. remove_refusal (contents_of nodes.now) path.now ≡ Some fault) }
+    ensures row { RefusesOnly remove_faults result }
 {
-    let call = ChangeCall::MakeFolder(path.copy(alloc)?);
-    put_in(alloc, nodes, log, path, Node::Folder(false), call)
+    let in_use = path.len() == 0 || has_child(nodes, path);
+    let Some(i) = place_of(nodes, path) else {
+        if path.len() == 0 {
+            return Err(TreeFault::NotEmpty);
+        }
+        return Err(TreeFault::Absent);
+    };
+    match &nodes[i].node {
+        Node::Folder(bad) if *bad || in_use => Err(TreeFault::NotEmpty),
+        Node::Folder(_) | Node::File(_) => Ok(()),
+        Node::Link => Err(TreeFault::Link),
+    }
 }

@@ -4,6 +4,7 @@ ghost use Rattle.std.specs.Option.{option_copied};
 ghost use Rattle.std.specs.List.{list_any, join_with_byte};
 ghost use Rattle.std.specs.Fmt.{WritesOnOk};
 ghost use Rattle.cluster_tree.specs.PathValue.{path_of, parsed, below, pieces, is_dot_dot, is_kept, kept_parts, path_text, Holds};
+ghost use Rattle.cluster_tree.specs.PathOrder.{path_eq};
 ghost use Rattle.cluster_tree.specs.Paths.{checked, Refuses};
 
 use crate::{Names, OutOfMemory, PathFault};
@@ -118,7 +119,8 @@ impl Path {
 
     /// Whether it is the path of this mark and these parts.
     pub(crate) fn is(&self, absolute: bool, parts: &[String]) -> bool
-        ensures { IsTrue result ↔ self.now ≡ path_of absolute (map string_bytes parts.now) }
+        ensures same { IsTrue result ↔ self.now ≡ path_of absolute (map string_bytes parts.now) }
+        ensures test { result ≡ path_eq self.now (path_of absolute (map string_bytes parts.now)) }
     {
         self.absolute == absolute && same_parts(&self.parts, parts)
     }

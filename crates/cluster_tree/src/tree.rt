@@ -1,11 +1,14 @@
 // The machine's files as every other crate sees them.
-ghost use Rattle.std.specs.Prelude.{◌≡◌, ℕ, ◌≤◌, Bool, false, List, [], ◌∷◌, length, OnOk, IsTrue};
-ghost use Rattle.std.specs.FinMap.{insert};
-ghost use Rattle.cluster_tree.specs.Contents.{Contents, entry_at, FileEntry, FolderEntry};
-ghost use Rattle.cluster_tree.specs.Tree.{kind_of, file_of, size_of, range_of, write_refusal, make_refusal, written, Answers, AnswersInto, Refuses, RefusesOnly, Counts, Keeps, Lists, file_faults, range_faults, make_faults};
-ghost use Rattle.cluster_tree.specs.Step.{Step};
+ghost use Rattle.std.specs.Prelude.{◌≡◌, ℕ, ◌≤◌, Bool, false, List, [], ◌∷◌, length, IfOk, OnOk, IsTrue};
+ghost use Rattle.std.specs.FinMap.{insert, remove};
+ghost use Rattle.cluster_tree.specs.Contents.{Contents, entry_at, FileEntry, FolderEntry, IsTree};
+ghost use Rattle.cluster_tree.specs.Tree.{kind_of, file_of, size_of, range_of, write_refusal, cut_refusal, make_refusal, written, shortened, Answers, AnswersInto, Refuses, RefusesOnly, IsFreeOfListing, Counts, Keeps, Lists, file_faults, list_faults, make_faults, range_faults, remove_faults};
+ghost use Rattle.cluster_tree.specs.Folders.{list_refusal, remove_refusal, IsListing};
+ghost use Rattle.cluster_tree.specs.Causes.{Passes};
+ghost use Rattle.cluster_tree.specs.Step.{Step, MayBe};
 
-use crate::Path;
+use crate::{Names, OutOfMemory, Path};
+use std::alloc::Global;
 use thiserror::Error;
 
 /// What stands at a path. A link or special file is no kind, but the refusal `Link`.
@@ -54,20 +57,38 @@ pub enum TreeFault {
     OutOfMemory,
 }
 
+impl From<OutOfMemory> for TreeFault {
+    ghost use Rattle.std.specs.Prelude.{◌≡◌};
+    ghost use Rattle.cluster_tree.specs.declared.tree.TreeFault.TheVariants as fault;
+
+    ghost from_gives = { λ _ e. e ≡ fault.OutOfMemory };
+
+    fn from(_: OutOfMemory) -> TreeFault {
+        TreeFault::OutOfMemory
+    }
+}
+
 /// A changing call of a tree.
 #[derive(Debug, Drop)]
 pub enum ChangeCall {
     /// `write_at`: the path, the offset, and how many bytes were given.
     Write(Path, u64, u64),
+    /// `cut`: the path and the size.
+    Cut(Path, u64),
     /// `make_file`.
     MakeFile(Path),
     /// `make_folder`.
     MakeFolder(Path),
+    /// `remove`.
+    Remove(Path),
+    /// `sync`.
+    Sync,
 }
 
-/// The machine's files, as every other crate sees them. All calls but the reads `kind`, `size` and
-/// `read_at` are changing calls. Each call answers `Failed` only where its own count of failures
-/// rose, and every other refusal where the contents say so, which it then leaves unchanged.
+/// The machine's files, as every other crate sees them. All calls but the reads `kind`, `list`,
+/// `size` and `read_at` are changing calls. Each call answers `Failed` only where its own count of
+/// failures rose, and every other refusal where the contents say so, which it then leaves as they
+/// are.
 pub trait Tree {
     ghost use Rattle.cluster_tree.specs.declared.tree.ChangeCall.{ChangeCall};
 
@@ -91,6 +112,19 @@ pub trait Tree {
         ensures answer { IsTrue tells →
             Answers (kind_of (entry_at (contents self.old) path.now)) result }
         ensures row { RefusesOnly (TreeFault.Link ∷ []) result }
+        ensures same { contents self.new ≡ contents self.old }
+        ensures uncalled { calls self.new ≡ calls self.old }
+        ensures cause { Counts (failed_reads self.old) (failed_reads self.new) result }
+        ensures changes { failed_changes self.old ≤ failed_changes self.new };
+
+    /// The names of what lies in a folder, in ascending order of their bytes. Answers `Absent`,
+    /// `NotFolder` or `Link` where no folder is there, then `NameNotText` where it holds a name
+    /// that isn't UTF-8, and `OutOfMemory` where there is no memory for the names.
+    fn list(&mut self, alloc: Global, path: &Path) -> Result<Names, TreeFault>
+        ensures names { IsTrue tells → IfOk result (IsListing (contents self.old) path.now) }
+        ensures refused { IsTrue tells →
+            Passes IsFreeOfListing (list_refusal (entry_at (contents self.old) path.now)) result }
+        ensures row { RefusesOnly list_faults result }
         ensures same { contents self.new ≡ contents self.old }
         ensures uncalled { calls self.new ≡ calls self.old }
         ensures cause { Counts (failed_reads self.old) (failed_reads self.new) result }
@@ -136,6 +170,24 @@ pub trait Tree {
         ensures cause { Counts (failed_changes self.old) (failed_changes self.new) result }
         ensures reads { failed_reads self.old ≤ failed_reads self.new };
 
+    /// Cuts a file to a size in bytes. Answers as `size` does, and then `PastEnd` where the file is
+    /// shorter. One that failed may have cut it.
+    fn cut(&mut self, path: &Path, size: u64) -> Result<(), TreeFault>
+        ensures cut { IsTrue tells →
+            OnOk result (contents self.new ≡ shortened (contents self.old) path.now size) }
+        ensures refused { IsTrue tells →
+            Refuses (cut_refusal (contents self.old) path.now size) result }
+        ensures kept { IsTrue tells → Keeps (contents self.old) (contents self.new) result }
+        ensures whole { IsTrue tells → MayBe (cut_refusal (contents self.old) path.now size)
+            (contents self.old) (shortened (contents self.old) path.now size) (contents self.new) }
+        ensures step { IsTrue tells →
+            Step (ChangeCall.Cut path.now size) (contents self.old) (contents self.new) }
+        ensures row { RefusesOnly range_faults result }
+        ensures listed { IsTrue tells → Lists (ChangeCall.Cut path.now size) (calls self.old)
+            (calls self.new) (contents self.old) (contents self.new) result }
+        ensures cause { Counts (failed_changes self.old) (failed_changes self.new) result }
+        ensures reads { failed_reads self.old ≤ failed_reads self.new };
+
     /// Makes an empty file. Answers `Exists` where an entry is there, and then `Absent`,
     /// `NotFolder` or `Link` where it would not lie in a folder. One that failed may have made it.
     fn make_file(&mut self, path: &Path) -> Result<(), TreeFault>
@@ -166,4 +218,33 @@ pub trait Tree {
             (calls self.new) (contents self.old) (contents self.new) result }
         ensures cause { Counts (failed_changes self.old) (failed_changes self.new) result }
         ensures reads { failed_reads self.old ≤ failed_reads self.new };
+
+    /// Removes a file or an empty folder. Answers `Absent` where nothing is there, `NotEmpty` where
+    /// a folder holds something, is the root or the current folder, and `Link`. One that failed may
+    /// have removed it.
+    fn remove(&mut self, path: &Path) -> Result<(), TreeFault>
+        ensures removed { IsTrue tells →
+            OnOk result (contents self.new ≡ remove (contents self.old) path.now) }
+        ensures refused { IsTrue tells →
+            Refuses (remove_refusal (contents self.old) path.now) result }
+        ensures kept { IsTrue tells → Keeps (contents self.old) (contents self.new) result }
+        ensures step { IsTrue tells →
+            Step (ChangeCall.Remove path.now) (contents self.old) (contents self.new) }
+        ensures row { RefusesOnly remove_faults result }
+        ensures listed { IsTrue tells → Lists (ChangeCall.Remove path.now) (calls self.old)
+            (calls self.new) (contents self.old) (contents self.new) result }
+        ensures cause { Counts (failed_changes self.old) (failed_changes self.new) result }
+        ensures reads { failed_reads self.old ≤ failed_reads self.new };
+
+    /// Makes all that was changed durable. It changes no contents.
+    fn sync(&mut self) -> Result<(), TreeFault>
+        ensures same { IsTrue tells → contents self.new ≡ contents self.old }
+        ensures row { RefusesOnly [] result }
+        ensures listed { IsTrue tells → Lists ChangeCall.Sync (calls self.old) (calls self.new)
+            (contents self.old) (contents self.new) result }
+        ensures cause { Counts (failed_changes self.old) (failed_changes self.new) result }
+        ensures reads { failed_reads self.old ≤ failed_reads self.new };
+
+    /// Whatever is there lies in a folder.
+    ghost is_tree: { IsTrue tells → (tree : Self) → IsTree (contents tree) };
 }

@@ -14,7 +14,7 @@ returns-then-is-clause-entry c = λ d. found_here _ _ _ d c.loop-i-test.true c.l
 pub loop-i-preserved : goal.loop-i-preserved
 loop-i-preserved c =
     let other : (get_or c.args.nodes.now c.loop-i.i c.index-nodes-i.result).path ≢ path_of c.args.absolute (map string_bytes c.args.parts.now) =
-    λ e. true≢false (sym (c.is.ensures.1 e) ∙ c.if-is.false) in
+    λ e. true≢false (sym (c.is.ensures.same.1 e) ∙ c.if-is.false) in
     rw add-one (none_more _ _ _ c.index-nodes-i.result c.loop-i-test.true c.loop-i.invariant other)
 
 pub returns-then-is-clause-there : goal.returns-then-is-clause-there

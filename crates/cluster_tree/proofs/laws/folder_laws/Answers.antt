@@ -1,0 +1,8 @@
+use Rattle.cluster_tree.proofs.ListingLemmas.{has_child-named, listing-one}
+use Rattle.cluster_tree.proofs.laws.folder_laws.Goals as goal
+
+pub returns-clause-child : goal.returns-clause-child
+returns-clause-child c = has_child-named
+
+pub returns-clause-listing : goal.returns-clause-listing
+returns-clause-listing c = listing-one

@@ -1,0 +1,199 @@
+// The changes of the nodes of a tree in memory.
+ghost use Rattle.std.specs.Prelude.{◌≡◌, ◌≤◌, ◌++◌, [], ◌∷◌, length, true, false, is_some, IfOk, OnOk, OnErr, None};
+ghost use Rattle.std.specs.FinMap.{get, insert, remove};
+ghost use Rattle.cluster_tree.specs.Contents.{entry_at, FileEntry, FolderEntry, spliced};
+ghost use Rattle.cluster_tree.specs.Tree.{written, write_refusal, shortened, cut_refusal, make_refusal};
+ghost use Rattle.cluster_tree.specs.Folders.{remove_refusal};
+ghost use Rattle.cluster_tree.specs.Memory.{contents_of, entry_of};
+ghost use Rattle.cluster_tree.specs.Step.{Step};
+
+use crate::log::Log;
+use crate::nodes::{Node, Placed, place_of};
+use crate::{ChangeCall, OutOfMemory, Path};
+use std::alloc::Global;
+
+// The bytes with these in the place of those from an offset on.
+fn splice(alloc: Global, old: &[u8], at: usize, bytes: &[u8]) -> Result<Vec<u8>, OutOfMemory>
+    requires { at ≤ length old.now }
+    ensures { IfOk result (λ new. new.items ≡ spliced old.now at bytes.now) }
+{
+    let mut next = old[..at].to_vec(alloc)?;
+    next.extend_from_slice(bytes)?;
+    if bytes.len() < old.len() - at {
+        next.extend_from_slice(&old[at + bytes.len()..])?;
+    }
+    Ok(next)
+}
+
+/// Writes a file that is there, and adds the call to the list.
+pub(crate) fn write_in(
+    alloc: Global,
+    nodes: &mut Vec<Placed>,
+    log: &mut Log,
+    path: &Path,
+    at: usize,
+    bytes: &[u8],
+) -> Result<(), OutOfMemory>
+    requires { write_refusal (contents_of nodes.old.items) path.now at ≡ None }
+    ensures written { OnOk result (contents_of nodes.new.items ≡ written
+        (contents_of nodes.old.items) path.now at bytes.now) }
+    ensures kept { OnErr result (nodes.new.items ≡ nodes.old.items) }
+    ensures step { Step (ChangeCall.Write path.now at (length bytes.now))
+        (contents_of nodes.old.items) (contents_of nodes.new.items) }
+    ensures listed { OnOk result (log.new.calls.items ≡ log.old.calls.items ++ ChangeCall.Write
+        path.now at (length bytes.now) ∷ []) }
+    ensures unlisted { OnErr result (log.new.calls.items ≡ log.old.calls.items) }
+{
+    let Some(i) = place_of(nodes, path) else {
+        unreachable!();
+    };
+    let Node::File(old) = &nodes[i].node else {
+        unreachable!();
+    };
+    let next = splice(alloc, old, at, bytes)?;
+    let path = path.copy(alloc)?;
+    log.add(ChangeCall::Write(path, at as u64, bytes.len() as u64))?;
+    nodes[i].node = Node::File(next);
+    Ok(())
+}
+
+// Puts an entry where none is, and adds the call to the list.
+fn put_in(
+    alloc: Global,
+    nodes: &mut Vec<Placed>,
+    log: &mut Log,
+    path: &Path,
+    node: Node,
+    call: ChangeCall,
+) -> Result<(), OutOfMemory>
+    requires { get (contents_of nodes.old.items) path.now ≡ None }
+    ensures made { OnOk result (contents_of nodes.new.items ≡ insert (contents_of nodes.old.items)
+        path.now (entry_of node)) }
+    ensures kept { OnErr result (nodes.new.items ≡ nodes.old.items) }
+    ensures listed { OnOk result (log.new.calls.items ≡ log.old.calls.items ++ call ∷ []) }
+    ensures unlisted { OnErr result (log.new.calls.items ≡ log.old.calls.items) }
+{
+    let path = path.copy(alloc)?;
+    nodes.reserve(1)?;
+    log.add(call)?;
+    nodes.push(Placed { path, node })?;
+    Ok(())
+}
+
+/// Makes an empty file, and adds the call to the list.
+pub(crate) fn put_file(
+    alloc: Global,
+    nodes: &mut Vec<Placed>,
+    log: &mut Log,
+    path: &Path,
+) -> Result<(), OutOfMemory>
+    requires room { make_refusal (contents_of nodes.old.items) path.now ≡ None }
+    requires absent { get (contents_of nodes.old.items) path.now ≡ None }
+    ensures made { OnOk result (contents_of nodes.new.items ≡ insert (contents_of nodes.old.items)
+        path.now (FileEntry [])) }
+    ensures kept { OnErr result (nodes.new.items ≡ nodes.old.items) }
+    ensures step { Step (ChangeCall.MakeFile path.now) (contents_of nodes.old.items)
+        (contents_of nodes.new.items) }
+    ensures listed { OnOk result
+        (log.new.calls.items ≡ log.old.calls.items ++ ChangeCall.MakeFile path.now ∷ []) }
+    ensures unlisted { OnErr result (log.new.calls.items ≡ log.old.calls.items) }
+{
+    let call = ChangeCall::MakeFile(path.copy(alloc)?);
+    put_in(alloc, nodes, log, path, Node::File(Vec::new(alloc)), call)
+}
+
+/// Makes an empty folder, and adds the call to the list.
+pub(crate) fn put_folder(
+    alloc: Global,
+    nodes: &mut Vec<Placed>,
+    log: &mut Log,
+    path: &Path,
+) -> Result<(), OutOfMemory>
+    requires room { make_refusal (contents_of nodes.old.items) path.now ≡ None }
+    requires absent { get (contents_of nodes.old.items) path.now ≡ None }
+    ensures made { OnOk result (contents_of nodes.new.items ≡ insert (contents_of nodes.old.items)
+        path.now (FolderEntry false)) }
+    ensures kept { OnErr result (nodes.new.items ≡ nodes.old.items) }
+    ensures step { Step (ChangeCall.MakeFolder path.now) (contents_of nodes.old.items)
+        (contents_of nodes.new.items) }
+    ensures listed { OnOk result
+        (log.new.calls.items ≡ log.old.calls.items ++ ChangeCall.MakeFolder path.now ∷ []) }
+    ensures unlisted { OnErr result (log.new.calls.items ≡ log.old.calls.items) }
+{
+    let call = ChangeCall::MakeFolder(path.copy(alloc)?);
+    put_in(alloc, nodes, log, path, Node::Folder(false), call)
+}
+
+/// Cuts a file that is there, and adds the call to the list.
+pub(crate) fn cut_in(
+    alloc: Global,
+    nodes: &mut Vec<Placed>,
+    log: &mut Log,
+    path: &Path,
+    size: usize,
+) -> Result<(), OutOfMemory>
+    requires { cut_refusal (contents_of nodes.old.items) path.now size ≡ None }
+    ensures cut { OnOk result
+        (contents_of nodes.new.items ≡ shortened (contents_of nodes.old.items) path.now size) }
+    ensures kept { OnErr result (nodes.new.items ≡ nodes.old.items) }
+    ensures step { Step (ChangeCall.Cut path.now size) (contents_of nodes.old.items)
+        (contents_of nodes.new.items) }
+    ensures listed { OnOk result
+        (log.new.calls.items ≡ log.old.calls.items ++ ChangeCall.Cut path.now size ∷ []) }
+    ensures unlisted { OnErr result (log.new.calls.items ≡ log.old.calls.items) }
+{
+    let Some(i) = place_of(nodes, path) else {
+        unreachable!();
+    };
+    let Node::File(old) = &nodes[i].node else {
+        unreachable!();
+    };
+    let next = old[..size].to_vec(alloc)?;
+    log.add(ChangeCall::Cut(path.copy(alloc)?, size as u64))?;
+    nodes[i].node = Node::File(next);
+    Ok(())
+}
+
+/// Removes an entry, and adds the call to the list.
+pub(crate) fn remove_in(
+    alloc: Global,
+    nodes: &mut Vec<Placed>,
+    log: &mut Log,
+    path: &Path,
+) -> Result<(), OutOfMemory>
+    requires { remove_refusal (contents_of nodes.old.items) path.now ≡ None }
+    ensures removed { OnOk result
+        (contents_of nodes.new.items ≡ remove (contents_of nodes.old.items) path.now) }
+    ensures kept { OnErr result (nodes.new.items ≡ nodes.old.items) }
+    ensures step { Step (ChangeCall.Remove path.now) (contents_of nodes.old.items)
+        (contents_of nodes.new.items) }
+    ensures listed { OnOk result
+        (log.new.calls.items ≡ log.old.calls.items ++ ChangeCall.Remove path.now ∷ []) }
+    ensures unlisted { OnErr result (log.new.calls.items ≡ log.old.calls.items) }
+{
+    log.add(ChangeCall::Remove(path.copy(alloc)?))?;
+    let (absolute, parts) = (path.is_absolute(), path.parts());
+    nodes.retain(|placed| !placed.path.is(absolute, parts));
+    Ok(())
+}
+
+/// Puts an entry in the place of what stands at a path, without a call.
+pub(crate) fn set_node(
+    alloc: Global,
+    nodes: &mut Vec<Placed>,
+    path: &Path,
+    node: Node,
+) -> Result<(), OutOfMemory>
+    ensures set { OnOk result (contents_of nodes.new.items ≡ insert (contents_of nodes.old.items)
+        path.now (entry_of node)) }
+    ensures kept { OnErr result (nodes.new.items ≡ nodes.old.items) }
+{
+    match place_of(nodes, path) {
+        Some(i) => nodes[i].node = node,
+        None => nodes.push(Placed {
+            path: path.copy(alloc)?,
+            node,
+        })?,
+    }
+    Ok(())
+}
