@@ -1,6 +1,6 @@
 -- What is read is what the table says.
-use Rattle.std.proofs.Common.{rules, ◌≡◌, ℕ, Bool, true, false, cond, List, length, take, Result, Ok, Err, Option, Some, None, refl, ap, subst, arith}
-use Rattle.std.specs.Prelude.{nat_eq}
+use Rattle.std.proofs.Common.{rules, ◌≡◌, ℕ, Bool, true, false, cond, List, length, take, Result, Ok, Err, Option, Some, None, refl, sym, ap, subst, arith}
+use Rattle.std.specs.Prelude.{nat_eq, IfOk}
 use Rattle.std.proofs.lemmas.Bool.{eqb-true}
 use Rattle.std.proofs.lemmas.Bool.Decides.{nat_tests}
 use Rattle.layout.specs.Readers.{word_at}
@@ -9,10 +9,11 @@ use Rattle.layout.specs.Values.{number}
 use Rattle.layout.specs.declared.row.Row.{Row}
 use Rattle.layout.proofs.BrokenLemmas.{is_first_broken, none_broken, all_hold}
 use Rattle.wal_base.specs.Crc.{crc32c}
-use Rattle.control_file.specs.Admission.{admitted, control_of, unless_broken, IsControlFile, IsShapeFault}
+use Rattle.control_file.specs.Admission.{admitted, control_of, unless_broken, IsControl, IsControlFile, IsShapeFault}
 use Rattle.control_file.specs.Reading.{fields_at, checkpoint_at}
 use Rattle.control_file.specs.Rows.{rows_of, head_rows, checkpoint_rows, recovery_rows, setting_rows, build_rows}
 use Rattle.control_file.specs.declared.control.Control.{Control}
+use Rattle.control_file.specs.declared.fault.ControlFault.{ControlFault}
 use Rattle.control_file.specs.declared.fault.ControlFault.TheVariants.{Size, Crc, Version, Catalog, Shape}
 use Rattle.control_file.specs.declared.field.Field.{Field}
 use Rattle.control_file.proofs.TableLemmas.{ascends_rows}
@@ -67,6 +68,13 @@ ok_is bytes c e =
       said = said bytes;
       shape = none_broken (rows_of f) u.0;
     })
+
+-- what is read can be written
+pub control_is : (bytes : List ℕ) (r : Result Control ControlFault) → r ≡ control_of bytes → IfOk r IsControl
+control_is bytes (Ok c) e =
+    let is = ok_is bytes c (sym e) in
+    record { version = is.version; catalog = is.catalog; shape = is.shape }
+control_is bytes (Err fault) e = tt
 
 -- a control file is read
 pub file_is : (bytes : List ℕ) (c : Control) → IsControlFile bytes c → control_of bytes ≡ Ok c

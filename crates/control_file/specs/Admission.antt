@@ -32,6 +32,12 @@ control_of bytes =
     then (if word_at 288 bytes == crc32c (take 288 bytes) then admitted (fields_at bytes) else Err (Crc (word_at 288 bytes) (crc32c (take 288 bytes))))
     else Err (Size (length bytes))
 
+-- a control that a control file of PostgreSQL 16 can say
+pub record IsControl (control : Control) : Type 0 where
+  pub version : control.version ≡ 1300
+  pub catalog : control.catalog ≡ 202307071
+  pub shape : AllByRecursion Holds (rows_of control)
+
 -- the bytes are a control file that says this
 pub record IsControlFile (bytes : List ℕ) (control : Control) : Type 0 where
   pub size : length bytes ≡ 8192

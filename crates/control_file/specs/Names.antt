@@ -1,57 +1,23 @@
--- The names of the fields as they print.
-use Rattle.std.specs.Prelude.{ℕ, List, codes}
-use Rattle.control_file.specs.declared.field.Field.{Field}
-use Rattle.control_file.specs.declared.field.Field.TheVariants as field
+-- The names that the text of a control file uses for numbers: PostgreSQL 16, src/bin/pg_controldata/pg_controldata.c;
+-- of days and months those of C's strftime in the locale C.
+use Rattle.std.specs.Prelude.{ℕ, List, [], ◌∷◌, codes}
 
--- the name of a field
-abbrev pub field_name : Field → List ℕ
-field_name field.Sysid = codes "Sysid"
-field_name field.Version = codes "Version"
-field_name field.Catalog = codes "Catalog"
-field_name field.State = codes "State"
-field_name field.Time = codes "Time"
-field_name field.CheckPoint = codes "CheckPoint"
-field_name field.CpRedo = codes "CpRedo"
-field_name field.CpTli = codes "CpTli"
-field_name field.CpPrevTli = codes "CpPrevTli"
-field_name field.CpFpw = codes "CpFpw"
-field_name field.CpNextXid = codes "CpNextXid"
-field_name field.CpNextOid = codes "CpNextOid"
-field_name field.CpNextMulti = codes "CpNextMulti"
-field_name field.CpNextMultiOffset = codes "CpNextMultiOffset"
-field_name field.CpOldestXid = codes "CpOldestXid"
-field_name field.CpOldestXidDb = codes "CpOldestXidDb"
-field_name field.CpOldestMulti = codes "CpOldestMulti"
-field_name field.CpOldestMultiDb = codes "CpOldestMultiDb"
-field_name field.CpTime = codes "CpTime"
-field_name field.CpOldestCommitTs = codes "CpOldestCommitTs"
-field_name field.CpNewestCommitTs = codes "CpNewestCommitTs"
-field_name field.CpOldestActiveXid = codes "CpOldestActiveXid"
-field_name field.UnloggedLsn = codes "UnloggedLsn"
-field_name field.MinRecoveryPoint = codes "MinRecoveryPoint"
-field_name field.MinRecoveryPointTli = codes "MinRecoveryPointTli"
-field_name field.BackupStart = codes "BackupStart"
-field_name field.BackupEnd = codes "BackupEnd"
-field_name field.EndRequired = codes "EndRequired"
-field_name field.WalLevel = codes "WalLevel"
-field_name field.WalLogHints = codes "WalLogHints"
-field_name field.MaxConnections = codes "MaxConnections"
-field_name field.MaxWorkers = codes "MaxWorkers"
-field_name field.MaxSenders = codes "MaxSenders"
-field_name field.MaxPrepared = codes "MaxPrepared"
-field_name field.MaxLocks = codes "MaxLocks"
-field_name field.TrackCommitTs = codes "TrackCommitTs"
-field_name field.MaxAlign = codes "MaxAlign"
-field_name field.FloatFormat = codes "FloatFormat"
-field_name field.Blcksz = codes "Blcksz"
-field_name field.Relseg = codes "Relseg"
-field_name field.WalBlcksz = codes "WalBlcksz"
-field_name field.WalSegSize = codes "WalSegSize"
-field_name field.NameLen = codes "NameLen"
-field_name field.IndexKeys = codes "IndexKeys"
-field_name field.ToastChunk = codes "ToastChunk"
-field_name field.LoBlock = codes "LoBlock"
-field_name field.Float8ByVal = codes "Float8ByVal"
-field_name field.ChecksumVersion = codes "ChecksumVersion"
-field_name field.Nonce = codes "Nonce"
-field_name field.Crc = codes "Crc"
+-- the days of the week, from Monday
+abbrev pub weekday_names : List (List ℕ)
+weekday_names = codes "Mon" ∷ codes "Tue" ∷ codes "Wed" ∷ codes "Thu" ∷ codes "Fri" ∷ codes "Sat" ∷ codes "Sun" ∷ []
+
+-- the months
+abbrev pub month_names : List (List ℕ)
+month_names =
+    codes "Jan" ∷ codes "Feb" ∷ codes "Mar" ∷ codes "Apr" ∷ codes "May" ∷ codes "Jun"
+    ∷ codes "Jul" ∷ codes "Aug" ∷ codes "Sep" ∷ codes "Oct" ∷ codes "Nov" ∷ codes "Dec" ∷ []
+
+-- the states of a cluster, from 0
+abbrev pub state_names : List (List ℕ)
+state_names =
+    codes "starting up" ∷ codes "shut down" ∷ codes "shut down in recovery" ∷ codes "shutting down"
+    ∷ codes "in crash recovery" ∷ codes "in archive recovery" ∷ codes "in production" ∷ []
+
+-- the levels of the log, from 0
+abbrev pub wal_level_names : List (List ℕ)
+wal_level_names = codes "minimal" ∷ codes "replica" ∷ codes "logical" ∷ []

@@ -1,7 +1,7 @@
 //! The fields of a control file by name.
 
 ghost use Rattle.std.specs.Prelude.{Some};
-ghost use Rattle.control_file.specs.Names.{field_name};
+ghost use Rattle.control_file.specs.FieldNames.{field_name};
 
 use std::fmt;
 

@@ -1,34 +1,20 @@
 //! Reading a control file.
 
-ghost use Rattle.std.specs.Prelude.{ℕ, ◌↔◌, Ok, Err, ◌≡◌, ◌≤◌, ◌+◌, length, take};
-ghost use Rattle.control_file.specs.Admission.{admitted, control_of, IsControlFile, IsShapeFault};
+ghost use Rattle.std.specs.Prelude.{ℕ, ◌↔◌, Ok, Err, IfOk, ◌≡◌, ◌≤◌, ◌+◌, length};
+ghost use Rattle.control_file.specs.Admission.{admitted, control_of, IsControl, IsControlFile, IsShapeFault};
 ghost use Rattle.control_file.specs.Reading.{checkpoint_at, checkpoint_of, fields_at};
 ghost use Rattle.control_file.specs.declared.control.Control.{Control};
 ghost use Rattle.control_file.specs.declared.fault.ControlFault.TheVariants.{Shape};
 ghost use Rattle.control_file.specs.declared.field.Field.{Field};
-ghost use Rattle.wal_base.specs.Crc.{crc32c};
 
 use crate::checkpoint::Checkpoint;
 use crate::control::Control;
 use crate::fault::ControlFault;
+use crate::format::{
+    CATALOG, CHECKPOINT_AT, CHECKPOINT_SIZE, CRC_AT, FILE_SIZE, VERSION, checksum,
+};
 use crate::rows::broken_row;
 use layout::{i64_at, raw_at, u8_at, u32_at, u64_at};
-use wal_base::Crc32c;
-
-/// The bytes of a control file.
-const FILE_SIZE: usize = 8192;
-
-/// The offset of the CRC, which is that of the bytes before it.
-const CRC_AT: usize = 288;
-
-/// The version of the control file's layout in PostgreSQL 16.
-const VERSION: u32 = 1300;
-
-/// The version of the system catalogs in PostgreSQL 16.
-const CATALOG: u32 = 202307071;
-
-/// The bytes of a checkpoint copy.
-const CHECKPOINT_SIZE: usize = 88;
 
 /// What a control file of these bytes says, or why they are none: of several rules that they
 /// break, the first by the order of `ControlFault`.
@@ -37,6 +23,8 @@ pub fn read_control(bytes: &[u8]) -> Result<Control, ControlFault>
     ensures exact { result ≡ control_of bytes.now }
     // a control comes exactly of a control file
     ensures ok { (control : Control) → result ≡ Ok control ↔ IsControlFile bytes.now control }
+    // what is read can be written and shown
+    ensures control { IfOk result IsControl }
     // a shape fault is that of the least offset
     ensures shape { (field : Field) (value : ℕ) → result ≡ Err (Shape field value) →
         IsShapeFault bytes.now field value }
@@ -69,16 +57,6 @@ fn read(bytes: &[u8]) -> Result<Control, ControlFault>
     admit(fields(bytes))
 }
 
-/// The CRC-32C of the bytes before the CRC.
-fn checksum(bytes: &[u8]) -> u32
-    requires { 288 ≤ length bytes.now }
-    ensures { result ≡ crc32c (take 288 bytes.now) }
-{
-    let mut crc = Crc32c::new();
-    crc.add(&bytes[..CRC_AT]);
-    crc.value()
-}
-
 #[tactic(auto, unfolding(crate::specs::Admission::admitted))]
 fn admit(control: Control) -> Result<Control, ControlFault>
     ensures { result ≡ admitted control }
@@ -107,7 +85,7 @@ fn fields(bytes: &[u8]) -> Control
         state: u32_at(bytes, 16),
         time: i64_at(bytes, 24),
         checkPoint: u64_at(bytes, 32),
-        cp: checkpoint(bytes, 40),
+        cp: checkpoint(bytes, CHECKPOINT_AT),
         unloggedLsn: u64_at(bytes, 128),
         minRecoveryPoint: u64_at(bytes, 136),
         minRecoveryPointTli: u32_at(bytes, 144),

@@ -8,6 +8,7 @@ ghost use Rattle.layout.specs.Rows.{RowFits, first_broken};
 use crate::checkpoint::Checkpoint;
 use crate::control::Control;
 use crate::field::Field;
+use crate::format::CHECKPOINT_AT;
 use layout::Rule::{Any, AtMost, Between, Only, SegmentSize};
 use layout::{Row, first_broken};
 
@@ -128,7 +129,7 @@ pub fn broken_row(c: &Control) -> Option<Row<Field>>
     ensures { result ≡ first_broken (rows_of c.now) }
 {
     first_broken(&head_rows(c))
-        .or(first_broken(&checkpoint_rows(40, &c.cp)))
+        .or(first_broken(&checkpoint_rows(CHECKPOINT_AT, &c.cp)))
         .or(first_broken(&recovery_rows(c)))
         .or(first_broken(&setting_rows(c)))
         .or(first_broken(&build_rows(c)))

@@ -1,0 +1,6 @@
+use Rattle.control_file.specs.Text.{size_lines}
+use Rattle.control_file.proofs.text.push_sizes.Goals as goal
+
+pub returns : goal.returns
+unfolding size_lines
+returns c = cc (c.in_ok-push_line.ensures, c.in_ok-push_line-2.ensures, c.in_ok-push_line-3.ensures, c.in_ok-push_line-4.ensures, c.in_ok-push_line-5.ensures, c.in_ok-push_line-6.ensures, c.in_ok-push_line-7.ensures, c.in_ok-push_line-8.ensures, c.in_ok-push_line-9.ensures)
