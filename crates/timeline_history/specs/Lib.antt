@@ -1,0 +1,4 @@
+pub mod Lines
+pub mod Line
+pub mod History
+pub mod Ancestor
