@@ -5,3 +5,5 @@ pub mod Marks
 pub mod RootControl
 pub mod Fitness
 pub mod Rewind
+pub mod Copying
+pub mod Emptying

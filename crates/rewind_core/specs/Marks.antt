@@ -1,35 +1,20 @@
--- The marks of unfinished runs. Own: "Marks of unfinished runs".
-use Rattle.std.specs.Prelude.{ℕ, List, [], ◌∷◌, codes, Option, None, Some, Result, Ok, Err}
+-- The marks of unfinished runs. Own: "Mark files".
+use Rattle.std.specs.Prelude.{ℕ, ◌==◌, cond, Option, None, Some}
 use Rattle.cluster_tree.specs.PathValue.{PathValue}
-use Rattle.cluster_tree.specs.Contents.{Contents, entry_at}
-use Rattle.cluster_tree.specs.Tree.{kind_of}
-use Rattle.cluster_tree.specs.Causes.{first_of}
-use Rattle.cluster_tree.specs.declared.tree.Kind.{Kind}
-use Rattle.cluster_tree.specs.declared.tree.Kind.TheVariants as kind
-use Rattle.cluster_tree.specs.declared.tree.TreeFault.{TreeFault}
-use Rattle.rewind_core.specs.Roots.{path_in}
+use Rattle.cluster_tree.specs.Contents.{Contents}
+use Rattle.cluster_tree.specs.Marks.{MarkPaths, marks_of, first_mark}
 use Rattle.rewind_core.specs.declared.fault.RewindFault.{RewindFault}
 use Rattle.rewind_core.specs.declared.fault.RewindFault.TheVariants as fault
-use Rattle.rewind_core.specs.declared.marks.Mark.{Mark}
-use Rattle.rewind_core.specs.declared.marks.Mark.TheVariants as mark
 
--- the name of a mark at a cluster's root
-abbrev pub mark_name : Mark → List ℕ
-mark_name mark.Rewind = codes "pg_rewind.unfinished"
-mark_name mark.Replay = codes "pg_walreplay.unfinished"
-mark_name mark.Reset = codes "pg_resetwal.unfinished"
+-- the path of the mark of a number
+abbrev pub mark_at : MarkPaths → ℕ → PathValue
+mark_at marks number = cond (number == 0) marks.rewind (cond (number == 1) marks.replay marks.reset)
 
--- refused with this path, where anything stands there: a file, a folder or a link
-abbrev pub unless_absent : PathValue → Result Kind TreeFault → Option RewindFault
-unless_absent path (Ok kind.Absent) = None
-unless_absent path (Ok kind.File) = Some (fault.Unfinished path)
-unless_absent path (Ok kind.Folder) = Some (fault.Unfinished path)
-unless_absent path (Err _) = Some (fault.Unfinished path)
+-- refused with the path of this mark, if there is one
+abbrev pub with_mark : MarkPaths → Option ℕ → Option RewindFault
+with_mark marks None = None
+with_mark marks (Some number) = Some (fault.Unfinished (mark_at marks number))
 
--- this mark stands at the root
-unfoldable pub marked : Contents → PathValue → Mark → Option RewindFault
-marked c root mark = unless_absent (path_in root (mark_name mark)) (kind_of (entry_at c (path_in root (mark_name mark))))
-
--- the first of the three marks that stands at the root
+-- the first of the three marks that stands at the root: a file, a folder or a link
 unfoldable pub unfinished : Contents → PathValue → Option RewindFault
-unfinished c root = first_of (marked c root mark.Rewind ∷ marked c root mark.Replay ∷ marked c root mark.Reset ∷ [])
+unfinished c root = with_mark (marks_of root) (first_mark c (marks_of root))

@@ -58,16 +58,22 @@ fn control_bytes(given: Given) -> [u8; 8192] {
     file
 }
 
-fn path(alloc: Global, text: &str, rt: &impl Abort) -> Path {
+pub(crate) fn path(alloc: Global, text: &str, rt: &impl Abort) -> Path {
     Path::parse(alloc, text).expect(rt, "a path")
 }
 
-fn make_folder(alloc: Global, tree: &mut MemoryTree, text: &str, rt: &impl Abort) {
+pub(crate) fn make_folder(alloc: Global, tree: &mut MemoryTree, text: &str, rt: &impl Abort) {
     let made = tree.make_folder(&path(alloc, text, rt));
     assert_eq!(rt; made, Ok(()), "{text}");
 }
 
-fn make_file(alloc: Global, tree: &mut MemoryTree, text: &str, bytes: &[u8], rt: &impl Abort) {
+pub(crate) fn make_file(
+    alloc: Global,
+    tree: &mut MemoryTree,
+    text: &str,
+    bytes: &[u8],
+    rt: &impl Abort,
+) {
     let file = path(alloc, text, rt);
     let made = tree.make_file(&file);
     assert_eq!(rt; made, Ok(()), "{text}");
