@@ -1,10 +1,13 @@
 // The machine's files as a tree, which tells no contents.
 ghost use Rattle.std.specs.Prelude.{◌≡◌, ◌∷◌, []};
-ghost use Rattle.cluster_tree.specs.Tree.{Counts, RefusesOnly, file_faults, make_faults};
+ghost use Rattle.cluster_tree.specs.Tree.{Counts, RefusesOnly, file_faults, make_faults, range_faults, remove_faults};
 
+use crate::changed::Changed;
+use crate::listing::list_at;
 use crate::opened::{Access, Opened};
+use crate::removing::remove_at;
 use crate::seen::{Seen, check_room, seen_at, size_at};
-use cluster_tree::{Kind, Path, Tree, TreeFault};
+use cluster_tree::{Kind, Names, Path, Tree, TreeFault};
 use std::alloc::Global;
 use std::fs::{DirBuilder, File};
 use std::io;
@@ -19,12 +22,15 @@ const FOLDER_MODE: u32 = 0o700;
 ///
 /// It keeps the file that was used last open, reads and writes by position, and looks at each part
 /// of a path before it opens it, so that it follows no link that was there; a change between the
-/// look and the opening is outside what is claimed. Want of memory counts as a failure.
+/// look and the opening is outside what is claimed. It remembers what was changed since the last
+/// sync, which a sync makes durable, the entries of folders too. Want of memory counts as a failure,
+/// but for `list`.
 #[derive(Drop)]
 pub struct DirTree<R> {
     rt: R,
     alloc: Global,
     opened: Option<Opened>,
+    changed: Changed,
     failed_reads: u64,
     failed_changes: u64,
 }
@@ -40,13 +46,14 @@ fn counted<T>(failed: &mut u64, answer: Result<T, TreeFault>) -> Result<T, TreeF
     answer
 }
 
-impl<R: Files<File = File> + Drop> DirTree<R> {
+impl<R: Files<File = File> + AllocGlobal + Clone + Drop> DirTree<R> {
     /// The files that the runtime reaches.
     pub fn new(rt: R, alloc: Global) -> DirTree<R> {
         DirTree {
             rt,
             alloc,
             opened: None,
+            changed: Changed::new(alloc),
             failed_reads: 0,
             failed_changes: 0,
         }
@@ -105,6 +112,43 @@ fn write_kept(kept: &Option<Opened>, at: u64, bytes: &[u8]) -> Result<(), TreeFa
     }
 }
 
+// Cuts the file that is kept open.
+fn cut_kept(kept: &Option<Opened>, size: u64) -> Result<(), TreeFault>
+    ensures { RefusesOnly (TreeFault.PastEnd ∷ []) result }
+{
+    match kept {
+        Some(opened) => opened.cut(size),
+        None => Err(TreeFault::Failed),
+    }
+}
+
+// Keeps the file at a path open for writing, and remembers that it is going to be changed.
+fn keep_changed<R: Files<File = File>>(
+    rt: &R,
+    alloc: Global,
+    kept: &mut Option<Opened>,
+    changed: &mut Changed,
+    path: &Path,
+) -> Result<(), TreeFault>
+    ensures { RefusesOnly file_faults result }
+{
+    keep(rt, alloc, kept, path, Access::Write)?;
+    changed.note(alloc, path)
+}
+
+// Removes the entry at a path, and remembers that it was there.
+fn remove_noted<R: Files>(
+    rt: &R,
+    alloc: Global,
+    changed: &mut Changed,
+    path: &Path,
+) -> Result<(), TreeFault>
+    ensures { RefusesOnly remove_faults result }
+{
+    changed.note_entry(alloc, path)?;
+    remove_at(rt, alloc, path)
+}
+
 fn create_folder<R: Files>(rt: &R, alloc: Global, path: &Path) -> io::Result<()> {
     let text = format!(in alloc; "{path}")?;
     let mut builder = DirBuilder::new();
@@ -112,11 +156,17 @@ fn create_folder<R: Files>(rt: &R, alloc: Global, path: &Path) -> io::Result<()>
     builder.create(rt, text.as_str())
 }
 
-// Makes a folder where there was room for it.
-fn folder_at<R: Files>(rt: &R, alloc: Global, path: &Path) -> Result<(), TreeFault>
+// Makes a folder where there is room for it.
+fn folder_at<R: Files>(
+    rt: &R,
+    alloc: Global,
+    changed: &mut Changed,
+    path: &Path,
+) -> Result<(), TreeFault>
     ensures { RefusesOnly make_faults result }
 {
     check_room(rt, alloc, path)?;
+    changed.note_entry(alloc, path)?;
     match create_folder(rt, alloc, path) {
         Ok(()) => Ok(()),
         Err(error) if error.kind() == ErrorKind::AlreadyExists => Err(TreeFault::Exists),
@@ -124,23 +174,26 @@ fn folder_at<R: Files>(rt: &R, alloc: Global, path: &Path) -> Result<(), TreeFau
     }
 }
 
-// Makes an empty file where there was room for it, and keeps it open.
+// Makes an empty file where there is room for it, and keeps it open.
 fn make<R: Files<File = File>>(
     rt: &R,
     alloc: Global,
     kept: &mut Option<Opened>,
+    changed: &mut Changed,
     path: &Path,
 ) -> Result<(), TreeFault>
     ensures { RefusesOnly make_faults result }
 {
     check_room(rt, alloc, path)?;
+    changed.note_entry(alloc, path)?;
     *kept = Some(Opened::make(rt, alloc, path)?);
     Ok(())
 }
 
-impl<R: Files<File = File> + Drop> Tree for DirTree<R> {
+impl<R: Files<File = File> + AllocGlobal + Clone + Drop> Tree for DirTree<R> {
     ghost use Rattle.std.specs.Prelude.{false, []};
     ghost use Rattle.std.specs.FinMap.{empty};
+    ghost use Rattle.cluster_tree.specs.Untold.{untold};
 
     ghost tells = { false };
 
@@ -152,8 +205,15 @@ impl<R: Files<File = File> + Drop> Tree for DirTree<R> {
 
     ghost failed_changes = { λ t. t.failed_changes };
 
+    ghost is_tree = { λ told t. untold told };
+
     fn kind(&mut self, path: &Path) -> Result<Kind, TreeFault> {
         let answer = kind_at(&self.rt, self.alloc, path);
+        counted(&mut self.failed_reads, answer)
+    }
+
+    fn list(&mut self, alloc: Global, path: &Path) -> Result<Names, TreeFault> {
+        let answer = list_at(&self.rt, alloc, path);
         counted(&mut self.failed_reads, answer)
     }
 
@@ -171,20 +231,42 @@ impl<R: Files<File = File> + Drop> Tree for DirTree<R> {
     }
 
     fn write_at(&mut self, path: &Path, at: u64, bytes: &[u8]) -> Result<(), TreeFault> {
-        let answer = match keep(&self.rt, self.alloc, &mut self.opened, path, Access::Write) {
+        let kept = &mut self.opened;
+        let answer = match keep_changed(&self.rt, self.alloc, kept, &mut self.changed, path) {
             Ok(()) => write_kept(&self.opened, at, bytes),
             Err(fault) => Err(fault),
         };
         counted(&mut self.failed_changes, answer)
     }
 
+    fn cut(&mut self, path: &Path, size: u64) -> Result<(), TreeFault> {
+        let kept = &mut self.opened;
+        let answer = match keep_changed(&self.rt, self.alloc, kept, &mut self.changed, path) {
+            Ok(()) => cut_kept(&self.opened, size),
+            Err(fault) => Err(fault),
+        };
+        counted(&mut self.failed_changes, answer)
+    }
+
     fn make_file(&mut self, path: &Path) -> Result<(), TreeFault> {
-        let answer = make(&self.rt, self.alloc, &mut self.opened, path);
+        let kept = &mut self.opened;
+        let answer = make(&self.rt, self.alloc, kept, &mut self.changed, path);
         counted(&mut self.failed_changes, answer)
     }
 
     fn make_folder(&mut self, path: &Path) -> Result<(), TreeFault> {
-        let answer = folder_at(&self.rt, self.alloc, path);
+        let answer = folder_at(&self.rt, self.alloc, &mut self.changed, path);
+        counted(&mut self.failed_changes, answer)
+    }
+
+    fn remove(&mut self, path: &Path) -> Result<(), TreeFault> {
+        self.opened = None;
+        let answer = remove_noted(&self.rt, self.alloc, &mut self.changed, path);
+        counted(&mut self.failed_changes, answer)
+    }
+
+    fn sync(&mut self) -> Result<(), TreeFault> {
+        let answer = self.changed.sync(&self.rt);
         counted(&mut self.failed_changes, answer)
     }
 }

@@ -2,15 +2,18 @@
 #![tactic(auto)]
 
 mod cause;
+mod changed;
 mod command;
 mod dir_tree;
 mod exit;
 mod finish;
 mod fixed;
 mod lines;
+mod listing;
 mod opened;
 mod pg_rewind;
 mod program;
+mod removing;
 mod seen;
 mod std_sink;
 #[cfg(test)]

@@ -144,4 +144,19 @@ impl Opened {
             Err(_) => Err(TreeFault::Failed),
         }
     }
+
+    /// Cuts the file to this size.
+    pub(crate) fn cut(&self, size: u64) -> Result<(), TreeFault>
+        ensures { RefusesOnly (TreeFault.PastEnd ∷ []) result }
+    {
+        match self.is_past_end(size) {
+            Ok(false) => {}
+            Ok(true) => return Err(TreeFault::PastEnd),
+            Err(_) => return Err(TreeFault::Failed),
+        }
+        match self.file.set_len(size) {
+            Ok(()) => Ok(()),
+            Err(_) => Err(TreeFault::Failed),
+        }
+    }
 }
