@@ -1,0 +1,4 @@
+pub mod PartLemmas
+pub mod PageLemmas
+pub mod ValidLemmas
+pub mod LogLemmas
