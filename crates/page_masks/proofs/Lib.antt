@@ -11,6 +11,7 @@ pub mod MaskShape
 pub mod TupleBytes
 pub mod HolderChunks
 pub mod TupleTwice
+pub mod HeldMarks
 pub mod HeapTwice
 pub mod MaskTwice
 pub mod LsnLemmas
