@@ -12,7 +12,8 @@ use Rattle.page_masks.proofs.Alike.{none_not, holds_in}
 use Rattle.page_masks.proofs.HeapLaid.{open_holds, holds_none}
 use Rattle.page_laws.proofs.PagesAlike.{PagesAlike, counts_same, len_alike}
 use Rattle.page_laws.proofs.SetLineLaw.{pointer_byte}
-use Rattle.page_laws.proofs.AddViews.{Adds, fits, added_head, added_line, added_other_line, added_back, added_upper_byte, added_lower, added_upper, old_or_new, added_off, added_len, added_flags, kept_off, kept_len, kept_flags, added_item, kept_item}
+use Rattle.page_laws.proofs.AddViews.{Adds, added_back, old_or_new, kept_off, kept_len, kept_flags, kept_item, lays}
+use Rattle.page_laws.proofs.AddedBytes.{Lays, fits, added_head, added_line, added_other_line, added_upper_byte, added_lower, added_upper, added_off, added_len, added_flags, added_item}
 
 holder_none : (p : List ℕ) (n i : ℕ) → ((j : ℕ) → j < n → holds p j i ≡ false) → holder p n i ≡ None
 holder_none p zero i each = refl
@@ -25,6 +26,12 @@ module _ (block : ℕ) (p q bytes : List ℕ) (k lower upper : ℕ) (ap_p : Adds
   abbrev new_q : List ℕ
   new_q = added_at q bytes k lower upper
 
+  lay_p : Lays p bytes k lower upper
+  lay_p = lays p bytes k lower upper ap_p
+
+  lay_q : Lays q bytes k lower upper
+  lay_q = lays q bytes k lower upper ap_q
+
   counts : count p ≡ count q
   counts = counts_same block p q s.same ap_p.formed.head.low ap_p.formed.head.by4
 
@@ -33,7 +40,7 @@ module _ (block : ℕ) (p q bytes : List ℕ) (k lower upper : ℕ) (ap_p : Adds
       (λ (a : (nat_le (24 + 4 * k) i ≡ true) × (24 + 4 * k ≤ i)). ⊎_elim
       (λ (b : (nat_le (28 + 4 * k) i ≡ true) × (28 + 4 * k ≤ i)). outside (inr b.1))
       (λ (c : (nat_le (28 + 4 * k) i ≡ false) × (i < 28 + 4 * k)).
-      added_line p bytes k lower upper ap_p i le high ∙ pointer_byte p q k upper 1 (length bytes) i (fits p bytes k lower upper ap_p) (fits q bytes k lower upper ap_q) a.1 c.1 ∙ sym (added_line q bytes k lower upper ap_q i le high))
+      added_line p bytes k lower upper lay_p i le high ∙ pointer_byte p q k upper 1 (length bytes) i (fits p bytes k lower upper lay_p) (fits q bytes k lower upper lay_q) a.1 c.1 ∙ sym (added_line q bytes k lower upper lay_q i le high))
       (leb_tells (28 + 4 * k) i))
       (λ (b : (nat_le (24 + 4 * k) i ≡ false) × (i < 24 + 4 * k)). outside (inl b.1))
       (leb_tells (24 + 4 * k) i)
@@ -46,7 +53,7 @@ module _ (block : ℕ) (p q bytes : List ℕ) (k lower upper : ℕ) (ap_p : Adds
           (λ (n : (k ≡ count p) × (lower ≡ pd_lower p + 4)). ⊎_elim (λ (l : i < 24 + 4 * k). omega (arith, l, n.0, ap_p.formed.head.low, ap_p.formed.head.by4)) (λ (r : 28 + 4 * k ≤ i). omega (arith, r, lt, n.0, n.1, ap_p.formed.head.low, ap_p.formed.head.by4)) out) ap_p.line
 
       outside : (i < 24 + 4 * k) ⊎ (28 + 4 * k ≤ i) → byte new_p i ≡ byte new_q i
-      outside out = added_other_line p bytes k lower upper ap_p i le high out ∙ s.same.lines i le (in_old out) ∙ sym (added_other_line q bytes k lower upper ap_q i le high out)
+      outside out = added_other_line p bytes k lower upper lay_p i le high out ∙ s.same.lines i le (in_old out) ∙ sym (added_other_line q bytes k lower upper lay_q i le high out)
 
   some_old : (j : ℕ) → j < count new_p → j ≢ k → 0 < lp_len new_p j → 0 < lp_len p j
   some_old j lt ne some = omega (arith, some, kept_len p bytes k lower upper ap_p j ne (old_or_new p bytes k lower upper ap_p j lt ne))
@@ -54,7 +61,7 @@ module _ (block : ℕ) (p q bytes : List ℕ) (k lower upper : ℕ) (ap_p : Adds
   item_alike : (j : ℕ) → j < count new_p → 0 < lp_len new_p j → masked_item block (j + 1) (lp_flags new_p j) (item new_p j) ≡ masked_item block (j + 1) (lp_flags new_q j) (item new_q j)
   item_alike j lt some = ⊎_elim
       (λ (t : ((j == k) ≡ true) × (j ≡ k)). subst (λ x. masked_item block (x + 1) (lp_flags new_p x) (item new_p x) ≡ masked_item block (x + 1) (lp_flags new_q x) (item new_q x)) (sym t.1)
-      (rw (added_flags p bytes k lower upper ap_p, added_flags q bytes k lower upper ap_q, added_item p bytes k lower upper ap_p, added_item q bytes k lower upper ap_q) refl))
+      (rw (added_flags p bytes k lower upper lay_p, added_flags q bytes k lower upper lay_q, added_item p bytes k lower upper lay_p, added_item q bytes k lower upper lay_q) refl))
       (λ (n : ((j == k) ≡ false) × (j ≢ k)).
       let lt_p = old_or_new p bytes k lower upper ap_p j lt n.1 in
       let lt_q : j < count q = omega (arith, lt_p, counts) in
@@ -77,17 +84,17 @@ module _ (block : ℕ) (p q bytes : List ℕ) (k lower upper : ℕ) (ap_p : Adds
       same j ne lt = open_holds new_p j i ∙ rw (kept_off p bytes k lower upper ap_p j ne lt, kept_len p bytes k lower upper ap_p j ne lt) refl ∙ sym (open_holds p j i)
 
       in_new : (j : ℕ) → j < count p → j < count new_p
-      in_new j lt = ⊎_elim (λ (o : (k < count p) × (lower ≡ pd_lower p) × (lp_len p k ≡ 0)). omega (arith, lt, o.1, added_lower p bytes k lower upper ap_p)) (λ (n : (k ≡ count p) × (lower ≡ pd_lower p + 4)). omega (arith, lt, n.1, added_lower p bytes k lower upper ap_p)) ap_p.line
+      in_new j lt = ⊎_elim (λ (o : (k < count p) × (lower ≡ pd_lower p) × (lp_len p k ≡ 0)). omega (arith, lt, o.1, added_lower p bytes k lower upper lay_p)) (λ (n : (k ≡ count p) × (lower ≡ pd_lower p + 4)). omega (arith, lt, n.1, added_lower p bytes k lower upper lay_p)) ap_p.line
 
   new_there : k < count new_p
-  new_there = ⊎_elim (λ (o : (k < count p) × (lower ≡ pd_lower p) × (lp_len p k ≡ 0)). omega (arith, o.0, o.1, added_lower p bytes k lower upper ap_p)) (λ (n : (k ≡ count p) × (lower ≡ pd_lower p + 4)). omega (arith, n.0, n.1, added_lower p bytes k lower upper ap_p, ap_p.formed.head.low, ap_p.formed.head.by4)) ap_p.line
+  new_there = ⊎_elim (λ (o : (k < count p) × (lower ≡ pd_lower p) × (lp_len p k ≡ 0)). omega (arith, o.0, o.1, added_lower p bytes k lower upper lay_p)) (λ (n : (k ≡ count p) × (lower ≡ pd_lower p + 4)). omega (arith, n.0, n.1, added_lower p bytes k lower upper lay_p, ap_p.formed.head.low, ap_p.formed.head.by4)) ap_p.line
 
   free_alike : (i : ℕ) → pd_upper new_p ≤ i → i < 8192 → holder new_p (count new_p) i ≡ None → byte new_p i ≡ byte new_q i
   free_alike i le lt e = ⊎_elim
       (λ (t : (nat_le (pd_upper p) i ≡ true) × (pd_upper p ≤ i)).
       added_back p bytes k lower upper ap_p i t.1 ∙ s.free i t.1 lt (was_free i e) ∙ sym (added_back q bytes k lower upper ap_q i (omega (arith, t.1, ap_p.upper_is, ap_q.upper_is))))
       (λ (n : (nat_le (pd_upper p) i ≡ false) × (i < pd_upper p)).
-      let here = holds_in new_p k i (omega (arith, added_off p bytes k lower upper ap_p, added_upper p bytes k lower upper ap_p, le)) (omega (arith, added_off p bytes k lower upper ap_p, added_len p bytes k lower upper ap_p, ap_p.upper_is, n.1)) in
+      let here = holds_in new_p k i (omega (arith, added_off p bytes k lower upper lay_p, added_upper p bytes k lower upper lay_p, le)) (omega (arith, added_off p bytes k lower upper lay_p, added_len p bytes k lower upper lay_p, ap_p.upper_is, n.1)) in
       let none = none_not new_p (count new_p) k i e new_there in
       absurd (off_on (holds new_p k i) here none))
       (leb_tells (pd_upper p) i)
@@ -98,16 +105,16 @@ module _ (block : ℕ) (p q bytes : List ℕ) (k lower upper : ℕ) (ap_p : Adds
   pub added_alike : PagesAlike block new_p new_q
   added_alike = record {
     same = record {
-      lowers = added_lower p bytes k lower upper ap_p ∙ sym (added_lower q bytes k lower upper ap_q);
-      ten = (λ t. added_head p bytes k lower upper ap_p 10 (inl (omega arith)) (omega arith) t / 8 * 8) ∙ s.same.ten ∙ (λ t. sym (added_head q bytes k lower upper ap_q 10 (inl (omega arith)) (omega arith)) t / 8 * 8);
-      eleven = added_head p bytes k lower upper ap_p 11 (inl (omega arith)) (omega arith) ∙ s.same.eleven ∙ sym (added_head q bytes k lower upper ap_q 11 (inl (omega arith)) (omega arith));
-      head = λ i le lt. added_head p bytes k lower upper ap_p i (inr le) (omega arith) ∙ s.same.head i le lt ∙ sym (added_head q bytes k lower upper ap_q i (inr le) (omega arith));
-      lines = λ i le lt. line i le (omega (arith, lt, added_lower p bytes k lower upper ap_p));
+      lowers = added_lower p bytes k lower upper lay_p ∙ sym (added_lower q bytes k lower upper lay_q);
+      ten = (λ t. added_head p bytes k lower upper lay_p 10 (inl (omega arith)) (omega arith) t / 8 * 8) ∙ s.same.ten ∙ (λ t. sym (added_head q bytes k lower upper lay_q 10 (inl (omega arith)) (omega arith)) t / 8 * 8);
+      eleven = added_head p bytes k lower upper lay_p 11 (inl (omega arith)) (omega arith) ∙ s.same.eleven ∙ sym (added_head q bytes k lower upper lay_q 11 (inl (omega arith)) (omega arith));
+      head = λ i le lt. added_head p bytes k lower upper lay_p i (inr le) (omega arith) ∙ s.same.head i le lt ∙ sym (added_head q bytes k lower upper lay_q i (inr le) (omega arith));
+      lines = λ i le lt. line i le (omega (arith, lt, added_lower p bytes k lower upper lay_p));
       items = item_alike;
     };
     uppers = (
-      added_upper_byte p bytes k lower upper ap_p 14 (omega arith) (omega arith) ∙ sym (added_upper_byte q bytes k lower upper ap_q 14 (omega arith) (omega arith)),
-      added_upper_byte p bytes k lower upper ap_p 15 (omega arith) (omega arith) ∙ sym (added_upper_byte q bytes k lower upper ap_q 15 (omega arith) (omega arith)),
+      added_upper_byte p bytes k lower upper lay_p 14 (omega arith) (omega arith) ∙ sym (added_upper_byte q bytes k lower upper lay_q 14 (omega arith) (omega arith)),
+      added_upper_byte p bytes k lower upper lay_p 15 (omega arith) (omega arith) ∙ sym (added_upper_byte q bytes k lower upper lay_q 15 (omega arith) (omega arith)),
     );
     free = free_alike;
   }
@@ -134,4 +141,4 @@ module _ (block : ℕ) (p q bytes : List ℕ) (k lower upper : ℕ) (ap_p : Adds
       low_item i lt ne some =
           let in_p = old_or_new p bytes k lower upper ap_p i lt ne in
           let h = held_in p i ap_p.formed in_p (some_old i lt ne some) in
-          omega (arith, added_off p bytes k lower upper ap_p, added_len p bytes k lower upper ap_p, kept_off p bytes k lower upper ap_p i ne in_p, h.from, ap_p.upper_is)
+          omega (arith, added_off p bytes k lower upper lay_p, added_len p bytes k lower upper lay_p, kept_off p bytes k lower upper ap_p i ne in_p, h.from, ap_p.upper_is)

@@ -12,7 +12,8 @@ use Rattle.page_masks.specs.Mask.{mask}
 use Rattle.page_masks.specs.Shapes.{HeapPage, IsHeap}
 use Rattle.page_masks.proofs.Unshown.{heap_mask_is, is_heap, well}
 use Rattle.page_laws.proofs.PagesAlike.{PagesAlike, alike_mask, counts_same, len_alike, flags_alike, upper_alike}
-use Rattle.page_laws.proofs.AddViews.{Adds, added_formed, added_special}
+use Rattle.page_laws.proofs.AddViews.{Adds, added_formed, lays}
+use Rattle.page_laws.proofs.AddedBytes.{added_special}
 use Rattle.page_laws.proofs.AddLaw.{added_alike}
 
 pub formed : (p : List ℕ) → HeapPage p → IsFormed p
@@ -139,4 +140,4 @@ module _ (block : ℕ) (p q : List ℕ) (hp : HeapPage p) (hq : HeapPage q) (a :
       ∙ sym (heap_mask_is block (added_at q bytes (place - 1) (lower_after p place true) (pd_upper p - up8 (length bytes))) hn_q) ∙ ap (mask block) (sym made_q)
     where
       heap_of : (r bytes : List ℕ) (k lower upper : ℕ) → Adds r bytes k lower upper → pd_special r ≡ 8192 → IsHeap (added_at r bytes k lower upper)
-      heap_of r bytes k lower upper ad top = let f = added_formed r bytes k lower upper ad in record { size = f.size; head = f.head; lines = f.lines; heap = added_special r bytes k lower upper ad ∙ top }
+      heap_of r bytes k lower upper ad top = let f = added_formed r bytes k lower upper ad in record { size = f.size; head = f.head; lines = f.lines; heap = added_special r bytes k lower upper (lays r bytes k lower upper ad) ∙ top }

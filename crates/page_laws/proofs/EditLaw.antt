@@ -16,7 +16,7 @@ use Rattle.page_masks.proofs.Trimmed.{heap_stays}
 use Rattle.page_masks.proofs.Alike.{Alike, heap_mask, alike_of, mask_of_alike, fit_of, holder_same, none_not, holds_in}
 
 -- items that don't overlap stay so with the same front
-apart_stays : (p q : List ℕ) → Head p → SameFront p q → AreApart p → AreApart q
+pub apart_stays : (p q : List ℕ) → Head p → SameFront p q → AreApart p → AreApart q
 apart_stays p q h same apart = λ j k lt there some_j some_k.
     let n = Front.count_same p q h same in
     let lt_k : k < count p = omega (arith, n) in
@@ -44,7 +44,7 @@ module _ (block k : ℕ) (change : List ℕ → List ℕ) (law : ItemChange bloc
   front_stays : (p : List ℕ) (i : ℕ) → Editable k p → i < pd_upper p → byte (edited k change p) i ≡ byte p i
   front_stays p i e lt = let at = inside p e in byte-splice_below p (lp_off p k) (change (item p k)) i (room p e) (omega (arith, at.from))
 
-  same_front : (p : List ℕ) → Editable k p → SameFront p (edited k change p)
+  pub same_front : (p : List ℕ) → Editable k p → SameFront p (edited k change p)
   same_front p e = record {
     head = λ i le lt. front_stays p i e (omega (arith, e.page.head.low, e.page.head.mid));
     lines = λ i le lt. front_stays p i e (omega (arith, e.page.head.mid));

@@ -17,7 +17,8 @@ use Rattle.page_layout.proofs.LineOut.{skip, skip_below}
 use Rattle.page_layout.proofs.ItemOut.{ItemOut, item_out}
 use Rattle.page_layout.proofs.ItemsStay.{formed_without, apart_without}
 use Rattle.page_laws.specs.Views.{KeepsItems, GainsItem, LosesItem}
-use Rattle.page_laws.proofs.AddViews.{Adds, added_formed, added_flags, added_len, added_item, kept_flags, kept_len, kept_item, old_or_new, added_there}
+use Rattle.page_laws.proofs.AddViews.{Adds, added_formed, kept_flags, kept_len, kept_item, old_or_new, lays}
+use Rattle.page_laws.proofs.AddedBytes.{added_flags, added_len, added_item, added_there}
 use Rattle.page_laws.proofs.PackLaw.{packed_formed, packed_count, packed_flags, packed_len, packed_item}
 
 skip_not : (k j : ℕ) → skip k j ≢ k
@@ -99,10 +100,10 @@ pack_keeps p f room = record {
 pub add_gains : (p bytes : List ℕ) (k lower upper : ℕ) → Adds p bytes k lower upper → GainsItem p k bytes (added_at p bytes k lower upper)
 add_gains p bytes k lower upper a = record {
   formed = added_formed p bytes k lower upper a;
-  there = added_there p bytes k lower upper a;
-  normal = added_flags p bytes k lower upper a;
-  len = added_len p bytes k lower upper a;
-  held = added_item p bytes k lower upper a;
+  there = added_there p bytes k lower upper (lays p bytes k lower upper a);
+  normal = added_flags p bytes k lower upper (lays p bytes k lower upper a);
+  len = added_len p bytes k lower upper (lays p bytes k lower upper a);
+  held = added_item p bytes k lower upper (lays p bytes k lower upper a);
   others = λ j ne lt. let old = old_or_new p bytes k lower upper a j lt ne in
       record { flags = kept_flags p bytes k lower upper a j ne old; len = kept_len p bytes k lower upper a j ne old; item = λ some. kept_item p bytes k lower upper a j ne old some };
 }

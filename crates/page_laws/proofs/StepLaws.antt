@@ -24,7 +24,7 @@ use Rattle.page_laws.proofs.SetLineLaw.{set_formed, set_same, set_alike, set_spe
 heap_masks : (block : ℕ) (p q : List ℕ) → HeapPage p → HeapPage q → mask block p ≡ mask block q → heap_mask block p ≡ heap_mask block q
 heap_masks block p q hp hq same = sym (heap_mask_is block p (is_heap p hp)) ∙ same ∙ heap_mask_is block q (is_heap q hq)
 
-alike : (block : ℕ) (p q : List ℕ) → TrimmedHeap p → TrimmedHeap q → mask block p ≡ mask block q → PagesAlike block p q
+pub alike : (block : ℕ) (p q : List ℕ) → TrimmedHeap p → TrimmedHeap q → mask block p ≡ mask block q → PagesAlike block p q
 alike block p q tp tq same = pages_alike block p q tp.page tq.page (alike_of block p q tp.page tq.page (heap_masks block p q tp.page tq.page same) tp.apart tq.apart)
 
 -- a tuple changes where it lies
@@ -88,7 +88,7 @@ set_ready block (s ∷ settings) p q ok r =
       same = set_same s.index s.off s.flags ok.1 ok.2 block p q r.formed_p r.formed_q ok.0 r.same;
     })
 
-pack_is : (p : List ℕ) → IsFormed p → pack p ≡ refuse_or (if has_room p then None else Some NoRoom) (packed p)
+pub pack_is : (p : List ℕ) → IsFormed p → pack p ≡ refuse_or (if has_room p then None else Some NoRoom) (packed p)
 pack_is p f = rw (well p f.head f.lines) refl
 
 packed_results : (block : ℕ) (p q : List ℕ) → Ready block p q → SameResults block (pack p) (pack q)

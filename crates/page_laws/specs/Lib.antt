@@ -1,3 +1,4 @@
+pub mod Btree
 pub mod Change
 pub mod Results
 pub mod Steps

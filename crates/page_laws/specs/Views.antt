@@ -24,6 +24,16 @@ pub record GainsItem (p : List ℕ) (k : ℕ) (bytes : List ℕ) (q : List ℕ) 
   pub held : item q k ≡ bytes
   pub others : (j : ℕ) → j ≢ k → j < count q → SameItem p j q j
 
+-- line k is a new one with this item, the later lines follow it
+pub record InsertsItem (p : List ℕ) (k : ℕ) (bytes : List ℕ) (q : List ℕ) : Type 0 where
+  pub formed : IsFormed q
+  pub lines : count q ≡ count p + 1
+  pub there : k < count q
+  pub normal : lp_flags q k ≡ 1
+  pub len : lp_len q k ≡ length bytes
+  pub held : item q k ≡ bytes
+  pub others : (j : ℕ) → j ≢ k → j < count q → SameItem p (if nat_lt j k then j else j - 1) q j
+
 -- line k and its item are gone, the later lines follow
 pub record LosesItem (p : List ℕ) (k : ℕ) (q : List ℕ) : Type 0 where
   pub formed : IsFormed q

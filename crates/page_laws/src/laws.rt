@@ -1,8 +1,9 @@
-ghost use Rattle.std.specs.Prelude.{ℕ, ◌≡◌, ◌+◌, ◌<◌, ◌≤◌, List, length, true, IsTrue};
+ghost use Rattle.std.specs.Prelude.{ℕ, ◌≡◌, ◌+◌, ◌<◌, ◌≤◌, List, length, true, Ok, IsTrue};
+ghost use Rattle.page_layout.specs.Bytes.{word, splice, with_word};
 ghost use Rattle.page_layout.specs.Page.{count, lp_flags, lp_len};
 ghost use Rattle.page_layout.specs.Edits.{with_pointer, add_item, trimmed};
 ghost use Rattle.page_layout.specs.Pack.{pack};
-ghost use Rattle.page_masks.specs.Mask.{mask};
+ghost use Rattle.page_masks.specs.Mask.{mask, masked_infomask};
 ghost use Rattle.page_masks.specs.Shapes.{HeapPage, IsHeap};
 ghost use Rattle.page_masks.specs.Sound.{is_sound};
 ghost use Rattle.page_laws.specs.Change.{edited, ItemChange};
@@ -56,4 +57,39 @@ pub fn prune_respects()
 pub fn trims_alike()
     ensures { (block : ℕ) (p q : List ℕ) → IsHeap p → IsTrue (is_sound p) → length q ≡ 8192 →
         mask block p ≡ mask block q → TrimmedHeap (trimmed p) × TrimmedHeap (trimmed q) }
+{}
+
+/// What a step leaves of a page that the steps' laws speak of is such a page again: at once, or
+/// once it is trimmed.
+pub fn heap_steps_keep()
+    ensures head { (p q : List ℕ) → TrimmedHeap p → OnlyHead p q → TrimmedHeap q }
+    ensures edit { (block k : ℕ) (change : List ℕ → List ℕ) (p : List ℕ) →
+        ItemChange block (k + 1) change → TrimmedHeap p → k < count p → 23 ≤ lp_len p k →
+        TrimmedHeap (edited k change p) }
+    ensures add { (place : ℕ) (p bytes r : List ℕ) → TrimmedHeap p →
+        add_item p bytes place true ≡ Ok r → TrimmedHeap r }
+    ensures empty_line { (k off flags : ℕ) (p : List ℕ) → off < 32768 → flags < 4 →
+        TrimmedHeap p → k < count p →
+        IsHeap (with_pointer p k off flags 0) × TrimmedHeap (trimmed (with_pointer p k off flags 0)) }
+    ensures prune { (settings : List Setting) (p r : List ℕ) → TrimmedHeap p →
+        AreSettings (count p) settings → pack (lines_set settings p) ≡ Ok r →
+        IsHeap r × TrimmedHeap (trimmed r) }
+{}
+
+/// Changes of a tuple that its mask determines: bytes over those below 12, an address, the second
+/// infomask by a function, the first by one that what shows of it determines, and one change after
+/// another.
+pub fn tuple_changes()
+    ensures low { (block place at : ℕ) (bytes : List ℕ) → at + length bytes ≤ 12 →
+        ItemChange block place (λ x. splice x at bytes) }
+    ensures address { (block place : ℕ) (bytes : List ℕ) → length bytes ≡ 6 →
+        ItemChange block place (λ x. splice x 12 bytes) }
+    ensures infomask2 { (block place : ℕ) (g : ℕ → ℕ) →
+        ItemChange block place (λ x. with_word x 18 (g (word x 18))) }
+    ensures infomask { (block place : ℕ) (g : ℕ → ℕ) →
+        ((v w : ℕ) → masked_infomask v ≡ masked_infomask w →
+        masked_infomask (g v) ≡ masked_infomask (g w)) →
+        ItemChange block place (λ x. with_word x 20 (g (word x 20))) }
+    ensures both { (block place : ℕ) (f g : List ℕ → List ℕ) → ItemChange block place f →
+        ItemChange block place g → ItemChange block place (λ x. g (f x)) }
 {}

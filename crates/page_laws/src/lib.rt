@@ -1,10 +1,18 @@
-//! Laws of the masks for the steps that redo of heap records is made of.
+//! Laws of the masks for the steps that redo of heap and B-tree records is made of.
 #![tactic(auto)]
 
+mod btree;
 mod laws;
+mod operations;
 mod views;
 
-pub use laws::{
-    add_respects, edit_respects, empty_line_respects, prune_respects, trims_alike, unshown,
+pub use btree::{
+    btree_add_respects, btree_delete_respects, btree_init_respects, btree_kind, btree_shown,
+    btree_special_respects, special_changes,
 };
+pub use laws::{
+    add_respects, edit_respects, empty_line_respects, heap_steps_keep, prune_respects, trims_alike,
+    tuple_changes, unshown,
+};
+pub use operations::{choosing_respects, refusing_respects, steps_are_an_operation};
 pub use views::{a_deletion_keeps_the_others, an_addition_keeps_the_others, pack_keeps_items};

@@ -1,0 +1,227 @@
+-- The bytes below an item moved over it, and the lines that point there: on B-tree pages that look alike.
+use Rattle.std.proofs.Common.{◌≡◌, ◌≢◌, ℕ, zero, suc, ◌+◌, ◌-◌, ◌*◌, ◌/◌, ◌%◌, ◌<◌, ◌≤◌, ◌==◌, ◌&&◌, inl, inr, ⊎_elim, List, Bool, true, false, length, refl, sym, ◌∙◌, ap, subst, arith}
+use Rattle.std.specs.Prelude.{if◌then◌else◌, nat_lt, nat_le}
+use Rattle.std.proofs.lemmas.Bool.Decides.{nat_tests, eqb_tells, leb_tells}
+use Rattle.page_layout.specs.Bytes.{byte, splice, word_bytes, cut, up8}
+use Rattle.page_layout.specs.Page.{pd_lower, pd_upper, count, lp_off, lp_flags, lp_len, ItemIn}
+use Rattle.page_layout.specs.Edits.{with_pointer}
+use Rattle.page_layout.specs.Deletes.{raised, moved_line, moved_lines, closed_up}
+use Rattle.page_layout.proofs.BytesLemmas.{length-splice, length-cut, byte-splice_in, byte-splice_out, byte-splice_below}
+use Rattle.page_layout.proofs.LineViews.{byte_other, pointer_size}
+use Rattle.page_layout.proofs.ShapeLemmas.{held_in, flags_small}
+use Rattle.page_layout.proofs.ClosedUp.{ClosedUp, closed_up_is}
+use Rattle.page_masks.specs.Mask.{is_leaf}
+use Rattle.page_laws.specs.Btree.{BtreePage}
+use Rattle.page_laws.proofs.BtreeAdd.{btree_formed}
+use Rattle.page_laws.proofs.BtreeAlike.{shown_line, LinesAlike, BtreeAlike, off_alike, len_alike, flags_alike, lower_same, upper_same, count_same}
+use Rattle.page_laws.proofs.BtreeLines.{pointer_alike}
+use Rattle.page_laws.proofs.BtreeShown.{same_off, same_len}
+
+-- the front of a page whose items were raised
+module _ (p : List ℕ) (at size : ℕ) (size_p : length p ≡ 8192) (low : 24 ≤ pd_upper p) (above : pd_upper p ≤ at) (fits : at + size ≤ 8192) where
+  abbrev part : List ℕ
+  part = cut p (pd_upper p) (at - pd_upper p)
+
+  abbrev laid : List ℕ
+  laid = splice p (pd_upper p + size) part
+
+  part_size : length part ≡ at - pd_upper p
+  part_size = length-cut p (pd_upper p) (at - pd_upper p) (omega (arith, size_p, above, fits))
+
+  part_fits : pd_upper p + size + length part ≤ length p
+  part_fits = omega (arith, part_size, size_p, above, fits)
+
+  laid_size : length laid ≡ 8192
+  laid_size = length-splice p (pd_upper p + size) part part_fits ∙ size_p
+
+  raised_size : length (raised p at size) ≡ 8192
+  raised_size = length-splice laid 14 (word_bytes (pd_upper p + size)) (omega (arith, laid_size)) ∙ laid_size
+
+  raised_front : (i : ℕ) → 16 ≤ i → i < pd_upper p + size → byte (raised p at size) i ≡ byte p i
+  raised_front i le lt = byte-splice_out laid 14 (word_bytes (pd_upper p + size)) i (omega (arith, laid_size)) (inr le) ∙ byte-splice_below p (pd_upper p + size) part i part_fits lt
+
+  raised_top : (i : ℕ) → 14 ≤ i → i < 16 → byte (raised p at size) i ≡ byte (word_bytes (pd_upper p + size)) (i - 14)
+  raised_top i le lt = byte-splice_in laid 14 (word_bytes (pd_upper p + size)) i (omega (arith, laid_size)) le lt
+
+-- one line, moved or not
+module _ (at size n : ℕ) (fits : at + size ≤ 8192) (room : 28 + 4 * n ≤ 8192) where
+  record Moved (page new : List ℕ) : Type 0 where
+    size8 : length new ≡ 8192
+    head : (i : ℕ) → i < 24 → byte new i ≡ byte page i
+
+  moved_one : (page : List ℕ) → length page ≡ 8192 → Moved page (moved_line at size n page)
+  moved_one page is = by_case (nat_lt 0 (lp_len page n) && nat_lt (lp_off page n) at) refl
+    where
+      by_case : (b : Bool) → (nat_lt 0 (lp_len page n) && nat_lt (lp_off page n) at) ≡ b → Moved page (if b then with_pointer page n (lp_off page n + size) (lp_flags page n) (lp_len page n) else page)
+      by_case true e =
+          let lt : lp_off page n < at = grind (arith, nat_tests, e) in
+          record {
+            size8 = pointer_size page n (lp_off page n + size) (lp_flags page n) (lp_len page n) (omega (arith, is, room)) (omega (arith, lt, fits)) (flags_small page n) ∙ is;
+            head = λ i low. byte_other page n (lp_off page n + size) (lp_flags page n) (lp_len page n) (omega (arith, is, room)) (omega (arith, lt, fits)) (flags_small page n) i (inl (omega (arith, low)));
+          }
+      by_case false e = record { size8 = is; head = λ i low. refl }
+
+  moved_alike : (leaf : Bool) (lower : ℕ) (a b : List ℕ) → length a ≡ 8192 → length b ≡ 8192 → 28 + 4 * n ≤ lower → LinesAlike leaf lower a b → LinesAlike leaf lower (moved_line at size n a) (moved_line at size n b)
+  moved_alike leaf lower a b size_a size_b there s = by_case (nat_lt 0 (lp_len a n) && nat_lt (lp_off a n) at) refl
+    where
+      off : lp_off a n ≡ lp_off b n
+      off = off_alike leaf lower a b s n there
+
+      len : lp_len a n ≡ lp_len b n
+      len = len_alike leaf lower a b s n there
+
+      kinds : (l : Bool) → LinesAlike l lower a b → l ≡ false → lp_flags a n ≡ lp_flags b n
+      kinds true t e = cc e
+      kinds false t e = flags_alike lower a b t n there
+
+      moves_b : List ℕ
+      moves_b = with_pointer b n (lp_off b n + size) (lp_flags b n) (lp_len b n)
+
+      by_case : (c : Bool) → (nat_lt 0 (lp_len a n) && nat_lt (lp_off a n) at) ≡ c → LinesAlike leaf lower (if c then with_pointer a n (lp_off a n + size) (lp_flags a n) (lp_len a n) else a) (moved_line at size n b)
+      by_case true e =
+          let lt : lp_off a n < at = grind (arith, nat_tests, e) in
+          let e_b : (nat_lt 0 (lp_len b n) && nat_lt (lp_off b n) at) ≡ true = rw (← len, ← off) e in
+          let is_b : moved_line at size n b ≡ with_pointer b n (lp_off a n + size) (lp_flags b n) (lp_len a n) = rw e_b (λ t. with_pointer b n (sym off t + size) (lp_flags b n) (sym len t)) in
+          subst (LinesAlike leaf lower (with_pointer a n (lp_off a n + size) (lp_flags a n) (lp_len a n))) (sym is_b)
+          (pointer_alike leaf lower a b s n (lp_off a n + size) (lp_flags a n) (lp_flags b n) (lp_len a n) (omega (arith, size_a, room)) (omega (arith, size_b, room)) (omega (arith, lt, fits)) (flags_small a n) (flags_small b n) (kinds leaf s))
+      by_case false e =
+          let e_b : (nat_lt 0 (lp_len b n) && nat_lt (lp_off b n) at) ≡ false = rw (← len, ← off) e in
+          let is_b : moved_line at size n b ≡ b = rw e_b refl in
+          subst (LinesAlike leaf lower a) (sym is_b) s
+
+-- the first n lines
+module _ (at size : ℕ) (fits : at + size ≤ 8192) (r : List ℕ) (size_r : length r ≡ 8192) where
+  record MovedAll (new : List ℕ) : Type 0 where
+    size8 : length new ≡ 8192
+    head : (i : ℕ) → i < 24 → byte new i ≡ byte r i
+
+  moved_all : (n : ℕ) → 24 + 4 * n ≤ 8192 → MovedAll (moved_lines r at size n)
+  moved_all zero le = record { size8 = size_r; head = λ i lt. refl }
+  moved_all (suc n) le =
+      let m = moved_all n (omega (arith, le)) in
+      let o = moved_one at size n fits (omega (arith, le)) (moved_lines r at size n) m.size8 in
+      record { size8 = o.size8; head = λ i lt. o.head i lt ∙ m.head i lt }
+
+all_alike : (at size : ℕ) → at + size ≤ 8192 → (leaf : Bool) (lower : ℕ) (a b : List ℕ) → length a ≡ 8192 → length b ≡ 8192 → lower ≤ 8192 → LinesAlike leaf lower a b
+    → (n : ℕ) → 24 + 4 * n ≤ lower → LinesAlike leaf lower (moved_lines a at size n) (moved_lines b at size n)
+all_alike at size fits leaf lower a b size_a size_b top s zero le = s
+all_alike at size fits leaf lower a b size_a size_b top s (suc n) le =
+    moved_alike at size n fits (omega (arith, le, top)) leaf lower (moved_lines a at size n) (moved_lines b at size n)
+    (moved_all at size fits a size_a n (omega (arith, le, top))).size8 (moved_all at size fits b size_b n (omega (arith, le, top))).size8 (omega (arith, le))
+    (all_alike at size fits leaf lower a b size_a size_b top s n (omega (arith, le)))
+
+-- what the front of a closed page is
+module _ (p : List ℕ) (h : BtreePage p) (k : ℕ) (there : k < count p) (some : 0 < lp_len p k) where
+  abbrev at : ℕ
+  at = lp_off p k
+
+  abbrev size : ℕ
+  size = up8 (lp_len p k)
+
+  abbrev r : List ℕ
+  r = raised p at size
+
+  i_k : ItemIn p k
+  i_k = held_in p k (btree_formed p h) there some
+
+  pub item_fits : at + size ≤ 8176
+  item_fits = omega (arith, i_k.held, h.page.special)
+
+  low : 24 ≤ pd_upper p
+  low = omega (arith, h.page.head.low, h.page.head.mid)
+
+  lines_room : 24 + 4 * count p ≤ pd_lower p
+  lines_room = omega (arith, h.page.head.low, h.page.head.by4)
+
+  pub r_size : length r ≡ 8192
+  r_size = raised_size p at size h.page.size low i_k.from (omega (arith, item_fits))
+
+  pub r_front : (i : ℕ) → 24 ≤ i → i < pd_lower p → byte r i ≡ byte p i
+  r_front i le lt = raised_front p at size h.page.size low i_k.from (omega (arith, item_fits)) i (omega (arith, le)) (omega (arith, lt, h.page.head.mid))
+
+  pub closed_is : closed_up p k ≡ moved_lines r at size (count p)
+  closed_is = let sure : nat_lt 0 (lp_len p k) ≡ true = grind (arith, nat_tests, some) in rw sure refl
+
+  pub closed_top : (i : ℕ) → 14 ≤ i → i < 16 → byte (closed_up p k) i ≡ byte (word_bytes (pd_upper p + size)) (i - 14)
+  closed_top i le lt = ap (λ x. byte x i) closed_is ∙ (moved_all at size (omega (arith, item_fits)) r r_size (count p) (omega (arith, lines_room, h.page.head.mid, h.page.head.high, h.page.head.top))).head i (omega (arith, lt))
+      ∙ raised_top p at size h.page.size low i_k.from (omega (arith, item_fits)) i le lt
+
+  pub closed : ClosedUp p k (closed_up p k)
+  closed = closed_up_is p k (btree_formed p h) there some
+
+module _ (p q : List ℕ) (hp : BtreePage p) (hq : BtreePage q) (k : ℕ) (there : k < count p) (a : BtreeAlike p q) where
+  there_q : k < count q
+  there_q = omega (arith, there, count_same p q a)
+
+  off : lp_off p k ≡ lp_off q k
+  off = same_off p q hp hq a k there
+
+  len : lp_len p k ≡ lp_len q k
+  len = same_len p q hp hq a k there
+
+  lowers : pd_lower p ≡ pd_lower q
+  lowers = lower_same p q a
+
+  uppers : pd_upper p ≡ pd_upper q
+  uppers = upper_same p q a
+
+  with_some : 0 < lp_len p k → BtreeAlike (closed_up p k) (closed_up q k)
+  with_some some =
+      record {
+        ten = (λ t. cp.low 10 (omega arith) t / 8 * 8) ∙ a.ten ∙ (λ t. sym (cq.low 10 (omega arith)) t / 8 * 8);
+        head = λ i le lt. ⊎_elim
+            (λ (x : (nat_le 16 i ≡ true) × (16 ≤ i)). cp.head i x.1 (omega (arith, lt)) ∙ a.head i le lt ∙ sym (cq.head i x.1 (omega (arith, lt))))
+            (λ (f : (nat_le 16 i ≡ false) × (i < 16)). ⊎_elim
+            (λ (x : (nat_le 14 i ≡ true) × (14 ≤ i)). closed_top p hp k there some i x.1 f.1 ∙ (λ t. byte (word_bytes (uppers t + up8 (len t))) (i - 14)) ∙ sym (closed_top q hq k there_q some_q i x.1 f.1))
+            (λ (g : (nat_le 14 i ≡ false) × (i < 14)). cp.low i g.1 ∙ a.head i le lt ∙ sym (cq.low i g.1))
+            (leb_tells 14 i))
+            (leb_tells 16 i);
+        lines = λ i le lt. ap (λ n. shown_line (n % 2 == 1) i (byte (closed_up p k) i)) (end_p 8188 (omega arith)) ∙ lines i le (omega (arith, lt, cp.lower)) ∙ ap (λ n. shown_line (n % 2 == 1) i (byte (closed_up q k) i)) (sym (end_p 8188 (omega arith)));
+        items = λ i le lt. ⊎_elim
+            (λ (x : (nat_le (lp_off p k + up8 (lp_len p k)) i ≡ true) × (lp_off p k + up8 (lp_len p k) ≤ i)). cp.above i x.1 ∙ a.items i (omega (arith, le, cp.upper)) lt ∙ sym (cq.above i (omega (arith, x.1, off, len))))
+            (λ (f : (nat_le (lp_off p k + up8 (lp_len p k)) i ≡ false) × (i < lp_off p k + up8 (lp_len p k))). cp.moved i (omega (arith, le, cp.upper)) f.1 ∙ a.items (i - up8 (lp_len p k)) (omega (arith, le, cp.upper)) (omega (arith, lt))
+            ∙ ap (λ n. byte q (i - up8 n)) len ∙ sym (cq.moved i (omega (arith, le, cp.upper, uppers, len)) (omega (arith, f.1, off, len))))
+            (leb_tells (lp_off p k + up8 (lp_len p k)) i);
+        flags = (λ t. end_p 8188 (omega arith) t / 128 * 128 + end_p 8188 (omega arith) t % 32) ∙ a.flags ∙ (λ t. sym (end_q 8188 (omega arith)) t / 128 * 128 + sym (end_q 8188 (omega arith)) t % 32);
+        last = end_p 8189 (omega arith) ∙ a.last ∙ sym (end_q 8189 (omega arith));
+      }
+    where
+      some_q : 0 < lp_len q k
+      some_q = omega (arith, some, len)
+
+      cp : ClosedUp p k (closed_up p k)
+      cp = closed p hp k there some
+
+      cq : ClosedUp q k (closed_up q k)
+      cq = closed q hq k there_q some_q
+
+      fit : lp_off p k + up8 (lp_len p k) ≤ 8176
+      fit = item_fits p hp k there some
+
+      end_p : (i : ℕ) → 8188 ≤ i → byte (closed_up p k) i ≡ byte p i
+      end_p i le = cp.above i (omega (arith, le, fit))
+
+      end_q : (i : ℕ) → 8188 ≤ i → byte (closed_up q k) i ≡ byte q i
+      end_q i le = cq.above i (omega (arith, le, fit, off, len))
+
+      raised_q : moved_lines (raised q (lp_off q k) (up8 (lp_len q k))) (lp_off q k) (up8 (lp_len q k)) (count q) ≡ moved_lines (raised q (lp_off q k) (up8 (lp_len q k))) (lp_off p k) (up8 (lp_len p k)) (count p)
+      raised_q = λ t. moved_lines (raised q (lp_off q k) (up8 (lp_len q k))) (sym off t) (up8 (sym len t)) (sym (count_same p q a) t)
+
+      lines : LinesAlike (is_leaf p) (pd_lower p) (closed_up p k) (closed_up q k)
+      lines =
+          let s : LinesAlike (is_leaf p) (pd_lower p) (raised p (lp_off p k) (up8 (lp_len p k))) (raised q (lp_off q k) (up8 (lp_len q k))) =
+          λ i le lt. ap (shown_line (is_leaf p) i) (r_front p hp k there some i le lt) ∙ a.lines i le lt ∙ ap (shown_line (is_leaf p) i) (sym (r_front q hq k there_q some_q i le (omega (arith, lt, lowers)))) in
+          let top : pd_lower p ≤ 8192 = omega (arith, hp.page.head.mid, hp.page.head.high, hp.page.head.top) in
+          subst (λ x. LinesAlike (is_leaf p) (pd_lower p) x (closed_up q k)) (sym (closed_is p hp k there some))
+          (subst (LinesAlike (is_leaf p) (pd_lower p) (moved_lines (raised p (lp_off p k) (up8 (lp_len p k))) (lp_off p k) (up8 (lp_len p k)) (count p))) (sym (closed_is q hq k there_q some_q ∙ raised_q))
+          (all_alike (lp_off p k) (up8 (lp_len p k)) (omega (arith, fit)) (is_leaf p) (pd_lower p) (raised p (lp_off p k) (up8 (lp_len p k))) (raised q (lp_off q k) (up8 (lp_len q k)))
+          (r_size p hp k there some) (r_size q hq k there_q some_q) top s (count p) (omega (arith, hp.page.head.low, hp.page.head.by4))))
+
+  pub closed_alike : BtreeAlike (closed_up p k) (closed_up q k)
+  closed_alike = ⊎_elim
+      (λ (t : ((lp_len p k == 0) ≡ true) × (lp_len p k ≡ 0)).
+      let no : nat_lt 0 (lp_len p k) ≡ false = grind (arith, nat_tests, t.1) in
+      let no_q : nat_lt 0 (lp_len q k) ≡ false = grind (arith, nat_tests, t.1, len) in
+      rw (no, no_q) a)
+      (λ (n : ((lp_len p k == 0) ≡ false) × (lp_len p k ≢ 0)). with_some (omega (arith, n.1)))
+      (eqb_tells (lp_len p k) 0)

@@ -1,0 +1,32 @@
+-- Changes of a heap tuple that its mask determines.
+use Rattle.std.proofs.Common.{◌≡◌, ℕ, ◌+◌, ◌≤◌, List, length, sym, ◌∙◌, arith}
+use Rattle.page_layout.specs.Bytes.{word, splice, with_word, word_bytes}
+use Rattle.page_layout.proofs.BytesLemmas.{length-splice}
+use Rattle.page_masks.specs.Mask.{masked_infomask}
+use Rattle.page_laws.specs.Change.{ItemChange}
+use Rattle.page_laws.proofs.TupleLaw.{TupleAlike, tuple_alike, alike_masks, put_low, put_tid, put_bits2, put_bits}
+
+change_of : (block place : ℕ) (change : List ℕ → List ℕ) → ((x : List ℕ) → 23 ≤ length x → length (change x) ≡ length x) → ((x y : List ℕ) → TupleAlike block place x y → TupleAlike block place (change x) (change y)) → ItemChange block place change
+change_of block place change size keeps = record {
+  size = size;
+  mask = λ x y long same alike. alike_masks block place (change x) (change y) (keeps x y (tuple_alike block place x y long same alike));
+}
+
+pub low_change : (block place at : ℕ) (bytes : List ℕ) → at + length bytes ≤ 12 → ItemChange block place (λ x. splice x at bytes)
+low_change block place at bytes low = change_of block place (λ x. splice x at bytes) (λ x long. length-splice x at bytes (omega (arith, low, long))) (λ x y a. put_low block place x y at bytes low a)
+
+pub address_change : (block place : ℕ) (bytes : List ℕ) → length bytes ≡ 6 → ItemChange block place (λ x. splice x 12 bytes)
+address_change block place bytes six = change_of block place (λ x. splice x 12 bytes) (λ x long. length-splice x 12 bytes (omega (arith, six, long))) (λ x y a. put_tid block place x y bytes six a)
+
+pub infomask2_change : (block place : ℕ) (g : ℕ → ℕ) → ItemChange block place (λ x. with_word x 18 (g (word x 18)))
+infomask2_change block place g = change_of block place (λ x. with_word x 18 (g (word x 18))) (λ x long. length-splice x 18 (word_bytes (g (word x 18))) (omega (arith, long))) (λ x y a. put_bits2 block place g x y a)
+
+pub infomask_change : (block place : ℕ) (g : ℕ → ℕ) → ((v w : ℕ) → masked_infomask v ≡ masked_infomask w → masked_infomask (g v) ≡ masked_infomask (g w)) → ItemChange block place (λ x. with_word x 20 (g (word x 20)))
+infomask_change block place g law = change_of block place (λ x. with_word x 20 (g (word x 20))) (λ x long. length-splice x 20 (word_bytes (g (word x 20))) (omega (arith, long))) (λ x y a. put_bits block place g x y law a)
+
+pub both_changes : (block place : ℕ) (f g : List ℕ → List ℕ) → ItemChange block place f → ItemChange block place g → ItemChange block place (λ x. g (f x))
+both_changes block place f g a b = record {
+  size = λ x long. b.size (f x) (omega (arith, a.size x long, long)) ∙ a.size x long;
+  mask = λ x y long same alike.
+      b.mask (f x) (f y) (omega (arith, a.size x long, long)) (a.size x long ∙ same ∙ sym (a.size y (omega (arith, long, same)))) (a.mask x y long same alike);
+}

@@ -1,0 +1,17 @@
+use Rattle.page_laws.proofs.HeapSteps.{head_keeps, edit_keeps, add_keeps_heap, line_keeps, prune_keeps}
+use Rattle.page_laws.proofs.laws.heap_steps_keep.Goals as goal
+
+pub returns-clause-head : goal.returns-clause-head
+returns-clause-head c = head_keeps
+
+pub returns-clause-edit : goal.returns-clause-edit
+returns-clause-edit c = edit_keeps
+
+pub returns-clause-add : goal.returns-clause-add
+returns-clause-add c = add_keeps_heap
+
+pub returns-clause-empty_line : goal.returns-clause-empty_line
+returns-clause-empty_line c = line_keeps
+
+pub returns-clause-prune : goal.returns-clause-prune
+returns-clause-prune c = prune_keeps
