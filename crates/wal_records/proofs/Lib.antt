@@ -1,0 +1,11 @@
+pub mod FurtherLemmas
+pub mod ExtentLemmas
+pub mod PlaceLemmas
+pub mod ReadingLemmas
+pub mod PartLemmas
+pub mod LogLemmas
+pub mod PayloadLemmas
+pub mod SpellsLemmas
+pub mod RelationLemmas
+pub mod FactLemmas
+pub mod ViewLemmas

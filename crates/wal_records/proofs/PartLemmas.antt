@@ -1,0 +1,130 @@
+-- The bytes of a record, as they grow page by page.
+use Rattle.std.proofs.Common.{◌≡◌, ℕ, zero, suc, ◌+◌, ◌-◌, ◌*◌, ◌%◌, ◌<◌, ◌≤◌, min, List, ◌++◌, take, drop, length, get_or, slice_index, refl, sym, ap, ◌∙◌, subst, arith, length-append, length-drop}
+use Rattle.std.proofs.lemmas.List.{take-append-drop, take-append-le, drop-append-le, get_or_append_left, length-take, take_all}
+use Rattle.std.proofs.Math.Seq.{take-append_seam, take-length}
+use Rattle.layout.specs.Readers.{byte_at, word_at, long_at}
+use Rattle.wal_records.specs.Header.{greatest_total}
+use Rattle.wal_records.specs.Reading.{record_of}
+use Rattle.wal_records.specs.Cursor.{IsWhole}
+use Rattle.wal_records.specs.Steps.{Grows, IsPart, HasFirst, IsAll}
+
+-- what stands at the front of some bytes stands there still when more are added
+word_front_0 : (xs ys : List ℕ) → 4 ≤ length xs → word_at 0 (xs ++ ys) ≡ word_at 0 xs
+unfolding word_at
+word_front_0 xs ys h =
+    let e0 = get_or_append_left xs ys 0 0 (omega arith) in
+    let e1 = get_or_append_left xs ys 0 1 (omega arith) in
+    let e2 = get_or_append_left xs ys 0 2 (omega arith) in
+    let e3 = get_or_append_left xs ys 0 3 (omega arith) in
+    cc
+
+long_front_0 : (xs ys : List ℕ) → 8 ≤ length xs → long_at 0 (xs ++ ys) ≡ long_at 0 xs
+unfolding long_at
+long_front_0 xs ys h =
+    let e0 = get_or_append_left xs ys 0 0 (omega arith) in
+    let e1 = get_or_append_left xs ys 0 1 (omega arith) in
+    let e2 = get_or_append_left xs ys 0 2 (omega arith) in
+    let e3 = get_or_append_left xs ys 0 3 (omega arith) in
+    let e4 = get_or_append_left xs ys 0 4 (omega arith) in
+    let e5 = get_or_append_left xs ys 0 5 (omega arith) in
+    let e6 = get_or_append_left xs ys 0 6 (omega arith) in
+    let e7 = get_or_append_left xs ys 0 7 (omega arith) in
+    cc
+
+word_dropped : (at : ℕ) (xs : List ℕ) → word_at at xs ≡ word_at 0 (drop at xs)
+unfolding word_at
+word_dropped at xs = refl
+
+long_dropped : (at : ℕ) (xs : List ℕ) → long_at at xs ≡ long_at 0 (drop at xs)
+unfolding long_at
+long_dropped at xs = refl
+
+pub word_front : (at : ℕ) (xs ys : List ℕ) → at + 4 ≤ length xs → word_at at (xs ++ ys) ≡ word_at at xs
+word_front at xs ys h =
+    word_dropped at (xs ++ ys) ∙ ap (word_at 0) (drop-append-le at xs ys (omega arith))
+    ∙ word_front_0 (drop at xs) ys (omega (arith, length-drop at xs)) ∙ sym (word_dropped at xs)
+
+pub long_front : (at : ℕ) (xs ys : List ℕ) → at + 8 ≤ length xs → long_at at (xs ++ ys) ≡ long_at at xs
+long_front at xs ys h =
+    long_dropped at (xs ++ ys) ∙ ap (long_at 0) (drop-append-le at xs ys (omega arith))
+    ∙ long_front_0 (drop at xs) ys (omega (arith, length-drop at xs)) ∙ sym (long_dropped at xs)
+
+pub byte_front : (at : ℕ) (xs ys : List ℕ) → at < length xs → byte_at at (xs ++ ys) ≡ byte_at at xs
+unfolding byte_at
+byte_front at xs ys h = get_or_append_left xs ys 0 at h
+
+-- the word at an offset is the first one of what stands there
+pub word_taken : (at total : ℕ) (page : List ℕ) → 4 ≤ length (take total (drop at page)) → word_at 0 (take total (drop at page)) ≡ word_at at page
+word_taken at total page h =
+    sym (word_front_0 (take total (drop at page)) (drop total (drop at page)) h)
+    ∙ ap (word_at 0) (take-append-drop total (drop at page))
+    ∙ sym (word_dropped at page)
+
+whole_of : (old new : List ℕ) → take (length old) new ≡ old → new ≡ old ++ drop (length old) new
+whole_of old new e = sym (take-append-drop (length old) new) ∙ ap (λ xs. xs ++ drop (length old) new) e
+
+pub part_grows : (total more : ℕ) (old new : List ℕ) → IsPart total old → Grows old new more → IsPart total new
+part_grows total more old new part grows = record {
+  least = part.least;
+  greatest = part.greatest;
+  front = omega (arith, part.front, grows.size);
+  total_at = ap (word_at 0) (whole_of old new grows.front) ∙ word_front 0 old (drop (length old) new) part.front ∙ part.total_at;
+}
+
+pub grows_on : (a b c : List ℕ) (m n more : ℕ) → Grows a b m → Grows b c n → more ≡ m + n → Grows a c more
+grows_on a b c m n more first second e = record {
+  front =
+      ap (take (length a)) (whole_of b c second.front)
+      ∙ take-append-le (length a) b (drop (length b) c) (omega (arith, first.size))
+      ∙ first.front;
+  size = omega (arith, first.size, second.size, e);
+}
+
+pub grows_none : (a : List ℕ) → Grows a a 0
+grows_none a = record { front = take-length a; size = omega arith }
+
+pub grows_by : (old new more : List ℕ) (n : ℕ) → new ≡ old ++ more → length more ≡ n → Grows old new n
+grows_by old new more n e size = record {
+  front = ap (take (length old)) e ∙ take-append_seam old more;
+  size = ap length e ∙ length-append old more ∙ ap (λ k. length old + k) size;
+}
+
+pub first_part : (place total : ℕ) (page bytes : List ℕ) → length page ≡ 8192 → place % 8 ≡ 0 → 24 ≤ total → total ≤ greatest_total
+    → total ≡ word_at (place % 8192) page → bytes ≡ take total (drop (place % 8192) page) → HasFirst place total bytes
+first_part place total page bytes whole at least greatest is e =
+    let size : length (take total (drop (place % 8192) page)) ≡ min total (8192 - place % 8192) =
+    length-take total (drop (place % 8192) page) ∙ ap (min total) (length-drop (place % 8192) page ∙ ap (λ n. n - place % 8192) whole) in
+    let first : length bytes ≡ min total (8192 - place % 8192) = ap length e ∙ size in
+    let some : 4 ≤ length (take total (drop (place % 8192) page)) = omega (arith, size, at, least) in
+    record {
+      part = record {
+        least = least;
+        greatest = greatest;
+        front = omega (arith, first, size, some);
+        total_at = ap (word_at 0) e ∙ word_taken (place % 8192) total page some ∙ sym is;
+      };
+      first = first;
+      whole = at;
+    }
+
+pub all_there : (place end total : ℕ) (bytes : List ℕ) → IsPart total bytes → length bytes ≡ total → place + total ≤ end → IsAll place end bytes
+all_there place end total bytes part size up = record {
+  least = omega (arith, part.least, size);
+  greatest = omega (arith, part.greatest, size);
+  total = part.total_at ∙ sym size;
+  longer = omega (arith, size, up);
+}
+
+-- a slice up to the end of a list
+pub rest_whole : (bytes : List ℕ) → take (length bytes - 24) (drop 24 bytes) ≡ drop 24 bytes
+rest_whole bytes = take_all (length bytes - 24) (drop 24 bytes) (omega (arith, length-drop 24 bytes))
+
+-- a record that was found is whole
+pub whole_record : (at end : ℕ) (bytes : List ℕ) → IsAll at end bytes → IsWhole (record_of at end bytes)
+whole_record at end bytes all = record {
+  size = omega (arith, length-drop 24 bytes, all.least, all.total);
+  bound = omega (arith, length-drop 24 bytes, all.least, all.greatest);
+}
+
+pub part_of : (a b : ℕ) (bytes : List ℕ) → a ≡ b → IsPart a bytes → IsPart b bytes
+part_of a b bytes e part = let P : ℕ → Type 0 = λ n. IsPart n bytes in subst P e part

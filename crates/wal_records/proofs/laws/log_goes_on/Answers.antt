@@ -1,0 +1,9 @@
+use Rattle.std.proofs.Common.{ℕ, Option, ◌<◌, ◌^◌, arith}
+use Rattle.wal_base.specs.Segment.{bytes_of}
+use Rattle.wal_base.specs.declared.seg_size.SegSize.{SegSize}
+use Rattle.wal_records.specs.Further.{Pages}
+use Rattle.wal_records.proofs.LogLemmas.{log_next}
+use Rattle.wal_records.proofs.laws.log_goes_on.Goals as goal
+
+pub returns : goal.returns
+returns c = λ pages size before place low. log_next pages (bytes_of size) place before (omega (arith, size.is_size.least)) low

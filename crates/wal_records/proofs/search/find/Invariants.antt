@@ -1,0 +1,21 @@
+use Rattle.std.proofs.Common.{◌≡◌, ℕ, ◌-◌, ◌^◌, ◌≤◌, ◌<◌, IsTrue}
+use Rattle.cluster_tree.specs.Causes.{OnlyReads}
+use Rattle.wal_base.specs.Segment.{bytes_of}
+use Rattle.wal_records.specs.Further.{pages_of}
+use Rattle.wal_records.specs.Log.{log_from}
+use Rattle.wal_records.proofs.search.find.Given as goal
+
+abbrev pub invariant-pages : goal.invariant-pages
+invariant-pages g l =
+    let pages = pages_of l.fn.pages.log (g.F.Tree.contents l.fn.tree) in
+    let size = bytes_of l.fn.pages.log.size in
+    record {
+      log : l.pages.log ≡ l.fn.pages.log;
+      reads : OnlyReads g.F.Tree.contents g.F.Tree.calls g.F.Tree.failed_reads g.F.Tree.failed_changes l.fn.tree l.tree;
+      up : l.fn.place ≤ l.place;
+      low : l.place < 2 ^ 64;
+      on : IsTrue g.F.Tree.tells → log_from pages size l.before l.fn.place ≡ log_from pages size l.before l.place;
+    }
+
+abbrev pub decreases-pages : goal.decreases-pages
+decreases-pages g l = 2 ^ 64 - l.place

@@ -1,0 +1,10 @@
+pub mod Place
+pub mod Header
+pub mod Further
+pub mod Extent
+pub mod Reading
+pub mod Log
+pub mod Cursor
+pub mod Steps
+pub mod Spells
+pub mod Laws

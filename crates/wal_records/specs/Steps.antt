@@ -1,0 +1,122 @@
+-- What the steps of reading a record answer, held to the reading of its place.
+use Rattle.std.specs.Prelude.{◌≡◌, ℕ, ◌+◌, ◌-◌, ◌*◌, ◌%◌, ◌≤◌, min, List, [], ◌++◌, length, take, Option, Some, None, Result, Ok, Err}
+use Rattle.layout.specs.Readers.{word_at}
+use Rattle.wal_pages.specs.declared.header.PageHeader.{PageHeader}
+use Rattle.wal_pages.specs.Header.{header_of as page_header}
+use Rattle.wal_pages.specs.Page.{Refusal}
+use Rattle.wal_records.specs.declared.why.Why.{Why}
+use Rattle.wal_records.specs.declared.why.Stop.{Stop}
+use Rattle.wal_records.specs.declared.why.Stop.TheVariants.{Ends, Dropped}
+use Rattle.wal_records.specs.declared.opening.Opened.{Opened}
+use Rattle.wal_records.specs.declared.opening.Opened.TheVariants as opened
+use Rattle.wal_records.specs.declared.reading.Begun.{Begun}
+use Rattle.wal_records.specs.declared.reading.Begun.TheVariants as begun
+use Rattle.wal_records.specs.declared.reading.Found.{Found}
+use Rattle.wal_records.specs.declared.reading.Found.TheVariants as found
+use Rattle.wal_records.specs.declared.search.Sought.{Sought}
+use Rattle.wal_records.specs.declared.search.Sought.TheVariants as sought
+use Rattle.wal_records.specs.Place.{place_at}
+use Rattle.wal_records.specs.Header.{greatest_total}
+use Rattle.wal_records.specs.Further.{Pages, why_refused, FurtherPage, stop_at, piece, Gathered}
+use Rattle.wal_records.specs.Reading.{LogRecord, Reading, Spelled, Stopped, reading, after_first, record_of}
+use Rattle.wal_records.specs.Log.{Log, ended, with_first, log_from}
+
+-- why there is no page, if there is none
+abbrev pub page_why : Result (List ℕ) Refusal → Option Why
+page_why (Ok page) = None
+page_why (Err refusal) = Some (why_refused refusal)
+
+-- the page was opened, or is none for this reason
+abbrev pub Opens : Opened → List ℕ → Result (List ℕ) Refusal → Type 0
+Opens (opened.Page header) page found = found ≡ Ok page
+Opens (opened.Refused why) page found = page_why found ≡ Some why
+
+abbrev pub IsOpened : Opened → List ℕ → Type 0
+IsOpened (opened.Page header) page = (length page ≡ 8192) × (header ≡ page_header page)
+IsOpened (opened.Refused why) page = Unit {0}
+
+-- a call gave the stop, or left all bytes
+abbrev pub Gathers : Option Stop → List ℕ → Gathered → Type 0
+Gathers None bytes found = found ≡ record { stop = None; bytes = bytes }
+Gathers (Some stop) bytes found = found.stop ≡ Some stop
+
+-- a call gave why a record doesn't go on at a page, or added what the page has of it
+pub record Adds (stop : Option Stop) (old new : List ℕ) (pages : Pages) (size : ℕ) (page : FurtherPage) : Type 0 where
+  pub stop_is : stop_at pages page ≡ stop
+  pub bytes : stop ≡ None → new ≡ old ++ piece pages size page
+
+-- bytes were added at the end, so many of them
+pub record Grows (old new : List ℕ) (more : ℕ) : Type 0 where
+  pub front : take (length old) new ≡ old
+  pub size : length new ≡ length old + more
+
+-- the bytes of a record, so far, of which `total` are to be
+pub record IsPart (total : ℕ) (bytes : List ℕ) : Type 0 where
+  pub least : 24 ≤ total
+  pub greatest : total ≤ greatest_total
+  pub front : 4 ≤ length bytes
+  pub total_at : word_at 0 bytes ≡ total
+
+-- a call gave why a place spells no record, or left what its first page has of one
+abbrev pub Begins : Pages → ℕ → Option ℕ → ℕ → Begun → List ℕ → Type 0
+Begins pages size before place (begun.Stopped stop) bytes = reading pages size before place ≡ Stopped stop
+Begins pages size before place (begun.Total total) bytes = reading pages size before place ≡ after_first pages size before place total bytes
+
+-- what the first page has of a record: all that is there, or all that the record is
+pub record HasFirst (place total : ℕ) (bytes : List ℕ) : Type 0 where
+  pub part : IsPart total bytes
+  pub first : length bytes ≡ min total (8192 - place % 8192)
+  pub whole : place % 8 ≡ 0
+
+abbrev pub FirstFits : ℕ → Begun → List ℕ → Type 0
+FirstFits place (begun.Stopped stop) bytes = Unit {0}
+FirstFits place (begun.Total total) bytes = HasFirst place total bytes
+
+-- a call gave why a place spells no record, or left the bytes of one and gave its end
+abbrev pub Reads : ℕ → Found → List ℕ → Reading → Type 0
+Reads place (found.Stopped stop) bytes reading = reading ≡ Stopped stop
+Reads place (found.Record end) bytes reading = reading ≡ Spelled (record_of place end bytes)
+
+-- all bytes of a record at a place that ends there
+pub record IsAll (place end : ℕ) (bytes : List ℕ) : Type 0 where
+  pub least : 24 ≤ length bytes
+  pub greatest : length bytes ≤ greatest_total
+  pub total : word_at 0 bytes ≡ length bytes
+  pub longer : place + length bytes ≤ end
+
+abbrev pub AllFit : ℕ → Found → List ℕ → Type 0
+AllFit place (found.Stopped stop) bytes = Unit {0}
+AllFit place (found.Record end) bytes = IsAll place end bytes
+
+-- a record is dropped only by a page from a position on
+abbrev pub DropsFrom : ℕ → Stop → Type 0
+DropsFrom from (Ends why) = Unit {0}
+DropsFrom from (Dropped page) = from ≤ page
+
+abbrev pub StopsFrom : ℕ → Option Stop → Type 0
+StopsFrom from None = Unit {0}
+StopsFrom from (Some stop) = DropsFrom from stop
+
+abbrev pub BeginsFrom : ℕ → Begun → Type 0
+BeginsFrom from (begun.Stopped stop) = DropsFrom from stop
+BeginsFrom from (begun.Total total) = Unit {0}
+
+abbrev pub FindsFrom : ℕ → Found → Type 0
+FindsFrom from (found.Stopped stop) = DropsFrom from stop
+FindsFrom from (found.Record end) = Unit {0}
+
+-- What a search from a place finds: the log from there is the record found at a place, and the log behind it; or it is at
+-- its end.
+abbrev pub Seeks : Pages → ℕ → Option ℕ → ℕ → Sought → List ℕ → Type 0
+Seeks pages size before place (sought.Record at end) bytes =
+    log_from pages size before place ≡ with_first (record_of at end bytes) (log_from pages size (Some at) (place_at size end))
+Seeks pages size before place (sought.End at why) bytes = log_from pages size before place ≡ ended at why
+
+-- whatever the tree holds, the record that was found has its bytes, and stands no earlier
+pub record IsSought (place at end : ℕ) (bytes : List ℕ) : Type 0 where
+  pub later : place ≤ at
+  pub all : IsAll at end bytes
+
+abbrev pub SoughtFits : ℕ → Sought → List ℕ → Type 0
+SoughtFits place (sought.Record at end) bytes = IsSought place at end bytes
+SoughtFits place (sought.End at why) bytes = Unit {0}

@@ -1,0 +1,145 @@
+//! The records of a log, one after another.
+
+ghost use Rattle.std.specs.Prelude.{◌≡◌, ◌≤◌, None, Some, Ok, length, IsTrue, IfOk, IfSome, IfNone, OnErr, IsErrOf};
+ghost use Rattle.cluster_tree.specs.Causes.{OnlyReads, Rose};
+ghost use Rattle.cluster_tree.specs.Contents.{Contents};
+ghost use Rattle.wal_base.specs.Segment.{bytes_of};
+ghost use Rattle.wal_records.specs.declared.cursor.LogEnd.{LogEnd};
+ghost use Rattle.wal_records.specs.Place.{place_at};
+ghost use Rattle.wal_records.specs.Further.{pages_of};
+ghost use Rattle.wal_records.specs.Log.{log_of};
+ghost use Rattle.wal_records.specs.Cursor.{IsWhole, Moves, Steps, to_come, without_current};
+
+use crate::fault::LogFault;
+use crate::log_record::{Record, emptied};
+use crate::place::place_at;
+use crate::search::{Sought, find};
+use crate::why::Why;
+use cluster_tree::Tree;
+use std::alloc::Global;
+use std::marker::Model;
+use wal_base::{Lsn, OutOfMemory};
+use wal_pages::{LogPath, PageCursor};
+
+/// What a call of `next` gave.
+#[derive(Clone, Copy, Debug, PartialEq, Eq)]
+pub enum Step {
+    /// A record, which `current` lends.
+    Record,
+    /// The place at which the log ends, and why: there is no record at it.
+    End(Lsn, Why),
+}
+
+/// The place at which a log ends, and why.
+#[derive(Clone, Copy, Debug)]
+pub struct LogEnd {
+    place: Lsn,
+    why: Why,
+}
+
+/// Goes over the records of a log, page by page. It holds one page and one record.
+#[derive(Drop)]
+pub struct RecordCursor {
+    alloc: Global,
+    pages: PageCursor,
+    before: Option<u64>,
+    place: u64,
+    ended: Option<LogEnd>,
+    current: Option<Record>,
+}
+
+impl Model for RecordCursor {
+    ghost use Rattle.std.specs.Prelude.{IfSome};
+    ghost use Rattle.wal_records.specs.Cursor.{CursorView, IsWhole};
+
+    ghost Value = { CursorView };
+
+    ghost view = { λ c. record {
+      log = c.pages.log;
+      before = c.before;
+      place = c.place;
+      ended = c.ended;
+      current = c.current;
+    } };
+
+    ghost invariant = { λ c. IfSome c.current IsWhole };
+}
+
+impl RecordCursor {
+    /// A cursor before the first record of a log from `start` on, or from behind the header of the
+    /// page that begins there. The folder of the log has at most 63 parts. Answers `OutOfMemory`
+    /// only for want of memory.
+    pub fn at(alloc: Global, log: LogPath, start: Lsn) -> Result<RecordCursor, OutOfMemory>
+        requires room { length log.folder.parts ≤ 63 }
+        ensures ok { IfOk result (λ cursor. cursor ≡ record {
+          log = log;
+          before = None;
+          place = place_at (bytes_of log.size) start.0;
+          ended = None;
+          current = None;
+        }) }
+        ensures starts { IfOk result (λ cursor. (contents : Contents) → to_come cursor contents
+            ≡ log_of (pages_of log contents) (bytes_of log.size) start.0) }
+    {
+        let place = place_at(start, log.size).0;
+        Ok(RecordCursor {
+            alloc,
+            pages: PageCursor::new(alloc, log)?,
+            before: None,
+            place,
+            ended: None,
+            current: None,
+        })
+    }
+
+    /// Reads the next record, which `current` then lends, or finds the place at which the log ends,
+    /// and why. Over a tree that tells its contents these are the records of the valid log, in
+    /// order, and then its place and reason.
+    ///
+    /// After an `End` every later call answers the same. After a fault the next call tries the same
+    /// place again. Answers `ReadFault` only where a read failed, which the tree has counted, and
+    /// `OutOfMemory` only for want of memory. It makes no changing call.
+    pub fn next<F: Tree>(&mut self, tree: &mut F) -> Result<Step, LogFault>
+        ensures log { self.new.log ≡ self.old.log }
+        ensures step { IsTrue F.tells → self.old.ended ≡ None → IfOk result (λ step.
+            Steps self.old self.new step (F.contents tree.old)) }
+        ensures moves { IfOk result (Moves self.old self.new) }
+        ensures sticky { (end : LogEnd) → self.old.ended ≡ Some end →
+            result ≡ Ok (Step.End end.place end.why) }
+        ensures fault { OnErr result (self.new ≡ without_current self.old) }
+        ensures reads { OnlyReads F.contents F.calls F.failed_reads F.failed_changes
+            tree.old tree.new }
+        ensures read_fault { IsErrOf result LogFault.ReadFault →
+            Rose (F.failed_reads tree.old) (F.failed_reads tree.new) }
+    {
+        let mut bytes = emptied(self.current.take(), self.alloc);
+        match self.ended {
+            Some(end) => return Ok(Step::End(end.place, end.why)),
+            None => {}
+        }
+        match find(&mut self.pages, tree, self.before, self.place, &mut bytes)? {
+            Sought::Record(start, end) => {
+                let size = self.pages.size();
+                self.before = Some(start);
+                self.place = place_at(Lsn(end), size).0;
+                self.current = Some(Record::new(start, end, bytes));
+                Ok(Step::Record)
+            }
+            Sought::End(place, why) => {
+                let place = Lsn(place);
+                self.ended = Some(LogEnd { place, why });
+                Ok(Step::End(place, why))
+            }
+        }
+    }
+
+    /// The record that the last call of `next` gave. `None` before the first call, and after one
+    /// that answered an end or a fault.
+    pub fn current(&self) -> Option<&Record>
+        ensures none { IfNone result (self.now.current ≡ None) }
+        ensures some { IfSome result (λ r. self.now.current ≡ Some r.now) }
+        ensures bound { IfSome result (λ r. IsWhole r.now) }
+    {
+        self.current.as_ref()
+    }
+}
