@@ -1,0 +1,15 @@
+-- Each table is one of which clap promises which words it takes, and what it finds in them.
+use Rattle.std.proofs.Common.{◌≡◌, refl, true}
+use Rattle.clap.specs.Faults.{is_simple_and_free}
+use Rattle.clap.proofs.OnLiterals.{clap_on_literals}
+use Rattle.command_words.specs.Table.{command_with}
+use Rattle.tool_words.specs.Controldata.{controldata_table}
+use Rattle.tool_words.specs.Rewind.{rewind_table}
+
+pub controldata_is_simple : is_simple_and_free (command_with controldata_table) ≡ true
+unfolding controldata_table clap_on_literals
+controldata_is_simple = refl
+
+pub rewind_is_simple : is_simple_and_free (command_with rewind_table) ≡ true
+unfolding rewind_table clap_on_literals
+rewind_is_simple = refl

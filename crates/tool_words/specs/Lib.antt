@@ -1,0 +1,5 @@
+pub mod Roots
+pub mod Controldata
+pub mod Rewind
+pub mod Command
+pub mod Laws

@@ -1,0 +1,17 @@
+-- The roots of clusters in words. Own: "An empty root is a faulty command line".
+use Rattle.std.specs.Prelude.{ℕ, List, [], ◌∷◌, Option, Some, None, option_and_then}
+
+-- the one that is given, where it is one of the two alone
+abbrev pub exactly_one : Option (List ℕ) → Option (List ℕ) → Option (List ℕ)
+exactly_one (Some text) None = Some text
+exactly_one None (Some text) = Some text
+exactly_one _ _ = None
+
+-- a root: any text that is not empty
+abbrev pub root_of : List ℕ → Option (List ℕ)
+root_of [] = None
+root_of (c ∷ cs) = Some (c ∷ cs)
+
+-- the root given by an option or a word, where it is given
+abbrev pub root_given : Option (List ℕ) → Option (List ℕ)
+root_given = option_and_then root_of

@@ -1,0 +1,17 @@
+// Laws of the grammar: what it comes to at the words that are usual, for every value.
+ghost use Rattle.tool_words.specs.Laws.{IsPlainText, ReadsRoot, ReadsRoots};
+
+/// Each usual way to give the root of `pg_controldata` gives it, given twice or not at all it is
+/// refused, and so is a call for help.
+pub fn a_root_is_read(name: &str, dir: &str)
+    requires { IsPlainText dir.now }
+    ensures { ReadsRoot name.now dir.now }
+{}
+
+/// The two roots of `pg_rewind` are read in either order, with and without the flag for a dry run;
+/// where one is not given the words are refused.
+pub fn two_roots_are_read(name: &str, target: &str, source: &str)
+    requires target { IsPlainText target.now }
+    requires source { IsPlainText source.now }
+    ensures { ReadsRoots name.now target.now source.now }
+{}
