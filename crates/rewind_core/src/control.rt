@@ -1,9 +1,10 @@
 // The control file of a root.
-ghost use Rattle.std.specs.Prelude.{◌≡◌, ◌≢◌, ◌≤◌, length, IsTrue, Err, IsErrOf};
+ghost use Rattle.std.specs.Prelude.{◌≡◌, ◌≢◌, ◌≤◌, length, IfOk, IsTrue, Err, IsErrOf};
 ghost use Rattle.cluster_tree.specs.PathValue.{PathValue};
 ghost use Rattle.cluster_tree.specs.Tree.{file_of};
 ghost use Rattle.cluster_tree.specs.Contents.{entry_at};
 ghost use Rattle.cluster_tree.specs.Causes.{OnlyReads, Meets, Rose};
+ghost use Rattle.control_file.specs.Admission.{IsControl};
 ghost use Rattle.rewind_core.specs.Faults.{IsFree};
 ghost use Rattle.rewind_core.specs.RootControl.{at_root, control_at, control_in};
 
@@ -23,6 +24,8 @@ pub fn control_at<F: Tree>(alloc: Global, tree: &mut F, root: &Path) -> Result<C
     requires { length root.now.parts ≤ 61 }
     ensures exact { IsTrue F.tells → Meets IsFree (control_at (F.contents tree.old) root.now)
         result }
+    // what is read can be written and shown, over every tree
+    ensures control { IfOk result IsControl }
     ensures reads { OnlyReads F.contents F.calls F.failed_reads F.failed_changes tree.old tree.new }
     ensures read_fault { IsErrOf result RewindFault.ReadFault →
         Rose (F.failed_reads tree.old) (F.failed_reads tree.new) }
@@ -42,6 +45,7 @@ fn control_in<F: Tree>(
 ) -> Result<Control, RewindFault>
     ensures exact { IsTrue F.tells → Meets IsFree (control_in root.now
         (file_of (entry_at (F.contents tree.old) path))) result }
+    ensures control { IfOk result IsControl }
     ensures reads { OnlyReads F.contents F.calls F.failed_reads F.failed_changes tree.old tree.new }
     ensures read_fault { IsErrOf result RewindFault.ReadFault →
         Rose (F.failed_reads tree.old) (F.failed_reads tree.new) }
@@ -61,7 +65,9 @@ fn at_root(
     root: &Path,
     read: Result<Control, ControlFault>,
 ) -> Result<Control, RewindFault>
+    requires { IfOk read IsControl }
     ensures exact { Meets IsFree (at_root root.now read) result }
+    ensures control { IfOk result IsControl }
     ensures read_fault { result ≢ Err RewindFault.ReadFault }
     ensures changed { (p : PathValue) → result ≢ Err (RewindFault.Changed p) }
 {
