@@ -2,9 +2,12 @@
 use Rattle.std.specs.Prelude.{ℕ, ◌++◌, List, [], codes, Option, None, Some, Result, Ok, Err}
 use Rattle.cluster_tree.specs.Contents.{Contents}
 use Rattle.cluster_tree.specs.declared.tree.ChangeCall.{ChangeCall}
+use Rattle.control_file.specs.Text.{control_text_of}
+use Rattle.control_file.specs.declared.control.Control.{Control}
 use Rattle.rewind_core.specs.declared.outcome.RewindDone.{RewindDone}
 use Rattle.rewind_core.specs.declared.fault.RewindFault.{RewindFault}
 use Rattle.rewind_core.specs.Rewind.{rewind_of}
+use Rattle.rewind_core.specs.RootControl.{control_at}
 use Rattle.wal_tools_main.specs.declared.cause.Cause.{Cause}
 use Rattle.wal_tools_main.specs.declared.cause.Cause.TheVariants as cause
 use Rattle.wal_tools_main.specs.declared.command.Command.{Command}
@@ -40,9 +43,24 @@ rewind_refusal (Err fault) = Some (rewind_cause fault)
 abbrev pub rewind_answer : Contents → Result RewindDone RewindFault → Answer
 rewind_answer c rewound = record { refusal = rewind_refusal rewound; out = []; report = same_report; calls = []; after = c }
 
+-- why a control file isn't shown, if so
+abbrev pub control_refusal : Result Control RewindFault → Option Cause
+control_refusal (Ok control) = None
+control_refusal (Err fault) = Some (rewind_cause fault)
+
+-- the text of a control file
+abbrev pub control_shown : Result Control RewindFault → List ℕ
+control_shown (Ok control) = control_text_of control
+control_shown (Err fault) = []
+
+-- pg_controldata shows the control file on standard output, and only reads
+abbrev pub controldata_answer : Contents → Result Control RewindFault → Answer
+controldata_answer c read = record { refusal = control_refusal read; out = control_shown read; report = []; calls = []; after = c }
+
 -- what a command answers
 abbrev pub answer_to : Contents → Command → Answer
 answer_to c (command.PgRewind target source) = rewind_answer c (rewind_of c target source)
+answer_to c (command.PgControldata root) = controldata_answer c (control_at c root)
 
 -- words that ask for no command change nothing
 abbrev pub answer_of : Contents → Result Command Cause → Answer

@@ -1,5 +1,5 @@
 -- The causes: which of them are free, which come from the words, and the status of each.
-use Rattle.std.specs.Prelude.{ℕ, ◌≡◌, ◌⊎◌, Result, Ok, Err}
+use Rattle.std.specs.Prelude.{ℕ, ◌≡◌, ◌⊎◌, Bool, true, false, Result, Ok, Err}
 use Rattle.rewind_core.specs.declared.fault.RewindFault.{RewindFault}
 use Rattle.rewind_core.specs.declared.fault.RewindFault.TheVariants as fault
 use Rattle.wal_tools_main.specs.declared.cause.Cause.{Cause}
@@ -10,12 +10,12 @@ use Rattle.wal_tools_main.specs.declared.cause.RewindCause.TheVariants as rewind
 -- the cause of a fault of a rewind; those that no command answers yet are NotBuilt
 abbrev pub rewind_cause : RewindFault → Cause
 rewind_cause (fault.Unfinished path) = cause.NotBuilt
-rewind_cause (fault.ControlMissing root) = cause.NotBuilt
-rewind_cause (fault.Size root n) = cause.NotBuilt
+rewind_cause (fault.ControlMissing root) = cause.Control (control.ControlMissing root)
+rewind_cause (fault.Size root n) = cause.Control (control.Size root n)
 rewind_cause (fault.Crc root stored computed) = cause.Control (control.Crc root stored computed)
-rewind_cause (fault.Version root n) = cause.NotBuilt
-rewind_cause (fault.Catalog root n) = cause.NotBuilt
-rewind_cause (fault.Shape root field n) = cause.NotBuilt
+rewind_cause (fault.Version root n) = cause.Control (control.Version root n)
+rewind_cause (fault.Catalog root n) = cause.Control (control.Catalog root n)
+rewind_cause (fault.Shape root field n) = cause.Control (control.Shape root field n)
 rewind_cause (fault.SystemsDiffer target source) = cause.Rewind (rewind.SystemsDiffer target source)
 rewind_cause (fault.NoHints root) = cause.NotBuilt
 rewind_cause (fault.NotClean root n) = cause.NotBuilt
@@ -28,13 +28,22 @@ rewind_cause fault.OutOfMemory = cause.OutOfMemory
 abbrev pub IsFree : Cause → Type 0
 IsFree e = (e ≡ cause.ReadFault) ⊎ (e ≡ cause.WriteFault) ⊎ (e ≡ cause.SinkFault) ⊎ (e ≡ cause.OutOfMemory)
 
--- what the words of a command that is named may answer
-abbrev pub IsUnfit : Cause → Type 0
-IsUnfit e = (e ≡ cause.NotBuilt) ⊎ (e ≡ cause.OutOfMemory)
+-- what words may answer
+abbrev pub is_of_words : Cause → Bool
+is_of_words cause.Done = false
+is_of_words cause.Usage = true
+is_of_words cause.NotBuilt = true
+is_of_words cause.ReadFault = false
+is_of_words cause.WriteFault = false
+is_of_words cause.SinkFault = false
+is_of_words cause.OutOfMemory = true
+is_of_words (cause.Changed path) = false
+is_of_words (cause.Paths p) = true
+is_of_words (cause.Control c) = false
+is_of_words (cause.Rewind c) = false
 
--- what any words may answer
 abbrev pub IsOfWords : Cause → Type 0
-IsOfWords e = (e ≡ cause.Usage) ⊎ IsUnfit e
+IsOfWords e = is_of_words e ≡ true
 
 -- the cause of an outcome
 abbrev pub cause_of : Result (Unit {0}) Cause → Cause
@@ -51,5 +60,6 @@ status_of cause.OutOfMemory = 4
 status_of cause.Usage = 1
 status_of cause.NotBuilt = 1
 status_of (cause.Changed path) = 1
+status_of (cause.Paths p) = 1
 status_of (cause.Control c) = 1
 status_of (cause.Rewind c) = 1

@@ -3,8 +3,11 @@ use Rattle.std.specs.Prelude.{ℕ, Bool, ◌-◌, ◌^◌, false, true, List, []
 use Rattle.std.specs.Fmt.{digits, decimal, padded_integral, format_spec}
 use Rattle.std.specs.List.{concat}
 use Rattle.cluster_tree.specs.PathValue.{PathValue, path_text}
+use Rattle.control_file.specs.FieldNames.{field_name}
+use Rattle.control_file.specs.declared.field.Field.{Field}
 use Rattle.wal_tools_main.specs.declared.cause.Cause.{Cause}
 use Rattle.wal_tools_main.specs.declared.cause.Cause.TheVariants as cause
+use Rattle.wal_tools_main.specs.declared.cause.PathCause.TheVariants as paths
 use Rattle.wal_tools_main.specs.declared.cause.ControlCause.TheVariants as control
 use Rattle.wal_tools_main.specs.declared.cause.RewindCause.TheVariants as rewind
 use Rattle.wal_tools_main.specs.declared.command.CommandName.{CommandName}
@@ -21,6 +24,8 @@ hex8 n = padded_integral (format_spec 32 0 4 8 (2 ^ 64 - 1)) false [] (digits 16
 -- the name of a cause without values
 abbrev pub fixed_name : Fixed → List ℕ
 fixed_name fixed.Usage = codes "Usage"
+fixed_name fixed.DotDot = codes "DotDot"
+fixed_name fixed.PathsOverlap = codes "PathsOverlap"
 fixed_name fixed.NotBuilt = codes "NotBuilt"
 fixed_name fixed.ReadFault = codes "ReadFault"
 fixed_name fixed.WriteFault = codes "WriteFault"
@@ -35,14 +40,22 @@ line_with name pieces = concat (name_text name ∷ codes ": error: " ∷ (pieces
 unfoldable pub fixed_line : Option CommandName → Fixed → List ℕ
 fixed_line name f = line_with name (fixed_name f ∷ [])
 
+-- a cause with a path
+abbrev pub path_pieces : List ℕ → PathValue → List (List ℕ)
+path_pieces what path = what ∷ codes " " ∷ path_text path ∷ []
+
+-- a cause with a root and a number
+abbrev pub number_pieces : List ℕ → PathValue → ℕ → List (List ℕ)
+number_pieces what root n = what ∷ codes " " ∷ path_text root ∷ codes " " ∷ decimal n ∷ []
+
 abbrev pub crc_pieces : PathValue → ℕ → ℕ → List (List ℕ)
 crc_pieces root stored computed = codes "Crc " ∷ path_text root ∷ codes " " ∷ hex8 stored ∷ codes " " ∷ hex8 computed ∷ []
 
+abbrev pub shape_pieces : PathValue → Field → ℕ → List (List ℕ)
+shape_pieces root field n = codes "Shape " ∷ path_text root ∷ codes " " ∷ field_name field ∷ codes " " ∷ decimal n ∷ []
+
 abbrev pub systems_pieces : ℕ → ℕ → List (List ℕ)
 systems_pieces target source = codes "SystemsDiffer " ∷ decimal target ∷ codes " " ∷ decimal source ∷ []
-
-abbrev pub changed_pieces : PathValue → List (List ℕ)
-changed_pieces path = codes "Changed " ∷ path_text path ∷ []
 
 -- the line of a cause; there is none of Done
 abbrev pub line_of : Option CommandName → Cause → List ℕ
@@ -53,8 +66,16 @@ line_of name cause.ReadFault = fixed_line name fixed.ReadFault
 line_of name cause.WriteFault = fixed_line name fixed.WriteFault
 line_of name cause.SinkFault = fixed_line name fixed.SinkFault
 line_of name cause.OutOfMemory = fixed_line name fixed.OutOfMemory
-line_of name (cause.Changed path) = line_with name (changed_pieces path)
+line_of name (cause.Changed path) = line_with name (path_pieces (codes "Changed") path)
+line_of name (cause.Paths paths.DotDot) = fixed_line name fixed.DotDot
+line_of name (cause.Paths (paths.TooDeep path)) = line_with name (path_pieces (codes "TooDeep") path)
+line_of name (cause.Paths paths.PathsOverlap) = fixed_line name fixed.PathsOverlap
+line_of name (cause.Control (control.ControlMissing root)) = line_with name (path_pieces (codes "ControlMissing") root)
+line_of name (cause.Control (control.Size root n)) = line_with name (number_pieces (codes "Size") root n)
 line_of name (cause.Control (control.Crc root stored computed)) = line_with name (crc_pieces root stored computed)
+line_of name (cause.Control (control.Version root n)) = line_with name (number_pieces (codes "Version") root n)
+line_of name (cause.Control (control.Catalog root n)) = line_with name (number_pieces (codes "Catalog") root n)
+line_of name (cause.Control (control.Shape root field n)) = line_with name (shape_pieces root field n)
 line_of name (cause.Rewind (rewind.SystemsDiffer target source)) = line_with name (systems_pieces target source)
 
 -- the text of a line on its way
@@ -73,5 +94,8 @@ has_values cause.WriteFault = false
 has_values cause.SinkFault = false
 has_values cause.OutOfMemory = false
 has_values (cause.Changed path) = true
+has_values (cause.Paths paths.DotDot) = false
+has_values (cause.Paths (paths.TooDeep path)) = true
+has_values (cause.Paths paths.PathsOverlap) = false
 has_values (cause.Control c) = true
 has_values (cause.Rewind c) = true

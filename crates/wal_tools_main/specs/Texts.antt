@@ -18,14 +18,22 @@ pub record Puts (text : List ℕ) (ended : Cause) (old new : List ℕ) (before a
   pub rose : ended ≡ cause.SinkFault → Rose before after
   pub silent : (ended ≡ cause.Done) ⊎ (ended ≡ cause.SinkFault) ⊎ ((new ≡ old) × (after ≡ before))
 
--- what a command puts on standard output
+-- A text of one write was put on standard output: all of it where the command is done, the first bytes of it where a write failed, and else nothing.
+pub record Shows (text : List ℕ) (ended : Cause) (old new : List ℕ) : Type 0 where
+  pub whole : ended ≡ cause.Done → new ≡ old ++ text
+  pub part : ended ≡ cause.SinkFault → AddsPart text old new
+  pub silent : (ended ≡ cause.Done) ⊎ (ended ≡ cause.SinkFault) ⊎ (new ≡ old)
+
+-- what a command puts on standard output, whatever the tree tells
 abbrev pub Prints : Result Command Cause → Cause → List ℕ → List ℕ → Type 0
 Prints (Ok (command.PgRewind target source)) ended old new = new ≡ old
+Prints (Ok (command.PgControldata root)) ended old new = (ended ≡ cause.Done) ⊎ (ended ≡ cause.SinkFault) ⊎ (new ≡ old)
 Prints (Err e) ended old new = new ≡ old
 
 -- what a command reports on standard error before the line of its cause
 abbrev pub Reports : Result Command Cause → Cause → List ℕ → List ℕ → ℕ → ℕ → Type 0
 Reports (Ok (command.PgRewind target source)) ended old new before after = Puts same_report ended old new before after
+Reports (Ok (command.PgControldata root)) ended old new before after = (new ≡ old) × (after ≡ before)
 Reports (Err e) ended old new before after = (new ≡ old) × (after ≡ before)
 
 -- Standard error after a run: first the report of the command, after which it held `told` and its count of failed writes was `between`;
@@ -45,4 +53,5 @@ pub record Changes (answer : Answer) (ended : Cause) (calls calls' : List Change
 -- a command that may make changing calls: none is built yet
 abbrev pub MayChange : Result Command Cause → Type 0
 MayChange (Ok (command.PgRewind target source)) = ⊥
+MayChange (Ok (command.PgControldata root)) = ⊥
 MayChange (Err e) = ⊥

@@ -1,12 +1,18 @@
--- What the words of a command ask for: PostgreSQL 16 manual, reference page of pg_rewind. Own: "The one form of words of pg_rewind".
-use Rattle.std.specs.Prelude.{ℕ, ◌≤◌, Bool, ◌&&◌, nat_lt, bytes_eq, if◌then◌else◌, List, [], ◌∷◌, length, codes, Option, None, Some, Result, Ok, Err}
-use Rattle.cluster_tree.specs.PathValue.{PathValue, parsed, kept_parts}
+-- What the words of a command ask for: PostgreSQL 16 manual, reference pages of pg_rewind and pg_controldata. Own: "Roots of at most 61 parts", "The order of what is wrong with roots".
+use Rattle.std.specs.Prelude.{ℕ, ◌≤◌, Bool, true, false, ◌||◌, nat_lt, if◌then◌else◌, List, length, take, Option, None, Some, Result, Ok, Err}
+use Rattle.cluster_tree.specs.PathValue.{PathValue, path_of, parsed, kept_parts, is_rooted}
 use Rattle.cluster_tree.specs.Paths.{checked}
 use Rattle.cluster_tree.specs.Causes.{given}
 use Rattle.cluster_tree.specs.declared.path_fault.PathFault.{PathFault}
+use Rattle.cluster_tree.specs.declared.path_fault.PathFault.TheVariants as fault
 use Rattle.rewind_core.specs.Roots.{AreApart, overlap}
+use Rattle.tool_words.specs.Command.{command_of as asked_for}
+use Rattle.tool_words.specs.declared.command.Command.{Command as Asked}
+use Rattle.tool_words.specs.declared.command.Command.TheVariants as asked
+use Rattle.tool_words.specs.declared.rewind.RewindWords.{RewindWords}
 use Rattle.wal_tools_main.specs.declared.cause.Cause.{Cause}
 use Rattle.wal_tools_main.specs.declared.cause.Cause.TheVariants as cause
+use Rattle.wal_tools_main.specs.declared.cause.PathCause.TheVariants as paths
 use Rattle.wal_tools_main.specs.declared.command.CommandName.{CommandName}
 use Rattle.wal_tools_main.specs.declared.command.CommandName.TheVariants as name
 use Rattle.wal_tools_main.specs.declared.command.Command.{Command}
@@ -25,35 +31,55 @@ pub record AreFitRoots (target source : PathValue) : Type 0 where
 
 abbrev pub IsFit : Command → Type 0
 IsFit (command.PgRewind target source) = AreFitRoots target source
+IsFit (command.PgControldata root) = IsFitRoot root
+
+-- the path of a text's first 64 parts
+unfoldable pub front_of : List ℕ → PathValue
+front_of text = path_of (is_rooted text) (take 64 (kept_parts text))
 
 -- a root, where the text names one of at most 61 parts
 abbrev pub root_in : List ℕ → Result (Unit {0}) PathFault → Result PathValue Cause
-root_in text (Ok _) = if nat_lt 61 (length (kept_parts text)) then Err cause.NotBuilt else Ok (parsed text)
-root_in text (Err _) = Err cause.NotBuilt
+root_in text (Ok _) =
+    if nat_lt 61 (length (kept_parts text)) then Err (cause.Paths (paths.TooDeep (parsed text))) else Ok (parsed text)
+root_in text (Err fault.Empty) = Err cause.Usage
+root_in text (Err fault.DotDot) = Err (cause.Paths paths.DotDot)
+root_in text (Err fault.TooDeep) = Err (cause.Paths (paths.TooDeep (front_of text)))
+root_in text (Err fault.OutOfMemory) = Err cause.OutOfMemory
 
 unfoldable pub root_of : List ℕ → Result PathValue Cause
 root_of text = root_in text (checked 0 text)
 
--- two roots, of which neither holds the other
-abbrev pub rewind_roots : PathValue → PathValue → Result Command Cause
-rewind_roots target source = if overlap target source then Err cause.NotBuilt else Ok (command.PgRewind target source)
+-- the text of a path is refused for a part `..`
+abbrev pub climbs : {A : Type 0} → Result A PathFault → Bool
+climbs (Ok _) = false
+climbs (Err fault.Empty) = false
+climbs (Err fault.DotDot) = true
+climbs (Err fault.TooDeep) = false
+climbs (Err fault.OutOfMemory) = false
 
-unfoldable pub are_rewind_options : List ℕ → List ℕ → Bool
-are_rewind_options first second = bytes_eq first (codes "-D") && bytes_eq second (codes "--source-pgdata")
+-- two roots, of which neither may hold the other; a dry run isn't built yet
+abbrev pub rewind_roots : Bool → PathValue → PathValue → Result Command Cause
+rewind_roots dry_run target source =
+    if overlap target source then Err (cause.Paths paths.PathsOverlap)
+    else (if dry_run then Err cause.NotBuilt else Ok (command.PgRewind target source))
 
-abbrev pub rewind_form : Bool → List ℕ → List ℕ → Result Command Cause
-rewind_form fits target source =
-    if fits then given (root_of target) (λ t. given (root_of source) (λ s. rewind_roots t s)) else Err cause.NotBuilt
+-- two texts: a part `..` of either is told before the depth of both
+unfoldable pub two_roots : Bool → List ℕ → List ℕ → Result Command Cause
+two_roots dry_run target source =
+    if climbs (checked 0 target) || climbs (checked 0 source) then Err (cause.Paths paths.DotDot)
+    else given (root_of target) (λ t. given (root_of source) (λ s. rewind_roots dry_run t s))
 
--- pg_rewind -D TARGET --source-pgdata SOURCE
-abbrev pub rewind_words : List (List ℕ) → Result Command Cause
-rewind_words (word ∷ first ∷ target ∷ second ∷ source ∷ []) = rewind_form (are_rewind_options first second) target source
-rewind_words _ = Err cause.NotBuilt
+-- what is asked for, on paths
+abbrev pub on_paths : Option Asked → Result Command Cause
+on_paths None = Err cause.Usage
+on_paths (Some (asked.Controldata root)) = given (root_of root) (λ r. Ok (command.PgControldata r))
+on_paths (Some (asked.Rewind words)) = two_roots words.dry_run words.target words.source
 
 -- the words of the command of this name; of the other commands none are built yet
 abbrev pub words_of : Option CommandName → List (List ℕ) → Result Command Cause
 words_of None words = Err cause.Usage
-words_of (Some name.PgRewind) words = rewind_words words
+words_of (Some name.PgRewind) words = on_paths (asked_for words)
+words_of (Some name.PgControldata) words = on_paths (asked_for words)
 words_of (Some _) words = Err cause.NotBuilt
 
 -- the command that the words ask for, or what is wrong with them

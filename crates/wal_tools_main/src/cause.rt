@@ -1,13 +1,15 @@
 // Why a run ended.
 use cluster_tree::{Path, SinkFailed};
+use control_file::Field;
 use rewind_core::RewindFault;
+use wal_base::OutOfMemory;
 
 /// Why a run ended. Each later command adds the causes of what it builds.
 #[derive(Drop)]
 pub enum Cause {
     /// The command was carried out.
     Done,
-    /// The words are those of no command.
+    /// The words are in no command's grammar.
     Usage,
     /// The words, the clusters or what they need are not built yet.
     NotBuilt,
@@ -21,17 +23,40 @@ pub enum Cause {
     OutOfMemory,
     /// The tree contradicted, about this path, what it had answered earlier in the run.
     Changed(Path),
+    /// A path is refused.
+    Paths(PathCause),
     /// A control file is refused.
     Control(ControlCause),
     /// Two clusters are unfit for a rewind.
     Rewind(RewindCause),
 }
 
-/// What is wrong with a control file.
+/// What is wrong with a path.
+#[derive(Drop)]
+pub enum PathCause {
+    /// A root has a part `..`.
+    DotDot,
+    /// A root has more than 61 parts; of one with more than 64 parts the first 64.
+    TooDeep(Path),
+    /// One of two roots is the other or lies in it.
+    PathsOverlap,
+}
+
+/// What is wrong with a control file. Its root comes first.
 #[derive(Drop)]
 pub enum ControlCause {
-    /// The root, the checksum that is stored, and the one that the bytes have.
+    /// `global/pg_control` is not a file.
+    ControlMissing(Path),
+    /// The number of bytes, which is not 8192.
+    Size(Path, u64),
+    /// The checksum that is stored, and the one that the bytes have.
     Crc(Path, u32, u32),
+    /// The version, which is not 1300.
+    Version(Path, u32),
+    /// The catalog version, which is not 202307071.
+    Catalog(Path, u32),
+    /// A field and its value, which is out of shape, or is not the target's.
+    Shape(Path, Field, u64),
 }
 
 /// Why two clusters are unfit for a rewind.
@@ -48,18 +73,22 @@ impl From<RewindFault> for Cause {
     ghost from_gives = { λ f e. e ≡ rewind_cause f };
 
     fn from(fault: RewindFault) -> Cause {
-        match fault {
-            RewindFault::Crc(root, stored, computed) => {
-                Cause::Control(ControlCause::Crc(root, stored, computed))
-            }
+        let control = match fault {
+            RewindFault::ControlMissing(root) => ControlCause::ControlMissing(root),
+            RewindFault::Size(root, bytes) => ControlCause::Size(root, bytes),
+            RewindFault::Crc(root, stored, computed) => ControlCause::Crc(root, stored, computed),
+            RewindFault::Version(root, version) => ControlCause::Version(root, version),
+            RewindFault::Catalog(root, version) => ControlCause::Catalog(root, version),
+            RewindFault::Shape(root, field, value) => ControlCause::Shape(root, field, value),
             RewindFault::SystemsDiffer(target, source) => {
-                Cause::Rewind(RewindCause::SystemsDiffer(target, source))
+                return Cause::Rewind(RewindCause::SystemsDiffer(target, source));
             }
-            RewindFault::ReadFault => Cause::ReadFault,
-            RewindFault::Changed(path) => Cause::Changed(path),
-            RewindFault::OutOfMemory => Cause::OutOfMemory,
-            _ => Cause::NotBuilt,
-        }
+            RewindFault::ReadFault => return Cause::ReadFault,
+            RewindFault::Changed(path) => return Cause::Changed(path),
+            RewindFault::OutOfMemory => return Cause::OutOfMemory,
+            _ => return Cause::NotBuilt,
+        };
+        Cause::Control(control)
     }
 }
 
@@ -71,5 +100,16 @@ impl From<SinkFailed> for Cause {
 
     fn from(_: SinkFailed) -> Cause {
         Cause::SinkFault
+    }
+}
+
+impl From<OutOfMemory> for Cause {
+    ghost use Rattle.std.specs.Prelude.{◌≡◌};
+    ghost use Rattle.wal_tools_main.specs.declared.cause.Cause.TheVariants as cause;
+
+    ghost from_gives = { λ _ e. e ≡ cause.OutOfMemory };
+
+    fn from(_: OutOfMemory) -> Cause {
+        Cause::OutOfMemory
     }
 }

@@ -22,6 +22,8 @@ pub enum CommandName {
 pub enum Command {
     /// The roots of the two clusters.
     PgRewind { target: Path, source: Path },
+    /// The root of the cluster whose control file is shown.
+    PgControldata { root: Path },
 }
 
 // The command that a word names.

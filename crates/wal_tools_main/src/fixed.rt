@@ -8,6 +8,8 @@ use crate::CommandName;
 #[derive(Clone, Copy, Debug, PartialEq, Eq)]
 pub enum Fixed {
     Usage,
+    DotDot,
+    PathsOverlap,
     NotBuilt,
     ReadFault,
     WriteFault,
@@ -19,6 +21,8 @@ macro_rules! lines {
     ($name:literal, $fixed:expr) => {
         match $fixed {
             Fixed::Usage => concat!($name, ": error: Usage\n"),
+            Fixed::DotDot => concat!($name, ": error: DotDot\n"),
+            Fixed::PathsOverlap => concat!($name, ": error: PathsOverlap\n"),
             Fixed::NotBuilt => concat!($name, ": error: NotBuilt\n"),
             Fixed::ReadFault => concat!($name, ": error: ReadFault\n"),
             Fixed::WriteFault => concat!($name, ": error: WriteFault\n"),

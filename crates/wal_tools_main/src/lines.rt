@@ -1,12 +1,57 @@
 // The line of a cause.
 ghost use Rattle.std.specs.Prelude.{◌≡◌, string_bytes, false, IfOk, IsOk};
-ghost use Rattle.wal_tools_main.specs.Lines.{line_with, crc_pieces, systems_pieces, changed_pieces, line_of, made_text, has_values};
+ghost use Rattle.wal_tools_main.specs.Lines.{line_with, path_pieces, number_pieces, crc_pieces, shape_pieces, systems_pieces, line_of, made_text, has_values};
 
 use crate::command::name_text;
 use crate::fixed::Fixed;
-use crate::{Cause, CommandName, ControlCause, RewindCause};
+use crate::{Cause, CommandName, ControlCause, PathCause, RewindCause};
 use cluster_tree::Path;
+use control_file::Field;
 use std::alloc::{AllocError, Global};
+
+// The line of a cause with a path.
+fn path_line(
+    alloc: Global,
+    name: Option<CommandName>,
+    what: &str,
+    path: &Path,
+) -> Result<String, AllocError>
+    ensures { IfOk result (λ line. string_bytes line ≡ line_with name
+        (path_pieces what.now path.now)) }
+{
+    let name = name_text(name);
+    format!(in alloc; "{name}: error: {what} {path}\n")
+}
+
+// The line of a cause with a root and a number.
+fn number_line(
+    alloc: Global,
+    name: Option<CommandName>,
+    what: &str,
+    root: &Path,
+    number: u64,
+) -> Result<String, AllocError>
+    ensures { IfOk result (λ line. string_bytes line ≡ line_with name
+        (number_pieces what.now root.now number)) }
+{
+    let name = name_text(name);
+    format!(in alloc; "{name}: error: {what} {root} {number}\n")
+}
+
+// The line of a field that is out of shape.
+fn shape_line(
+    alloc: Global,
+    name: Option<CommandName>,
+    root: &Path,
+    field: Field,
+    value: u64,
+) -> Result<String, AllocError>
+    ensures { IfOk result (λ line. string_bytes line ≡ line_with name
+        (shape_pieces root.now field value)) }
+{
+    let name = name_text(name);
+    format!(in alloc; "{name}: error: Shape {root} {field} {value}\n")
+}
 
 // The line of a checksum that differs.
 fn crc_line(
@@ -37,12 +82,29 @@ fn systems_line(
     format!(in alloc; "{name}: error: SystemsDiffer {target} {source}\n")
 }
 
-// The line of a path about which the tree contradicted itself.
-fn changed_line(alloc: Global, name: Option<CommandName>, path: &Path) -> Result<String, AllocError>
-    ensures { IfOk result (λ line. string_bytes line ≡ line_with name (changed_pieces path.now)) }
+// The line of what is wrong with a control file.
+fn control_line(
+    alloc: Global,
+    name: Option<CommandName>,
+    control: &ControlCause,
+) -> Result<String, AllocError>
+    ensures { IfOk result (λ line. string_bytes line ≡
+        line_of name (Cause.Control control.now)) }
 {
-    let name = name_text(name);
-    format!(in alloc; "{name}: error: Changed {path}\n")
+    match control {
+        ControlCause::ControlMissing(root) => path_line(alloc, name, "ControlMissing", root),
+        ControlCause::Size(root, bytes) => number_line(alloc, name, "Size", root, *bytes),
+        ControlCause::Crc(root, stored, computed) => {
+            crc_line(alloc, name, root, *stored, *computed)
+        }
+        ControlCause::Version(root, version) => {
+            number_line(alloc, name, "Version", root, u64::from(*version))
+        }
+        ControlCause::Catalog(root, version) => {
+            number_line(alloc, name, "Catalog", root, u64::from(*version))
+        }
+        ControlCause::Shape(root, field, value) => shape_line(alloc, name, root, *field, *value),
+    }
 }
 
 /// A line on its way: none, one that takes no memory, or one that was made.
@@ -51,6 +113,23 @@ pub enum Line {
     Nothing,
     Known(Fixed),
     Made(String),
+}
+
+// The line of what is wrong with a path.
+fn path_cause_line(
+    alloc: Global,
+    name: Option<CommandName>,
+    paths: &PathCause,
+) -> Result<Line, AllocError>
+    ensures line { IfOk result (λ line. made_text name line ≡
+        line_of name (Cause.Paths paths.now)) }
+    ensures known { has_values (Cause.Paths paths.now) ≡ false → IsOk result }
+{
+    Ok(match paths {
+        PathCause::DotDot => Line::Known(Fixed::DotDot),
+        PathCause::TooDeep(path) => Line::Made(path_line(alloc, name, "TooDeep", path)?),
+        PathCause::PathsOverlap => Line::Known(Fixed::PathsOverlap),
+    })
 }
 
 /// The line of a cause. One with values is made in memory.
@@ -70,10 +149,9 @@ pub(crate) fn line_of(
         Cause::WriteFault => Line::Known(Fixed::WriteFault),
         Cause::SinkFault => Line::Known(Fixed::SinkFault),
         Cause::OutOfMemory => Line::Known(Fixed::OutOfMemory),
-        Cause::Changed(path) => Line::Made(changed_line(alloc, name, path)?),
-        Cause::Control(ControlCause::Crc(root, stored, computed)) => {
-            Line::Made(crc_line(alloc, name, root, *stored, *computed)?)
-        }
+        Cause::Changed(path) => Line::Made(path_line(alloc, name, "Changed", path)?),
+        Cause::Paths(paths) => path_cause_line(alloc, name, paths)?,
+        Cause::Control(control) => Line::Made(control_line(alloc, name, control)?),
         Cause::Rewind(RewindCause::SystemsDiffer(target, source)) => {
             Line::Made(systems_line(alloc, name, *target, *source)?)
         }

@@ -11,16 +11,18 @@ mod fixed;
 mod lines;
 mod listing;
 mod opened;
+mod pg_controldata;
 mod pg_rewind;
 mod program;
 mod removing;
+mod roots;
 mod seen;
 mod std_sink;
 #[cfg(test)]
 mod tests;
 mod words;
 
-pub use cause::{Cause, ControlCause, RewindCause};
+pub use cause::{Cause, ControlCause, PathCause, RewindCause};
 pub use command::{Command, CommandName};
 pub use dir_tree::DirTree;
 pub use exit::Exit;

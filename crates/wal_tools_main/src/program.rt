@@ -1,5 +1,5 @@
 // The top call.
-ghost use Rattle.std.specs.Prelude.{◌≡◌, ◌≢◌, ◌≤◌, ◌⊎◌, ◌↔◌, IsTrue, Ok, Err, None, IsErrOf, map, string_bytes};
+ghost use Rattle.std.specs.Prelude.{◌≡◌, ◌≢◌, ◌≤◌, ◌⊎◌, IsTrue, Ok, Err, None, IsErrOf, map, string_bytes};
 ghost use Rattle.cluster_tree.specs.PathValue.{PathValue};
 ghost use Rattle.cluster_tree.specs.Causes.{OnlyReads, Passes, Rose};
 ghost use Rattle.wal_tools_main.specs.Causes.{IsFree, cause_of, status_of};
@@ -7,10 +7,11 @@ ghost use Rattle.wal_tools_main.specs.Command.{name_of};
 ghost use Rattle.wal_tools_main.specs.Words.{IsFit, command_of};
 ghost use Rattle.wal_tools_main.specs.Lines.{line_of};
 ghost use Rattle.wal_tools_main.specs.Answers.{answered, answer_to, cause_in};
-ghost use Rattle.wal_tools_main.specs.Texts.{Prints, Reports, ErrAfter, Changes, MayChange};
+ghost use Rattle.wal_tools_main.specs.Texts.{Prints, Shows, Reports, ErrAfter, Changes, MayChange};
 
 use crate::command::name_of;
 use crate::finish::finish;
+use crate::pg_controldata::pg_controldata;
 use crate::pg_rewind::pg_rewind;
 use crate::words::command_of;
 use crate::{Cause, Command, Exit};
@@ -36,6 +37,9 @@ fn carry_out<F: Tree, O: Sink, E: Sink>(
 
     ensures out { IsTrue O.tells → Prints (Ok command) (cause_of result) (O.written out.old)
         (O.written out.new) }
+    ensures shown { IsTrue F.tells → IsTrue O.tells → Shows
+        (answer_to (F.contents tree.old) command).out (cause_of result) (O.written out.old)
+        (O.written out.new) }
     ensures report { IsTrue E.tells → Reports (Ok command) (cause_of result) (E.written err.old)
         (E.written err.new) (E.failed_writes err.old) (E.failed_writes err.new) }
 
@@ -55,6 +59,7 @@ fn carry_out<F: Tree, O: Sink, E: Sink>(
         Command::PgRewind { target, source } => {
             pg_rewind(alloc, tree, err, &target, &source, now)
         }
+        Command::PgControldata { root } => pg_controldata(alloc, tree, out, &root),
     }
 }
 
@@ -77,6 +82,8 @@ fn answer<F: Tree, O: Sink, E: Sink>(
 
     ensures out { IsTrue O.tells → Prints (command_of (map string_bytes words.now))
         (cause_of result) (O.written out.old) (O.written out.new) }
+    ensures shown { IsTrue F.tells → IsTrue O.tells → Shows (answered (map string_bytes words.now)
+        (F.contents tree.old)).out (cause_of result) (O.written out.old) (O.written out.new) }
     ensures report { IsTrue E.tells → Reports (command_of (map string_bytes words.now))
         (cause_of result) (E.written err.old) (E.written err.new) (E.failed_writes err.old)
         (E.failed_writes err.new) }
@@ -91,7 +98,9 @@ fn answer<F: Tree, O: Sink, E: Sink>(
         Rose (E.failed_writes err.old) (E.failed_writes err.new) }
     ensures changed { IsTrue F.tells → (p : PathValue) → result ≢ Err (Cause.Changed p) }
     ensures undone { result ≢ Err Cause.Done }
-    ensures usage { result ≡ Err Cause.Usage ↔ (name_of (map string_bytes words.now) ≡ None) }
+    ensures usage { result ≡ Err Cause.Usage →
+        command_of (map string_bytes words.now) ≡ Err Cause.Usage }
+    ensures nameless { name_of (map string_bytes words.now) ≡ None → result ≡ Err Cause.Usage }
     ensures unfit { (e : Cause) → command_of (map string_bytes words.now) ≡ Err e →
         (result ≡ Err e) ⊎ (result ≡ Err Cause.OutOfMemory) }
     ensures later { E.failed_writes err.old ≤ E.failed_writes err.new }
@@ -134,13 +143,17 @@ pub fn run<F: Tree, O: Sink, E: Sink>(
         OnlyReads F.contents F.calls F.failed_reads F.failed_changes tree.old tree.new }
 
     // what the words alone decide, over every tree
-    ensures usage { result.cause ≡ Cause.Usage ↔ (name_of (map string_bytes words.now) ≡ None) }
+    ensures usage { result.cause ≡ Cause.Usage →
+        command_of (map string_bytes words.now) ≡ Err Cause.Usage }
+    ensures nameless { name_of (map string_bytes words.now) ≡ None → result.cause ≡ Cause.Usage }
     ensures unfit { (e : Cause) → command_of (map string_bytes words.now) ≡ Err e →
         (result.cause ≡ e) ⊎ (result.cause ≡ Cause.OutOfMemory) }
 
     // the texts, over every tree
     ensures out { IsTrue O.tells → Prints (command_of (map string_bytes words.now)) result.cause
         (O.written out.old) (O.written out.new) }
+    ensures shown { IsTrue F.tells → IsTrue O.tells → Shows (answered (map string_bytes words.now)
+        (F.contents tree.old)).out result.cause (O.written out.old) (O.written out.new) }
     ensures err { IsTrue E.tells → ErrAfter (command_of (map string_bytes words.now))
         result.cause (line_of (name_of (map string_bytes words.now)) result.cause)
         (E.written err.old) (E.written err.new) (E.failed_writes err.old)

@@ -3,3 +3,4 @@
 mod adapters;
 mod clusters;
 mod runs;
+mod words;

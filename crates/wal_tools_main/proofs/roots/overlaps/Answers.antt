@@ -1,7 +1,7 @@
 use Rattle.std.proofs.Common.{◌≡◌, true, false, ap, sym, ◌∙◌, ◌||◌}
 use Rattle.rewind_core.specs.Roots.{is_held, overlap}
 use Rattle.rewind_core.proofs.HoldLemmas.{is_held-test}
-use Rattle.wal_tools_main.proofs.words.overlaps.Goals as goal
+use Rattle.wal_tools_main.proofs.roots.overlaps.Goals as goal
 
 pub returns-then-target_holds : goal.returns-then-target_holds
 unfolding overlap
