@@ -14,12 +14,12 @@ unfolding front_of
 returns c =
     let text = c.args.text.now in
     let seen = YieldsList-end
-        (YieldsList-at c.into_iter-part-iterator.ensures.into_iter_gives
-            (YieldsList-from_take 64
-                (YieldsList-at c.take-part-items.ensures.source
-                    (YieldsList-from_filter _ is_kept
-                        (YieldsList-at c.filter.ensures.source (YieldsList-from_str_split 47 text (lit< tt) c.split.ensures.text c.split.ensures.has_more c.split.ensures.pattern))
-                        c.filter.ensures.closure (λ x b q k. search (rules, tests))))
-                c.take-part-items.ensures.count))
-        c.loop-part.yielded _ c.loop-part.yielded_by _ _ c.in-None.is c.next.ensures.steps in
+    (YieldsList-at c.into_iter-part-iterator.ensures.into_iter_gives
+    (YieldsList-from_take 64
+    (YieldsList-at c.take-part-items.ensures.source
+    (YieldsList-from_filter _ is_kept
+    (YieldsList-at c.filter.ensures.source (YieldsList-from_str_split 47 text (lit< tt) c.split.ensures.text c.split.ensures.has_more c.split.ensures.pattern))
+    c.filter.ensures.closure (λ x b q k. search (rules, tests))))
+    c.take-part-items.ensures.count))
+    c.loop-part.yielded _ c.loop-part.yielded_by _ _ c.in-None.is c.next.ensures.steps in
     c.loop-part.invariant ∙ ap (path_of (is_rooted text)) (ap (flat_map kept_parts) seen.0 ∙ front-again 64 text)
