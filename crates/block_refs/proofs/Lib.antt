@@ -1,0 +1,9 @@
+pub mod Steps
+pub mod HeadLemmas
+pub mod PieceLemmas
+pub mod PartsLemmas
+pub mod ReadLemmas
+pub mod PlaceLemmas
+pub mod OutcomeLemmas
+pub mod FillLemmas
+pub mod RiseLemmas

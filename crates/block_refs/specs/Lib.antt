@@ -1,0 +1,10 @@
+pub mod Names
+pub mod Bits
+pub mod Image
+pub mod Header
+pub mod Fragment
+pub mod Parts
+pub mod Standing
+pub mod Spelling
+pub mod Bytes
+pub mod Outcomes

@@ -1,0 +1,20 @@
+-- Forks of relations: PostgreSQL 16, src/include/common/relpath.h, ForkNumber.
+use Rattle.std.specs.Prelude.{ℕ, ◌==◌, Option, Some, None, if◌then◌else◌}
+use Rattle.block_refs.specs.declared.names.Fork.{Fork}
+use Rattle.block_refs.specs.declared.names.Fork.TheVariants.{Main, FreeSpace, Visibility, Init}
+
+-- the number of a fork
+abbrev pub fork_number : Fork → ℕ
+fork_number Main = 0
+fork_number FreeSpace = 1
+fork_number Visibility = 2
+fork_number Init = 3
+
+-- the fork of a number, where there is one
+unfoldable pub fork_of : ℕ → Option Fork
+fork_of number =
+    if number == 0 then Some Main
+    else if number == 1 then Some FreeSpace
+    else if number == 2 then Some Visibility
+    else if number == 3 then Some Init
+    else None

@@ -1,0 +1,101 @@
+-- How a fragment stands at an offset of a body, field by field and in no order: PostgreSQL 16,
+-- src/include/access/xlogrecord.h.
+use Rattle.std.specs.Prelude.{◌≡◌, ℕ, ◌+◌, ◌<◌, ◌≤◌, ◌⊎◌, ◌↔◌, true, false, List, length, Option, Some, None, bit_and, IfSome}
+use Rattle.layout.specs.Readers.{byte_at, half_at, word_at}
+use Rattle.block_refs.specs.declared.names.RelName.{RelName}
+use Rattle.block_refs.specs.declared.block_ref.BlockRef.{BlockRef}
+use Rattle.block_refs.specs.declared.block_ref.ImageRef.{ImageRef}
+use Rattle.block_refs.specs.declared.fragment.Fragment.{Fragment}
+use Rattle.block_refs.specs.declared.fragment.Fragment.TheVariants.{Block, Main, Other}
+use Rattle.block_refs.specs.declared.header.Head.{Head}
+use Rattle.block_refs.specs.declared.image.Image.{Image}
+use Rattle.block_refs.specs.declared.image.Image.TheVariants.{Missing, Plain, Compressed}
+use Rattle.block_refs.specs.Names.{fork_number}
+use Rattle.block_refs.specs.Bits.{has_image, has_bytes, will_init, is_same_rel, has_hole, is_applied, is_compressed, has_unknown}
+use Rattle.block_refs.specs.Image.{image_end}
+use Rattle.block_refs.specs.Header.{relation_end, relation_at}
+
+-- a page's hole: it has an offset and a length and lies within the page; or there is none
+abbrev pub IsHole : ImageRef → ℕ → Type 0
+IsHole image info =
+    ((has_hole info ≡ true) × (0 < image.hole_at) × (0 < image.hole) × (image.hole_at + image.hole ≤ 8192))
+    ⊎ ((has_hole info ≡ false) × (image.hole_at ≡ 0) × (image.hole ≡ 0))
+
+-- the header of an image that isn't compressed
+pub record IsPlain (body : List ℕ) (at : ℕ) (image : ImageRef) : Type 0 where
+  pub size : half_at at body + image.hole ≡ 8192
+  pub hole_at : half_at (at + 2) body ≡ image.hole_at
+  pub apply : is_applied (byte_at (at + 4) body) ≡ image.apply
+  pub known : has_unknown (byte_at (at + 4) body) ≡ false
+  pub plain : is_compressed (byte_at (at + 4) body) ≡ false
+  pub hole : IsHole image (byte_at (at + 4) body)
+
+-- the image of a block reference with these flags, whose header stands at an offset
+abbrev pub IsImage : List ℕ → ℕ → ℕ → Image → Type 0
+IsImage body at flags Missing = has_image flags ≡ false
+IsImage body at flags (Plain image) = (has_image flags ≡ true) × (at + 5 ≤ length body) × IsPlain body at image
+IsImage body at flags Compressed =
+    (has_image flags ≡ true) × (at + 5 ≤ length body) × (has_unknown (byte_at (at + 4) body) ≡ false)
+    × (is_compressed (byte_at (at + 4) body) ≡ true)
+
+-- the relation of a block reference with these flags: that of the block before, or the one at an offset
+abbrev pub IsRelation : List ℕ → ℕ → ℕ → Option BlockRef → RelName → Type 0
+IsRelation body at flags before rel =
+    ((is_same_rel flags ≡ true) × (last : BlockRef) × (before ≡ Some last) × (rel ≡ last.name.rel))
+    ⊎ ((is_same_rel flags ≡ false) × (rel ≡ relation_at body at))
+
+-- where the header's image and relation end
+abbrev pub flags_at : List ℕ → ℕ → ℕ
+flags_at body at = byte_at (at + 1) body
+
+abbrev pub behind_image : List ℕ → ℕ → ℕ
+behind_image body at = image_end body (at + 4) (flags_at body at)
+
+abbrev pub behind_relation : List ℕ → ℕ → ℕ
+behind_relation body at = relation_end (behind_image body at) (flags_at body at)
+
+-- the header of a block reference stands at an offset, behind another one
+pub record IsHead (body : List ℕ) (at : ℕ) (before : Option BlockRef) (head : Head) : Type 0 where
+  pub id : byte_at at body ≡ head.id
+  pub greatest : head.id ≤ 32
+  pub rises : IfSome before (λ last. last.id < head.id)
+  pub fork : bit_and (flags_at body at) 0x0F ≡ fork_number head.name.fork
+  pub will_init : will_init (flags_at body at) ≡ head.will_init
+  pub size : half_at (at + 2) body ≡ head.size
+  pub bytes : (has_bytes (flags_at body at) ≡ true) ↔ (0 < head.size)
+  pub image : IsImage body (at + 4) (flags_at body at) head.image
+  pub relation : IsRelation body (behind_image body at) (flags_at body at) before head.name.rel
+  pub block : word_at (behind_relation body at) body ≡ head.name.block
+  pub next : head.next ≡ behind_relation body at + 4
+  pub within : head.next ≤ length body
+
+-- a block reference of so many bytes, whose image isn't compressed, as a header that ends at an offset
+abbrev pub image_as : Option ImageRef → Image
+image_as None = Missing
+image_as (Some image) = Plain image
+
+abbrev pub head_of : BlockRef → ℕ → ℕ → Head
+head_of block size next = record {
+  id = block.id;
+  name = block.name;
+  will_init = block.will_init;
+  image = image_as block.image;
+  size = size;
+  next = next;
+}
+
+-- main bytes: their number in one byte behind 255, or in four behind 254
+abbrev pub IsMain : List ℕ → ℕ → ℕ → ℕ → Type 0
+IsMain body at size next =
+    ((byte_at at body ≡ 255) × (size ≡ byte_at (at + 1) body) × (next ≡ at + 2))
+    ⊎ ((byte_at at body ≡ 254) × (size ≡ word_at (at + 1) body) × (next ≡ at + 5))
+
+-- an origin of two bytes behind 253, or a transaction of four behind 252
+abbrev pub IsOther : List ℕ → ℕ → ℕ → Type 0
+IsOther body at next = ((byte_at at body ≡ 253) × (next ≡ at + 3)) ⊎ ((byte_at at body ≡ 252) × (next ≡ at + 5))
+
+-- a fragment stands at an offset, behind a block reference, and ends at another offset
+abbrev pub IsFragment : List ℕ → ℕ → Option BlockRef → Fragment → ℕ → Type 0
+IsFragment body at before (Block block size) next = IsHead body at before (head_of block size next)
+IsFragment body at before (Main size) next = IsMain body at size next
+IsFragment body at before Other next = IsOther body at next

@@ -1,0 +1,24 @@
+//! The parts of a record of the log: block references, their images and bytes, the main bytes.
+#![tactic(auto)]
+
+mod block_ref;
+mod fault;
+mod fragment;
+mod header;
+mod image;
+mod laws;
+mod names;
+mod page;
+mod parts;
+mod split;
+
+pub use block_ref::{BlockRef, ImageRef};
+pub use fault::PartsFault;
+pub use laws::{bodies_have_one_reading, ids_rise, parts_fill_a_body};
+pub use names::{BlockName, Fork, RelName};
+pub use page::image_page;
+pub use parts::Parts;
+pub use split::split_record;
+
+#[cfg(test)]
+mod tests;
