@@ -9,3 +9,14 @@ pub mod SpellsLemmas
 pub mod RelationLemmas
 pub mod FactLemmas
 pub mod ViewLemmas
+pub mod ZerosLemmas
+pub mod WriterLemmas
+pub mod AppendLemmas
+pub mod NearLemmas
+pub mod AgainLemmas
+pub mod StandsLemmas
+pub mod PlacedLemmas
+pub mod RunLemmas
+pub mod EndLemmas
+pub mod StateLemmas
+pub mod NextLemmas

@@ -1,5 +1,5 @@
 -- Each step of a log moves up, and so the log is what a place has and the log from where that goes on.
-use Rattle.std.proofs.Common.{◌≡◌, ℕ, zero, suc, ◌+◌, ◌-◌, ◌*◌, ◌/◌, ◌%◌, ◌^◌, ◌<◌, ◌≤◌, ◌++◌, Bool, true, false, cond, List, [], ◌∷◌, take, drop, length, Option, Some, None, Result, Ok, Err, refl, sym, ap, ◌∙◌, arith, nat_lt, eqb, inl, inr}
+use Rattle.std.proofs.Common.{◌≡◌, ℕ, zero, suc, ◌+◌, ◌-◌, ◌%◌, ◌^◌, ◌<◌, ◌≤◌, Bool, true, false, cond, List, [], ◌∷◌, length, Option, Some, None, Result, Ok, Err, refl, sym, ap, ◌∙◌, arith, nat_lt, eqb, inl, inr}
 use Rattle.std.proofs.lemmas.Bool.{cases_lt, le-leb, lt-leb}
 use Rattle.layout.specs.Readers.{word_at}
 use Rattle.wal_pages.specs.Header.{page_of, has_bit, header_of as page_header}
@@ -10,8 +10,8 @@ use Rattle.wal_records.specs.declared.why.Stop.{Stop}
 use Rattle.wal_records.specs.declared.why.Stop.TheVariants.{Ends, Dropped}
 use Rattle.wal_records.specs.Place.{place_at, is_place}
 use Rattle.wal_records.specs.Header.{header_of, header_fault, length_fault}
-use Rattle.wal_records.specs.Further.{Pages, FurtherPage, further_page, why_refused, room, further_in, further, stop_of, stop_in, stop_at, or_stop, first_stop, piece, Gathered, gathered}
-use Rattle.wal_records.specs.Reading.{LogRecord, Reading, Spelled, Stopped, reading, reading_in, continues_at, after_first, after_front, after_header, after_rest, sealed, seal_fault, unless, ends}
+use Rattle.wal_records.specs.Further.{Pages, FurtherPage, further_page, room, further_in, further, stop_in, stop_at, or_stop, first_stop, Gathered, gathered}
+use Rattle.wal_records.specs.Reading.{Reading, Spelled, Stopped, reading, reading_in, continues_at, after_first, after_front, after_header, after_rest, sealed, seal_fault, unless, ends}
 use Rattle.wal_records.specs.Log.{Log, ended, with_first, log_step, log_in, log_from}
 use Rattle.wal_records.proofs.ExtentLemmas.{end_up}
 use Rattle.wal_records.proofs.PlaceLemmas.{place_at_up, page_up}

@@ -1,5 +1,5 @@
 -- The bytes of a record, as they grow page by page.
-use Rattle.std.proofs.Common.{◌≡◌, ℕ, zero, suc, ◌+◌, ◌-◌, ◌*◌, ◌%◌, ◌<◌, ◌≤◌, min, List, ◌++◌, take, drop, length, get_or, slice_index, refl, sym, ap, ◌∙◌, subst, arith, length-append, length-drop}
+use Rattle.std.proofs.Common.{◌≡◌, ℕ, ◌+◌, ◌-◌, ◌%◌, ◌<◌, ◌≤◌, min, List, ◌++◌, take, drop, length, refl, sym, ap, ◌∙◌, subst, arith, length-append, length-drop}
 use Rattle.std.proofs.lemmas.List.{take-append-drop, take-append-le, drop-append-le, get_or_append_left, length-take, take_all}
 use Rattle.std.proofs.Math.Seq.{take-append_seam, take-length}
 use Rattle.layout.specs.Readers.{byte_at, word_at, long_at}

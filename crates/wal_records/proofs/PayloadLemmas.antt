@@ -1,16 +1,15 @@
 -- The payload on one page, and on pages one after another.
-use Rattle.std.proofs.Common.{◌≡◌, ℕ, zero, suc, ◌+◌, ◌-◌, ◌*◌, ◌/◌, ◌%◌, ◌<◌, ◌≤◌, ◌++◌, Bool, true, false, cond, not, nat_lt, List, [], ◌∷◌, map, filter, take, drop, length, get_or, slice_get, Option, Some, None, Ok, refl, sym, ap, ◌∙◌, arith, length-drop, drop-cons, add-one}
+use Rattle.std.proofs.Common.{◌≡◌, ℕ, zero, suc, ◌+◌, ◌%◌, ◌<◌, ◌≤◌, ◌++◌, true, false, cond, not, nat_lt, List, [], ◌∷◌, map, filter, take, drop, length, get_or, slice_get, Some, refl, sym, ap, ◌∙◌, arith, drop-cons, add-one}
 use Rattle.std.specs.List.{range_with_len}
 use Rattle.std.proofs.lemmas.Bool.{lt-ltb, le-ltb}
 use Rattle.std.proofs.lemmas.List.Elements.{filter-append}
-use Rattle.std.proofs.lemmas.List.{map-append, get_or-drop}
+use Rattle.std.proofs.lemmas.List.{map-append}
 use Rattle.std.proofs.lemmas.Option.{slice_get-get_or}
 use Rattle.wal_base.specs.Segment.{bytes_of}
 use Rattle.wal_pages.specs.declared.log_path.LogPath.{LogPath}
 use Rattle.wal_pages.specs.Folder.{Folder}
 use Rattle.wal_pages.specs.Header.{header_size, page_of}
 use Rattle.wal_pages.specs.LogBytes.{log_byte}
-use Rattle.wal_pages.specs.Page.{page_at}
 use Rattle.wal_pages.specs.Payload.{in_header, payload}
 use Rattle.wal_records.proofs.FurtherLemmas.{header_short}
 

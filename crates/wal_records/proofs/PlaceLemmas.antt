@@ -1,5 +1,5 @@
 -- Places go up.
-use Rattle.std.proofs.Common.{◌≡◌, ℕ, ◌+◌, ◌*◌, ◌/◌, ◌%◌, ◌<◌, ◌≤◌, arith}
+use Rattle.std.proofs.Common.{◌≡◌, ℕ, ◌+◌, ◌*◌, ◌/◌, ◌<◌, ◌≤◌, arith}
 use Rattle.wal_pages.specs.Header.{page_of}
 use Rattle.wal_records.specs.Place.{place_at}
 

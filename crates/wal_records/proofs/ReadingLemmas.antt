@@ -1,5 +1,5 @@
 -- Each way that the reading of a place may go.
-use Rattle.std.proofs.Common.{◌≡◌, ℕ, List, ◌++◌, ◌+◌, ◌-◌, ◌%◌, ◌<◌, ◌≤◌, take, drop, length, Option, Some, None, Result, Ok, Err, true, false, cond, nat_lt, refl, sym, ap, ◌∙◌, arith}
+use Rattle.std.proofs.Common.{◌≡◌, ℕ, List, ◌++◌, ◌+◌, ◌-◌, ◌%◌, ◌<◌, ◌≤◌, take, drop, length, Option, Some, None, Result, Ok, Err, true, false, refl, sym, ap, ◌∙◌}
 use Rattle.std.proofs.lemmas.Bool.{lt-ltb, le-ltb}
 use Rattle.layout.specs.Readers.{word_at}
 use Rattle.wal_pages.specs.Header.{page_of, header_of as page_header}
@@ -10,8 +10,8 @@ use Rattle.wal_records.specs.declared.why.Stop.{Stop}
 use Rattle.wal_records.specs.declared.why.Stop.TheVariants.{Ends}
 use Rattle.wal_records.specs.Place.{is_place}
 use Rattle.wal_records.specs.Header.{header_of, header_fault, length_fault}
-use Rattle.wal_records.specs.Further.{Pages, FurtherPage, further_page, further, room, stop_at, piece, why_refused, Gathered, gathered}
-use Rattle.wal_records.specs.Reading.{Reading, Spelled, Stopped, reading, reading_in, continues_at, after_first, after_front, after_header, after_rest, sealed, sealed_end, record_of, seal_fault, unless, ends}
+use Rattle.wal_records.specs.Further.{Pages, FurtherPage, further_page, further, room, stop_at, piece, Gathered, gathered}
+use Rattle.wal_records.specs.Reading.{Spelled, Stopped, reading, reading_in, continues_at, after_first, after_front, after_header, after_rest, sealed, seal_fault, unless, ends}
 use Rattle.wal_records.specs.Steps.{page_why}
 use Rattle.wal_records.proofs.FurtherLemmas.{same_further}
 

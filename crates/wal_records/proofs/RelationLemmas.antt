@@ -1,27 +1,21 @@
 -- What the relation says of a place, and what is read there, are one.
-use Rattle.std.proofs.Common.{◌≡◌, ℕ, zero, suc, ◌+◌, ◌-◌, ◌*◌, ◌/◌, ◌%◌, ◌^◌, ◌<◌, ◌≤◌, min, ◌++◌, Bool, true, false, cond, not, nat_lt, nat_le, eqb, List, [], ◌∷◌, map, take, drop, length, Option, Some, None, Result, Ok, Err, refl, sym, ap, ◌∙◌, subst, arith, eqb-true, eq-eqb, inl, inr, append_assoc, length-append, length-drop}
+use Rattle.std.proofs.Common.{◌≡◌, ℕ, ◌+◌, ◌-◌, ◌%◌, ◌<◌, ◌≤◌, min, ◌++◌, Bool, true, false, cond, List, [], ◌∷◌, take, drop, length, Option, Some, None, Result, Ok, Err, refl, sym, ap, ◌∙◌, subst, arith, inl, inr, append_assoc, length-append, length-drop}
 use Rattle.std.specs.List.{flat_map, AllByRecursion}
-use Rattle.std.proofs.lemmas.Bool.{cases_lt, lt-ltb, le-ltb}
+use Rattle.std.proofs.lemmas.Bool.{cases_lt}
 use Rattle.std.proofs.lemmas.Bool.Decides.{nat_tests}
-use Rattle.std.proofs.lemmas.List.{take_all, length-take, map-append, length-map, append-nil}
+use Rattle.std.proofs.lemmas.List.{length-take}
 use Rattle.layout.specs.Readers.{word_at}
-use Rattle.wal_base.specs.Segment.{bytes_of}
-use Rattle.wal_pages.specs.declared.log_path.LogPath.{LogPath}
-use Rattle.wal_pages.specs.Folder.{Folder}
-use Rattle.wal_pages.specs.Header.{header_size, page_of, has_bit, header_of as page_header}
-use Rattle.wal_pages.specs.Page.{Refusal, page_at}
-use Rattle.wal_pages.specs.Payload.{in_header, payload}
+use Rattle.wal_pages.specs.Header.{header_size, page_of, header_of as page_header}
+use Rattle.wal_pages.specs.Page.{Refusal}
 use Rattle.wal_records.specs.declared.header.RecordHeader.{RecordHeader}
 use Rattle.wal_records.specs.declared.why.Why.{Why}
 use Rattle.wal_records.specs.declared.why.Why.TheVariants as why
 use Rattle.wal_records.specs.declared.why.Stop.{Stop}
 use Rattle.wal_records.specs.declared.why.Stop.TheVariants.{Ends}
 use Rattle.wal_records.specs.Place.{is_place}
-use Rattle.wal_records.specs.Header.{header_of, length_fault, header_fault, is_no_manager, is_linked, checksum, greatest_total}
+use Rattle.wal_records.specs.Header.{header_of, length_fault, header_fault, greatest_total}
 use Rattle.wal_records.specs.Further.{Pages, FurtherPage, further_page, room, further, first_stop, or_stop, stop_in, stop_at, piece, piece_in, why_refused, Gathered, gathered}
-use Rattle.wal_records.specs.Extent.{behind_in, behind_of, end_of}
-use Rattle.wal_records.specs.Reading.{LogRecord, Reading, Spelled, Stopped, reading, reading_in, continues_at, after_first, after_front, after_header, after_rest, sealed, sealed_end, record_of, seal_fault, unless, ends}
-use Rattle.wal_records.specs.Spells.{LinksTo}
+use Rattle.wal_records.specs.Reading.{LogRecord, Reading, Spelled, Stopped, reading, reading_in, continues_at, after_first, after_front, after_header, after_rest, sealed, seal_fault, unless, ends}
 use Rattle.wal_records.proofs.FurtherLemmas.{further_more, header_short}
 use Rattle.wal_records.proofs.PartLemmas.{word_front, long_front, byte_front}
 use Rattle.wal_records.proofs.ReadingLemmas.{read_on, first_whole, first_reaches, front_on, body_on, rest_sealed}

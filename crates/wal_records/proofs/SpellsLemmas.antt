@@ -1,14 +1,13 @@
 -- A place spells a record exactly where that is what is read there.
-use Rattle.std.proofs.Common.{◌≡◌, ◌&&◌, ℕ, zero, suc, ◌+◌, ◌-◌, ◌*◌, ◌/◌, ◌%◌, ◌^◌, ◌<◌, ◌≤◌, min, ◌++◌, ◌⊎◌, Bool, true, false, cond, not, nat_lt, nat_le, eqb, List, [], ◌∷◌, map, take, drop, length, Option, Some, None, Result, Ok, Err, refl, sym, ap, ◌∙◌, subst, arith, eqb-true, eq-eqb, inl, inr, append_assoc, length-append, length-drop}
+use Rattle.std.proofs.Common.{◌≡◌, ◌&&◌, ℕ, zero, suc, ◌+◌, ◌-◌, ◌*◌, ◌%◌, ◌<◌, ◌≤◌, min, ◌++◌, Bool, true, false, cond, eqb, List, [], ◌∷◌, map, take, drop, length, Option, Some, None, Result, Ok, Err, refl, sym, ap, ◌∙◌, subst, arith, eqb-true, eq-eqb, inl, inr, length-append, length-drop}
 use Rattle.std.specs.List.{flat_map, AllByRecursion}
 use Rattle.std.proofs.lemmas.Bool.{cases_lt}
-use Rattle.std.proofs.lemmas.Bool.Decides.{nat_tests}
 use Rattle.std.proofs.lemmas.List.{take_all, length-take, map-append, append-nil}
 use Rattle.wal_base.specs.Segment.{bytes_of}
 use Rattle.wal_pages.specs.declared.header.PageHeader.{PageHeader}
 use Rattle.wal_pages.specs.declared.log_path.LogPath.{LogPath}
 use Rattle.wal_pages.specs.Folder.{Folder}
-use Rattle.wal_pages.specs.Header.{header_size, page_of, has_bit, header_of as page_header}
+use Rattle.wal_pages.specs.Header.{header_size, has_bit, header_of as page_header}
 use Rattle.wal_pages.specs.Page.{Refusal, page_at}
 use Rattle.wal_pages.specs.Payload.{in_header, payload}
 use Rattle.wal_pages.proofs.LogLemmas.{is_read, read_length, read_bytes}
@@ -19,8 +18,8 @@ use Rattle.wal_records.specs.Further.{FurtherPage, further_page, room, further, 
 use Rattle.wal_records.specs.Extent.{behind_in}
 use Rattle.wal_records.specs.Spells.{Announces}
 use Rattle.wal_records.proofs.FurtherLemmas.{further_none, further_more, room_some, header_short}
-use Rattle.wal_records.proofs.ExtentLemmas.{behind_more, behind_done}
-use Rattle.wal_records.proofs.PayloadLemmas.{IsHere, payload_append, payload_at, in_head, past_head, page_front}
+use Rattle.wal_records.proofs.ExtentLemmas.{behind_more}
+use Rattle.wal_records.proofs.PayloadLemmas.{IsHere, payload_append, in_head, past_head, page_front}
 
 pub here : (log : LogPath) (files : Folder) (at : ℕ) (page : List ℕ) → at % 8192 ≡ 0 → page_at log files at ≡ Ok page → IsHere log files at page
 here log files at page whole e =

@@ -1,32 +1,27 @@
 -- The two views of a record: what is read at a place, and the relation on the payload.
-use Rattle.std.proofs.Common.{◌≡◌, ◌↔◌, ℕ, zero, suc, ◌+◌, ◌-◌, ◌*◌, ◌/◌, ◌%◌, ◌^◌, ◌<◌, ◌≤◌, min, ◌++◌, ◌&&◌, Bool, true, false, cond, not, nat_lt, nat_le, eqb, List, [], map, take, drop, length, Option, Some, None, Ok, refl, sym, ap, ◌∙◌, subst, arith, eqb-true, eq-eqb, inl, inr, length-append, length-drop}
+use Rattle.std.proofs.Common.{◌≡◌, ◌↔◌, ℕ, ◌+◌, ◌-◌, ◌%◌, ◌<◌, ◌≤◌, min, ◌++◌, false, List, [], map, take, drop, length, Option, Some, None, refl, sym, ap, ◌∙◌, subst, arith, inl, inr, length-append, length-drop}
 use Rattle.std.specs.List.{flat_map, AllByRecursion}
-use Rattle.std.proofs.lemmas.Bool.{cases_lt, lt-ltb, le-ltb, le-leb, lt-leb}
-use Rattle.std.proofs.lemmas.Bool.Decides.{nat_tests}
+use Rattle.std.proofs.lemmas.Bool.{cases_lt, le-ltb}
 use Rattle.std.proofs.lemmas.List.{take_all, length-take, map-append, append-nil}
 use Rattle.layout.specs.Readers.{word_at}
 use Rattle.wal_base.specs.Segment.{bytes_of}
 use Rattle.wal_pages.specs.declared.log_path.LogPath.{LogPath}
 use Rattle.wal_pages.specs.Folder.{Folder}
-use Rattle.wal_pages.specs.Header.{header_size, page_of, has_bit, header_of as page_header}
+use Rattle.wal_pages.specs.Header.{header_size, page_of, header_of as page_header}
 use Rattle.wal_pages.specs.Page.{page_at}
 use Rattle.wal_pages.specs.Payload.{in_header, payload}
 use Rattle.wal_pages.proofs.LogLemmas.{is_read, read_length}
 use Rattle.wal_records.specs.declared.header.RecordHeader.{RecordHeader}
-use Rattle.wal_records.specs.declared.why.Why.{Why}
-use Rattle.wal_records.specs.declared.why.Why.TheVariants as why
-use Rattle.wal_records.specs.Place.{is_place}
-use Rattle.wal_records.specs.Header.{header_of, length_fault, header_fault, is_no_manager, is_linked, checksum, greatest_total}
+use Rattle.wal_records.specs.Header.{header_of, header_fault, checksum}
 use Rattle.wal_records.specs.Further.{FurtherPage, further, stop_at, piece}
 use Rattle.wal_records.specs.Extent.{behind_in, behind_of, end_of}
-use Rattle.wal_records.specs.Reading.{LogRecord, Spelled, reading, continues_at, sealed, sealed_end, seal_fault}
-use Rattle.wal_records.specs.Spells.{Begins, Announces, LinksTo, Spells}
+use Rattle.wal_records.specs.Reading.{LogRecord, Spelled, reading, sealed, sealed_end}
+use Rattle.wal_records.specs.Spells.{Announces, Spells}
 use Rattle.wal_records.proofs.FurtherLemmas.{further_none}
 use Rattle.wal_records.proofs.FactLemmas.{not_lt, outside, place_is, fresh_of, fresh_is, header_of_none, header_none_is, seal_of_none, seal_none_is}
 use Rattle.wal_records.proofs.PartLemmas.{word_taken, word_front}
-use Rattle.wal_records.proofs.ExtentLemmas.{all_behind}
 use Rattle.wal_records.proofs.PayloadLemmas.{IsHere, payload_append, payload_at, past_head, page_bytes}
-use Rattle.wal_records.proofs.SpellsLemmas.{here, same_bytes, some_length, Runs, runs_of, Walks, walks_of}
+use Rattle.wal_records.proofs.SpellsLemmas.{here, same_bytes, some_length, Runs, runs_of, walks_of}
 use Rattle.wal_records.proofs.RelationLemmas.{ArePages, front_of, rest_of, IsParts, HasParts, parts_read, read_parts, length_least, length_fits}
 
 pub are_pages : (log : LogPath) (files : Folder) → ArePages (page_at log files)

@@ -1,6 +1,6 @@
 -- The header of a record, and what can be wrong with it: PostgreSQL 16, src/include/access/xlogrecord.h, XLogRecord;
 -- src/backend/access/transam/xlogreader.c, ValidXLogRecordHeader and ValidXLogRecord.
-use Rattle.std.specs.Prelude.{ℕ, ◌<◌, ◌==◌, ◌&&◌, Bool, List, ◌++◌, take, drop, Option, Some, None, nat_lt, nat_le, if◌then◌else◌}
+use Rattle.std.specs.Prelude.{ℕ, ◌==◌, ◌&&◌, Bool, List, ◌++◌, take, drop, Option, Some, None, nat_lt, nat_le, if◌then◌else◌}
 use Rattle.layout.specs.Readers.{byte_at, word_at, long_at}
 use Rattle.wal_base.specs.Crc.{crc32c}
 use Rattle.wal_records.specs.declared.header.RecordHeader.{RecordHeader}

@@ -8,3 +8,6 @@ pub mod Cursor
 pub mod Steps
 pub mod Spells
 pub mod Laws
+pub mod Writer
+pub mod Zeros
+pub mod Again

@@ -1,7 +1,6 @@
 -- What the steps of reading a record answer, held to the reading of its place.
-use Rattle.std.specs.Prelude.{◌≡◌, ℕ, ◌+◌, ◌-◌, ◌*◌, ◌%◌, ◌≤◌, min, List, [], ◌++◌, length, take, Option, Some, None, Result, Ok, Err}
+use Rattle.std.specs.Prelude.{◌≡◌, ℕ, ◌+◌, ◌-◌, ◌%◌, ◌≤◌, min, List, ◌++◌, length, take, Option, Some, None, Result, Ok, Err}
 use Rattle.layout.specs.Readers.{word_at}
-use Rattle.wal_pages.specs.declared.header.PageHeader.{PageHeader}
 use Rattle.wal_pages.specs.Header.{header_of as page_header}
 use Rattle.wal_pages.specs.Page.{Refusal}
 use Rattle.wal_records.specs.declared.why.Why.{Why}
@@ -18,8 +17,8 @@ use Rattle.wal_records.specs.declared.search.Sought.TheVariants as sought
 use Rattle.wal_records.specs.Place.{place_at}
 use Rattle.wal_records.specs.Header.{greatest_total}
 use Rattle.wal_records.specs.Further.{Pages, why_refused, FurtherPage, stop_at, piece, Gathered}
-use Rattle.wal_records.specs.Reading.{LogRecord, Reading, Spelled, Stopped, reading, after_first, record_of}
-use Rattle.wal_records.specs.Log.{Log, ended, with_first, log_from}
+use Rattle.wal_records.specs.Reading.{Reading, Spelled, Stopped, reading, after_first, record_of}
+use Rattle.wal_records.specs.Log.{ended, with_first, log_from}
 
 -- why there is no page, if there is none
 abbrev pub page_why : Result (List ℕ) Refusal → Option Why

@@ -11,7 +11,7 @@ use wal_base::{Crc32c, Lsn};
 pub const HEADER_SIZE: usize = 24;
 
 /// The most bytes that a record has: 1020 MiB (`XLogRecordMaxSize`).
-const GREATEST_TOTAL: u32 = 1020 << 20;
+pub const GREATEST_TOTAL: u32 = 1020 << 20;
 
 /// The header of a record (`XLogRecord`).
 #[derive(Clone, Copy, Debug, PartialEq, Eq)]

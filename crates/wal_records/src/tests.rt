@@ -6,6 +6,7 @@ mod callers;
 mod faults;
 mod reasons;
 mod spans;
+mod written;
 
 use crate::{RecordCursor, Step, Why};
 use cluster_tree::{MemoryTree, Path, Tree};

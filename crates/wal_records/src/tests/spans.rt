@@ -5,7 +5,7 @@ use std::test::*;
 
 /// A shutdown checkpoint as PostgreSQL 16 writes it, of redo 0/100028, timeline 1, next transaction
 /// 700 and time 1700000000; its sum comes from an independent script.
-const CHECKPOINT: [u8; 114] = [
+pub const CHECKPOINT: [u8; 114] = [
     114, 0, 0, 0, 0, 0, 0, 0, 0, 0, 0, 0, 0, 0, 0, 0, 0, 0, 0, 0, 113, 188, 102, 174, 255, 88, 40,
     0, 16, 0, 0, 0, 0, 0, 1, 0, 0, 0, 1, 0, 0, 0, 1, 0, 0, 0, 0, 0, 0, 0, 188, 2, 0, 0, 0, 0, 0, 0,
     1, 64, 0, 0, 1, 0, 0, 0, 0, 0, 0, 0, 188, 2, 0, 0, 1, 0, 0, 0, 1, 0, 0, 0, 1, 0, 0, 0, 0, 0, 0,

@@ -1,4 +1,4 @@
-use Rattle.std.proofs.Common.{◌≡◌, ℕ, ◌+◌, ◌-◌, ◌*◌, ◌/◌, ◌%◌, ◌^◌, ◌<◌, ◌≤◌, min, ap, sym, ◌∙◌, arith, refl}
+use Rattle.std.proofs.Common.{◌≡◌, ℕ, ◌+◌, ◌-◌, ◌*◌, ◌/◌, ◌%◌, min, sym, ◌∙◌, arith, refl}
 use Rattle.wal_base.specs.Segment.{bytes_of}
 use Rattle.wal_pages.specs.Header.{header_size}
 use Rattle.wal_records.specs.Further.{room}

@@ -1,8 +1,8 @@
-use Rattle.std.proofs.Common.{◌≡◌, ℕ, ◌+◌, ◌-◌, ◌*◌, ◌^◌, ◌<◌, ◌≤◌, ◌++◌, min, ap, sym, ◌∙◌, arith, refl}
+use Rattle.std.proofs.Common.{◌≡◌, ℕ, ◌+◌, ◌-◌, ◌*◌, min, ap, sym, ◌∙◌, arith, refl}
 use Rattle.wal_base.specs.Segment.{bytes_of}
 use Rattle.wal_records.specs.declared.why.Stop.TheVariants.{Ends}
 use Rattle.wal_records.specs.declared.why.Why.TheVariants as why
-use Rattle.wal_records.specs.Further.{pages_of, further_page, room, piece, Gathered}
+use Rattle.wal_records.specs.Further.{pages_of, room, Gathered}
 use Rattle.wal_records.proofs.FurtherLemmas.{gathered_stop, gathered_more, gathered_end, gathered_at, past_end}
 use Rattle.wal_records.proofs.PartLemmas.{grows_on}
 use Rattle.wal_records.proofs.further.add_rest.Goals as goal

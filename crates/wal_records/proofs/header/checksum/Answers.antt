@@ -1,4 +1,4 @@
-use Rattle.std.proofs.Common.{◌≡◌, List, ℕ, [], ◌-◌, ◌++◌, length, ap, ◌∙◌, drop, take}
+use Rattle.std.proofs.Common.{List, ℕ, [], ◌-◌, ◌++◌, length, ap, ◌∙◌, drop, take}
 use Rattle.wal_base.specs.Crc.{crc_start, crc32c}
 use Rattle.wal_records.proofs.PartLemmas.{rest_whole}
 use Rattle.wal_records.proofs.header.checksum.Goals as goal

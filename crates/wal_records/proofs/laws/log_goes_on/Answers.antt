@@ -1,7 +1,5 @@
-use Rattle.std.proofs.Common.{ℕ, Option, ◌<◌, ◌^◌, arith}
+use Rattle.std.proofs.Common.{arith}
 use Rattle.wal_base.specs.Segment.{bytes_of}
-use Rattle.wal_base.specs.declared.seg_size.SegSize.{SegSize}
-use Rattle.wal_records.specs.Further.{Pages}
 use Rattle.wal_records.proofs.LogLemmas.{log_next}
 use Rattle.wal_records.proofs.laws.log_goes_on.Goals as goal
 

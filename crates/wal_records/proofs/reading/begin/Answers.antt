@@ -1,4 +1,4 @@
-use Rattle.std.proofs.Common.{◌≡◌, ℕ, ◌+◌, ◌%◌, ◌++◌, Some, None, List, take, drop, ap, sym, ◌∙◌, arith, true, false, refl}
+use Rattle.std.proofs.Common.{◌≡◌, ◌%◌, ◌++◌, Some, take, drop, ap, sym, ◌∙◌, true, false}
 use Rattle.layout.specs.Readers.{word_at}
 use Rattle.wal_base.specs.Segment.{bytes_of}
 use Rattle.wal_pages.specs.declared.header.PageHeader.{PageHeader}

@@ -1,8 +1,8 @@
-use Rattle.std.proofs.Common.{◌≡◌, ℕ, ◌+◌, ◌-◌, ◌*◌, ◌/◌, ◌%◌, ◌<◌, ◌≤◌, ◌++◌, min, length, Some, None, List, IfOk, ap, sym, ◌∙◌, subst, arith, refl}
+use Rattle.std.proofs.Common.{◌≡◌, ℕ, ◌+◌, ◌-◌, ◌*◌, ◌/◌, min, length, IfOk, ap, sym, ◌∙◌, subst, arith, refl}
 use Rattle.wal_base.specs.Segment.{bytes_of}
 use Rattle.wal_records.specs.declared.why.Stop.TheVariants.{Ends}
 use Rattle.wal_records.specs.declared.why.Why.TheVariants as why
-use Rattle.wal_records.specs.Further.{pages_of, further, further_page, room, piece}
+use Rattle.wal_records.specs.Further.{pages_of, further_page, room}
 use Rattle.wal_records.specs.Reading.{Reading}
 use Rattle.wal_records.specs.Steps.{Reads}
 use Rattle.wal_records.proofs.FurtherLemmas.{past_end, same_further}

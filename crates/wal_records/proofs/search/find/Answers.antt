@@ -1,4 +1,4 @@
-use Rattle.std.proofs.Common.{◌≡◌, ℕ, ◌+◌, ◌≤◌, ◌<◌, Some, None, ap, sym, ◌∙◌, arith}
+use Rattle.std.proofs.Common.{ap, sym, ◌∙◌, arith}
 use Rattle.wal_base.specs.Segment.{bytes_of}
 use Rattle.wal_records.specs.declared.why.Stop.TheVariants.{Ends, Dropped}
 use Rattle.wal_records.specs.Place.{place_at}

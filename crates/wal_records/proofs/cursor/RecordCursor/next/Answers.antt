@@ -1,4 +1,4 @@
-use Rattle.std.proofs.Common.{◌≡◌, ℕ, ◌+◌, ◌≤◌, ◌<◌, Some, None, ap, sym, ◌∙◌, subst, arith}
+use Rattle.std.proofs.Common.{◌≡◌, Some, ap, sym, ◌∙◌, subst, arith}
 use Rattle.wal_base.specs.Segment.{bytes_of}
 use Rattle.wal_pages.specs.declared.log_path.LogPath.{LogPath}
 use Rattle.wal_records.specs.Place.{place_at}

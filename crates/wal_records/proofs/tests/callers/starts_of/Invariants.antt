@@ -1,4 +1,4 @@
-use Rattle.std.proofs.Common.{◌≡◌, ◌++◌, ◌-◌, ◌^◌, ℕ, None, map, IsTrue}
+use Rattle.std.proofs.Common.{◌≡◌, ◌++◌, ◌-◌, ◌^◌, None, map, IsTrue}
 use Rattle.cluster_tree.specs.Causes.{OnlyReads}
 use Rattle.wal_records.specs.Reading.{LogRecord}
 use Rattle.wal_records.specs.Cursor.{to_come}

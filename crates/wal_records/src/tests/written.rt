@@ -1,0 +1,168 @@
+//! Logs that are written, and read again. The expected positions are worked out by hand from the
+//! format: 40 bytes of header on a segment's first page and 24 on each other page.
+
+use super::spans::CHECKPOINT;
+use super::*;
+use crate::LogWriter;
+use std::test::*;
+
+/// A record that is appended: the operation and its manager, and how many bytes it has in all.
+type New = (u8, u8, u32);
+
+/// Appends a record of a transaction: the operation and its manager, and the bytes of its body.
+#[tactic(auto, using(crate::proofs::NearLemmas::ends_near))]
+fn append(writer: &mut LogWriter, xid: u32, kind: (u8, u8), body: &[u8]) -> Result<u64, Fail> {
+    let (info, manager) = kind;
+    if manager > 21 || writer.position().0 > 1 << 62 {
+        return Err("no such record".into());
+    }
+    Ok(writer.append(xid, info, manager, body)?.0)
+}
+
+/// Appends a record of this length, whose body is of bytes 5A.
+fn append_new(alloc: Global, writer: &mut LogWriter, new: New) -> Result<u64, Fail> {
+    let (info, manager, total) = new;
+    let body = vec![in alloc; 0x5A; total.saturating_sub(24) as usize]?;
+    append(writer, 700, (info, manager), &body)
+}
+
+/// A log of timeline 1 in segments of 1 MiB from 0/100000 on, with records of these lengths, whose
+/// bodies are of bytes 5A.
+fn log_of(alloc: Global, records: &[New]) -> Result<(LogWriter, Vec<u64>), Fail> {
+    let size = SegSize::new(0x10_0000).ok_or("no size")?;
+    let mut writer = LogWriter::new(alloc, Lsn(FIRST), 1, SYSTEM, size)?;
+    let mut starts = Vec::new(alloc);
+    for &new in records {
+        starts.push(append_new(alloc, &mut writer, new)?)?;
+    }
+    Ok((writer, starts))
+}
+
+/// A tree with that log in its segment files, which go on in zeros.
+fn tree_with(alloc: Global, writer: &LogWriter) -> Result<MemoryTree, Fail> {
+    let mut tree = tree_of(alloc, [1, 1], &[])?;
+    let zeros = vec![in alloc; 0; 0x10_0000]?;
+    write(alloc, &mut tree, FIRST, &zeros)?;
+    write(alloc, &mut tree, SECOND, &zeros)?;
+    let bytes = writer.bytes();
+    let first = bytes.len().min(0x10_0000);
+    write(alloc, &mut tree, FIRST, &bytes[..first])?;
+    write(alloc, &mut tree, SECOND, &bytes[first..])?;
+    Ok(tree)
+}
+
+/// Appends records, and reads them again: where they start and end, and where the log ends and why.
+fn written_and_read(alloc: Global, records: &[New]) -> Result<(Given, Vec<u64>, u64), Fail> {
+    let (writer, starts) = log_of(alloc, records)?;
+    let mut tree = tree_with(alloc, &writer)?;
+    let given = read_all(alloc, &mut tree, FIRST)?;
+    Ok((given, starts, writer.position().0))
+}
+
+/// Each row: how long a record is that fills up to the one that is meant, and that one; where both
+/// start and end, the place where the log ends, and why.
+#[test]
+fn what_was_written_is_read_again(rt: HostRuntime) -> Result<(), Fail> {
+    let heap = 10;
+    let rows = [
+        // 8 bytes stand on the first page, 106 on the second
+        (
+            [(0, heap, 8144), (0, heap, 114)],
+            0x10_1FF8,
+            0x10_2088,
+            0x10_2088,
+            Why::ZeroLength,
+        ),
+        // the rest stands behind the long header of the next segment
+        (
+            [(0, heap, 1_045_480), (0, heap, 114)],
+            0x1F_FFF8,
+            0x20_0098,
+            0x20_0098,
+            Why::ZeroLength,
+        ),
+        // 256 bytes stand on the first page, 8168 on the second and 7976 on the third
+        (
+            [(0, heap, 16_064), (0, heap, 16_400)],
+            0x10_3F00,
+            0x10_7F40,
+            0x10_7F40,
+            Why::ZeroLength,
+        ),
+        // the second record begins behind the header of a page
+        (
+            [(0, heap, 8152), (0, heap, 25)],
+            0x10_2018,
+            0x10_2038,
+            0x10_2038,
+            Why::ZeroLength,
+        ),
+        // the next page has not begun
+        (
+            [(0, heap, 8128), (0, heap, 24)],
+            0x10_1FE8,
+            0x10_2000,
+            0x10_2018,
+            Why::Page,
+        ),
+        // a switch ends its segment
+        (
+            [(0, heap, 1240), (0x40, 0, 24)],
+            0x10_0500,
+            0x20_0000,
+            0x20_0028,
+            Why::Page,
+        ),
+        (
+            [(0x40, 0, 24), (0, heap, 26)],
+            0x20_0028,
+            0x20_0048,
+            0x20_0048,
+            Why::ZeroLength,
+        ),
+    ];
+    for (records, start, end, place, why) in rows {
+        let (given, starts, position) = written_and_read(rt.alloc(), &records)?;
+        assert_eq!(rt;
+            given.records.last().copied(),
+            Some((start, end)),
+            "{start:X}"
+        );
+        assert_eq!(rt;
+            starts.as_slice(),
+            [0x10_0028, start].as_slice(),
+            "{start:X}"
+        );
+        assert_eq!(rt;
+            (given.place, given.why, position),
+            (place, why, end),
+            "{start:X}"
+        );
+    }
+    Ok(())
+}
+
+#[test]
+fn a_log_of_no_records_is_at_its_end(rt: HostRuntime) -> Result<(), Fail> {
+    let (given, _, position) = written_and_read(rt.alloc(), &[])?;
+    assert!(rt; given.records.is_empty());
+    assert_eq!(rt; (given.place, given.why), (0x10_0028, Why::ZeroLength));
+    assert_eq!(rt; position, FIRST);
+    Ok(())
+}
+
+/// The first page of a segment with one shutdown checkpoint, as it was stored.
+#[test]
+fn a_checkpoint_is_written_as_it_was_stored(rt: HostRuntime) -> Result<(), Fail> {
+    let size = SegSize::new(0x10_0000).ok_or("no size")?;
+    let mut writer = LogWriter::new(rt.alloc(), Lsn(FIRST), 1, SYSTEM, size)?;
+    let start = append(&mut writer, 0, (0, 0), &CHECKPOINT[24..])?;
+    assert_eq!(rt; start, 0x10_0028);
+    let cells = [Cell::Page(FIRST, 2, 0), Cell::Bytes(0x10_0028, &CHECKPOINT)];
+    let mut tree = tree_of(rt.alloc(), [1, 0], &cells)?;
+    let mut stored = [0; 8192];
+    tree.read_at(&Path::parse(rt.alloc(), FIRST_NAME)?, 0, &mut stored)?;
+    assert_eq!(rt; writer.bytes(), stored.as_slice());
+    assert_eq!(rt; writer.position(), Lsn(0x10_00A0));
+    Ok(())
+}
