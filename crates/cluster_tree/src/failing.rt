@@ -1,5 +1,5 @@
 // A tree in memory whose calls fail by a plan.
-ghost use Rattle.std.specs.Prelude.{◌≡◌, ◌≤◌};
+ghost use Rattle.std.specs.Prelude.{◌≡◌, ◌+◌, ◌<◌, ◌≤◌, ℕ};
 ghost use Rattle.std.specs.Bool.{OnTrue};
 ghost use Rattle.cluster_tree.specs.Causes.{Rose};
 
@@ -18,6 +18,7 @@ pub struct FailingTree {
 
 impl FailingTree {
     ghost use Rattle.cluster_tree.specs.Fakes.{tree_plan};
+    ghost use Rattle.cluster_tree.specs.Plan.{fails_at};
 
     /// This tree, with calls that fail by this plan, counted from here.
     pub fn new(inner: MemoryTree, fails: FailPlan) -> FailingTree
@@ -48,6 +49,8 @@ impl FailingTree {
 
     // Whether a read fails by the plan, which is then counted.
     fn read_fails(&mut self) -> bool
+        ensures next { result ≡ fails_at self.old.plan 1 }
+        ensures left { (n : ℕ) → 0 < n → fails_at self.new.plan n ≡ fails_at self.old.plan (n + 1) }
         ensures counted { OnTrue result (Rose self.old.failed_reads self.new.failed_reads) }
         ensures later { self.old.failed_reads ≤ self.new.failed_reads }
         ensures changes { self.new.failed_changes ≡ self.old.failed_changes }
@@ -58,6 +61,8 @@ impl FailingTree {
 
     // Whether a changing call fails by the plan, which is then counted.
     fn change_fails(&mut self) -> bool
+        ensures next { result ≡ fails_at self.old.plan 1 }
+        ensures left { (n : ℕ) → 0 < n → fails_at self.new.plan n ≡ fails_at self.old.plan (n + 1) }
         ensures counted { OnTrue result (Rose self.old.failed_changes self.new.failed_changes) }
         ensures later { self.old.failed_changes ≤ self.new.failed_changes }
         ensures reads { self.new.failed_reads ≡ self.old.failed_reads }
@@ -68,7 +73,7 @@ impl FailingTree {
 }
 
 impl Tree for FailingTree {
-    ghost use Rattle.std.specs.Prelude.{true, ◌+◌};
+    ghost use Rattle.std.specs.Prelude.{true};
     ghost use Rattle.cluster_tree.specs.Memory.{contents_of};
 
     ghost tells = { true };
