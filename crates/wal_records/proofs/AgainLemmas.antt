@@ -1,6 +1,5 @@
 -- What was written is read again: numbers, the header of a record, and the header of a page.
-use Rattle.std.proofs.Common.{◌≡◌, ◌⊎◌, ℕ, ◌+◌, ◌-◌, ◌*◌, ◌/◌, ◌%◌, ◌^◌, ◌<◌, ◌≤◌, ◌++◌, Bool, true, false, not, nat_eq, List, [], ◌∷◌, take, drop, length, replicate, Option, Some, None, refl, sym, ap, ◌∙◌, append_assoc, arith, inl, inr, cond, subst, length-append}
-use Rattle.std.specs.Prelude.{slice_index, if◌then◌else◌, bit_and}
+use Rattle.std.proofs.Common.{◌≡◌, ℕ, ◌+◌, ◌%◌, ◌^◌, ◌<◌, ◌≤◌, ◌++◌, Bool, true, false, nat_eq, List, [], ◌∷◌, take, drop, length, replicate, Option, Some, None, refl, sym, ap, ◌∙◌, append_assoc, arith, inl, inr, cond, subst, length-append}
 use Rattle.std.proofs.lemmas.List.{drop_at, take_at, get_or-append_right}
 use Rattle.std.proofs.lemmas.Bool.{cases_eq}
 use Rattle.std.proofs.lemmas.Bool.Decides.{nat_tests}
@@ -10,14 +9,12 @@ use Rattle.layout.specs.Readers.{byte_at, half_at, word_at, long_at}
 use Rattle.wal_base.specs.Crc.{crc32c}
 use Rattle.wal_base.proofs.CrcFold.{crc32c_below}
 use Rattle.wal_base.specs.Segment.{bytes_of}
-use Rattle.wal_pages.specs.Header.{header_of as page_header_of, header_size, has_bit}
+use Rattle.wal_pages.specs.Header.{has_bit}
 use Rattle.wal_records.specs.declared.header.RecordHeader.{RecordHeader}
 use Rattle.wal_records.specs.declared.log_origin.LogOrigin.{LogOrigin}
-use Rattle.wal_records.specs.Header.{header_of, checksum, header_fault, is_no_manager, is_linked, greatest_total}
+use Rattle.wal_records.specs.Header.{header_of, header_fault, is_no_manager, is_linked}
 use Rattle.wal_records.specs.Writer.{NewRecord, page_info, short_header, long_header, page_header, link_to, record_front, record_bytes}
 use Rattle.wal_pages.specs.declared.log_path.LogPath.{LogPath}
-use Rattle.wal_pages.specs.declared.header.PageHeader.{PageHeader}
-use Rattle.wal_pages.specs.LogBytes.{segment_at}
 use Rattle.wal_pages.specs.ValidPage.{IsValidPage, is_first}
 use Rattle.wal_records.specs.Again.{IsNew, header_given, IsReadAgain, PageIsReadAgain, IsLogOf}
 use Rattle.wal_records.proofs.WriterLemmas.{length-record_front, length_record_bytes, length-short_header, long_page_header, short_page_header}

@@ -1,9 +1,8 @@
 -- A log with one record more.
-use Rattle.std.proofs.Common.{◌≡◌, ◌⊎◌, ℕ, ◌+◌, ◌-◌, ◌*◌, ◌/◌, ◌%◌, ◌^◌, ◌<◌, ◌≤◌, ◌++◌, Bool, true, false, cond, List, [], ◌∷◌, length, replicate, Option, Some, None, refl, sym, ap, ◌∙◌, inl, inr, arith, length-append, mul_assoc}
+use Rattle.std.proofs.Common.{◌≡◌, ℕ, ◌+◌, ◌-◌, ◌*◌, ◌/◌, ◌%◌, ◌^◌, ◌<◌, ◌≤◌, ◌++◌, Bool, true, false, cond, List, [], ◌∷◌, length, replicate, Option, Some, refl, sym, ap, ◌∙◌, inl, inr, arith, length-append, mul_assoc}
 use Rattle.std.proofs.lemmas.List.{length-replicate}
 use Rattle.std.proofs.lemmas.List.Sums.{fold-append}
-use Rattle.std.specs.List.{fold}
-use Rattle.wal_base.proofs.SizeLemmas.{SizeFacts, size_facts}
+use Rattle.wal_base.proofs.SizeLemmas.{size_facts}
 use Rattle.wal_base.specs.Segment.{bytes_of}
 use Rattle.wal_records.specs.declared.header.RecordHeader.{RecordHeader}
 use Rattle.wal_records.specs.declared.log_origin.LogOrigin.{LogOrigin}

@@ -1,11 +1,10 @@
 -- Where the bytes of a written log end, reading ends.
-use Rattle.std.proofs.Common.{◌≡◌, ℕ, ◌+◌, ◌-◌, ◌*◌, ◌/◌, ◌%◌, ◌^◌, ◌<◌, ◌≤◌, ◌++◌, Bool, true, false, not, nat_eq, List, [], take, drop, length, get_or, replicate, Option, Some, None, Result, Ok, Err, refl, sym, ap, ◌∙◌, arith, length-drop}
-use Rattle.std.proofs.lemmas.List.{drop_all, drop-drop, drop-take, drop-append-le, get_or-take, get_or-replicate}
+use Rattle.std.proofs.Common.{◌≡◌, ℕ, ◌+◌, ◌-◌, ◌%◌, ◌^◌, ◌<◌, ◌≤◌, ◌++◌, not, nat_eq, List, [], take, drop, length, get_or, replicate, Option, Some, Result, Ok, Err, refl, sym, ap, ◌∙◌, arith, length-drop}
+use Rattle.std.proofs.lemmas.List.{drop_all, drop-take, drop-append-le, get_or-take, get_or-replicate}
 use Rattle.cluster_tree.specs.Causes.{given}
 use Rattle.layout.specs.Readers.{word_at, half_at}
 use Rattle.wal_base.specs.Segment.{bytes_of}
 use Rattle.wal_pages.specs.declared.log_path.LogPath.{LogPath}
-use Rattle.wal_pages.specs.declared.field.PageField.{PageField}
 use Rattle.wal_pages.specs.declared.field.PageField.TheVariants.{Magic}
 use Rattle.wal_pages.specs.Folder.{Folder}
 use Rattle.wal_pages.specs.Header.{header_of as page_header_of, header_size, has_bit, page_of}
@@ -14,18 +13,19 @@ use Rattle.wal_pages.specs.ValidPage.{first_bad_field}
 use Rattle.wal_records.specs.declared.log_origin.LogOrigin.{LogOrigin}
 use Rattle.wal_records.specs.declared.why.Why.TheVariants as why
 use Rattle.wal_records.specs.declared.why.Stop.TheVariants.{Ends}
-use Rattle.wal_records.specs.Place.{place_at, is_place}
+use Rattle.wal_records.specs.Place.{place_at}
 use Rattle.wal_records.specs.Header.{length_fault}
-use Rattle.wal_records.specs.Further.{Pages, room}
+use Rattle.wal_records.specs.Further.{room}
 use Rattle.wal_records.specs.Reading.{Stopped, reading}
 use Rattle.wal_records.specs.Steps.{page_why}
 use Rattle.wal_records.specs.Writer.{page_header}
-use Rattle.wal_records.specs.Again.{IsLogOf, Holds, IsEndIn}
+use Rattle.wal_records.specs.Again.{IsLogFrom, Holds}
+use Rattle.wal_records.specs.Sound.{IsEndIn}
 use Rattle.wal_records.proofs.ReadingLemmas.{read_refused, read_on}
 use Rattle.wal_records.proofs.FurtherLemmas.{header_short}
-use Rattle.wal_records.proofs.WriterLemmas.{place_of_page, length-page_header}
+use Rattle.wal_records.proofs.WriterLemmas.{place_of_page}
 use Rattle.wal_records.proofs.AgainLemmas.{pages_again}
-use Rattle.wal_records.proofs.StandsLemmas.{page_stands, page_cut, bit_one, head_some}
+use Rattle.wal_records.proofs.StandsLemmas.{page_stands, page_cut, bit_one}
 use Rattle.wal_records.proofs.PlacedLemmas.{place_is, fresh_of}
 
 zero_half : (z : List ℕ) → get_or z 0 0 ≡ 0 → get_or z 1 0 ≡ 0 → half_at 0 z ≡ 0
@@ -76,7 +76,7 @@ ends_at_page log files start size at before bytes holds p e =
 
 -- within a page zeros follow
 pub ends_in_page : (log : LogPath) (files : Folder) (o : LogOrigin) (bytes : List ℕ) (before : Option ℕ) (place : ℕ) → Holds log files o.start bytes
-    → ((q : ℕ) → IsLogOf log o q) → o.start + length bytes < 2 ^ 64 → IsEndIn o bytes place
+    → IsLogFrom log o → o.start + length bytes < 2 ^ 64 → IsEndIn o bytes place
     → reading (page_at log files) (bytes_of o.size) before place ≡ Stopped (Ends why.ZeroLength)
 ends_in_page log files o bytes before place holds of low w =
     let size : ℕ = bytes_of o.size in
@@ -89,7 +89,7 @@ ends_in_page log files o bytes before place holds of low w =
     let split : first + k ≡ place = omega arith in
     let wide : 8 ≤ space = omega (arith, w.aligned) in
     let inside : first ≤ o.start + length bytes = omega (arith, split, w.reach) in
-    let read : page_at log files first ≡ Ok page = page_stands log files o first w.left bytes w.rest holds (of first) (omega arith) w.from inside (omega (arith, inside, low)) w.few w.head in
+    let read : page_at log files first ≡ Ok page = page_stands log files o first w.left bytes w.rest holds (of first w.from) (omega arith) w.from inside (omega (arith, inside, low)) w.few w.head in
     let fits : k ≤ length d = omega (arith, length-drop (first - o.start) bytes, split, w.from, w.reach) in
     let whole : k + space ≡ 8192 = omega arith in
     let none : drop k d ≡ [] = drop_all k d (omega (arith, length-drop (first - o.start) bytes, split, w.from, w.reach)) in
@@ -98,7 +98,7 @@ ends_in_page log files o bytes before place holds of low w =
     ∙ ap (take space) (drop-append-le k d zeros fits ∙ ap (λ (t : List ℕ). t ++ zeros) none) in
     let here = λ (i : ℕ) (lt : i < 8). zeros_at space 8192 i (omega (arith, wide, lt)) (omega arith) in
     let word : word_at k page ≡ 0 = word_from k page ∙ ap (word_at 0) rest ∙ zero_word (take space zeros) (here 0 (omega arith)) (here 1 (omega arith)) (here 2 (omega arith)) (here 3 (omega arith)) in
-    let info = (pages_again log o first w.left (take (room size first) (w.rest ++ zeros)) (omega (arith, inside, low)) w.few (of first)).info in
+    let info = (pages_again log o first w.left (take (room size first) (w.rest ++ zeros)) (omega (arith, inside, low)) w.few (of first w.from)).info in
     read_on (page_at log files) size place before page (Some why.ZeroLength) (place_is size place w.aligned w.behind) read
     (fresh_of size place (page_header_of page).info (λ e.
     ap (λ (n : ℕ). has_bit n 1) info ∙ bit_one (nat_eq w.left 0) (nat_eq (first % size) 0) ∙ ap (λ (n : ℕ). not (nat_eq n 0)) (w.fresh e)))

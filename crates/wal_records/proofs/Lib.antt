@@ -8,6 +8,7 @@ pub mod PayloadLemmas
 pub mod SpellsLemmas
 pub mod RelationLemmas
 pub mod FactLemmas
+pub mod CarriedLemmas
 pub mod ViewLemmas
 pub mod ZerosLemmas
 pub mod WriterLemmas
@@ -20,3 +21,7 @@ pub mod RunLemmas
 pub mod EndLemmas
 pub mod StateLemmas
 pub mod NextLemmas
+pub mod PaddedLemmas
+pub mod StoredLemmas
+pub mod WroteLemmas
+pub mod BackLemmas

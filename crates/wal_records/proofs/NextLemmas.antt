@@ -1,5 +1,5 @@
 -- A log stays sound when a record is appended.
-use Rattle.std.proofs.Common.{◌≡◌, ◌⊎◌, ℕ, zero, suc, ◌+◌, ◌-◌, ◌*◌, ◌/◌, ◌%◌, ◌^◌, ◌<◌, ◌≤◌, ◌++◌, min, Bool, true, false, cond, List, [], ◌∷◌, take, drop, length, replicate, Option, Some, None, refl, sym, ap, ◌∙◌, append_assoc, arith, inl, inr, length-append, length-drop, length-take, mul_assoc, subst}
+use Rattle.std.proofs.Common.{◌≡◌, ℕ, zero, suc, ◌+◌, ◌-◌, ◌*◌, ◌/◌, ◌%◌, ◌^◌, ◌<◌, ◌≤◌, ◌++◌, min, Bool, true, false, cond, List, [], take, drop, length, replicate, refl, sym, ap, ◌∙◌, append_assoc, arith, inl, inr, length-append, length-drop, length-take, mul_assoc, subst}
 use Rattle.std.proofs.lemmas.List.{drop_at, drop-drop, append-nil}
 use Rattle.std.proofs.lemmas.Bool.{cases_eq, cases_lt}
 use Rattle.wal_base.proofs.SizeLemmas.{size_facts}
@@ -12,8 +12,9 @@ use Rattle.wal_records.specs.Header.{header_of}
 use Rattle.wal_records.specs.Further.{room}
 use Rattle.wal_records.specs.Extent.{behind_of, is_switch, end_of}
 use Rattle.wal_records.specs.Writer.{NewRecord, Written, page_header, pages_from, lead, laid, record_bytes, end_from, appended}
-use Rattle.wal_records.specs.Again.{IsNew, IsWrittenAt, HasPage, IsFirst, IsPageEnd, IsInPage, IsSound}
-use Rattle.wal_records.proofs.FurtherLemmas.{header_short, room_some}
+use Rattle.wal_records.specs.Again.{IsNew, IsWrittenAt}
+use Rattle.wal_records.specs.Sound.{HasPage, IsSound}
+use Rattle.wal_records.proofs.FurtherLemmas.{room_some}
 use Rattle.wal_records.proofs.ExtentLemmas.{all_behind, end_behind}
 use Rattle.wal_records.proofs.WriterLemmas.{laid_is, laid_reaches, pages_none, pages_more, parts_length, length-page_header, header_and_room, length_record_bytes, lead_reaches}
 use Rattle.wal_records.proofs.AppendLemmas.{size_some, origin_page, end_is, end_aligned, added_length}
@@ -152,11 +153,11 @@ sound_of v o end eo ee s a later reach has =
       ];
     }
 
-grown_origin : (w : Written) (r : NewRecord) → (appended w r).origin ≡ w.origin
+pub grown_origin : (w : Written) (r : NewRecord) → (appended w r).origin ≡ w.origin
 unfolding appended
 grown_origin w r = refl
 
-grown_end : (w : Written) (r : NewRecord) → (appended w r).end ≡ end_from w.origin w.before w.end r
+pub grown_end : (w : Written) (r : NewRecord) → (appended w r).end ≡ end_from w.origin w.before w.end r
 unfolding appended
 grown_end w r = refl
 

@@ -1,5 +1,5 @@
 -- A record that was written at a place is read there.
-use Rattle.std.proofs.Common.{◌≡◌, ◌⊎◌, ℕ, ◌+◌, ◌-◌, ◌*◌, ◌/◌, ◌%◌, ◌^◌, ◌<◌, ◌≤◌, ◌++◌, min, Bool, true, false, not, nat_eq, nat_le, List, [], ◌∷◌, take, drop, length, replicate, Option, Some, None, Result, Ok, Err, refl, sym, ap, ◌∙◌, append_assoc, arith, inl, inr, subst, eq-eqb, length-append, length-take, length-drop}
+use Rattle.std.proofs.Common.{◌≡◌, ℕ, ◌+◌, ◌-◌, ◌%◌, ◌^◌, ◌<◌, ◌≤◌, ◌++◌, min, Bool, true, false, not, nat_eq, List, take, drop, length, replicate, Option, None, Ok, refl, sym, ap, ◌∙◌, append_assoc, arith, inl, inr, subst, eq-eqb, length-append, length-take, length-drop}
 use Rattle.std.specs.Prelude.{◌&&◌}
 use Rattle.std.specs.List.{flat_map, AllByRecursion}
 use Rattle.std.proofs.lemmas.Bool.{cases_eq, cases_lt, le-leb, lt-leb}
@@ -16,14 +16,13 @@ use Rattle.wal_records.specs.declared.log_origin.LogOrigin.{LogOrigin}
 use Rattle.wal_records.specs.Place.{place_at, is_place}
 use Rattle.wal_records.specs.Header.{header_of, length_fault, checksum}
 use Rattle.wal_records.specs.Further.{Pages, FurtherPage, room, further, stop_at, piece}
-use Rattle.wal_records.specs.Extent.{behind_of, end_of}
 use Rattle.wal_records.specs.Reading.{Spelled, reading, record_of, sealed, sealed_end, seal_fault, continues_at}
-use Rattle.wal_records.specs.Writer.{NewRecord, page_info, page_header, pages_from, record_bytes, laid, end_from}
-use Rattle.wal_records.specs.Again.{IsNew, IsLogOf, Holds, Carries, IsWrittenAt}
+use Rattle.wal_records.specs.Writer.{NewRecord, page_header, pages_from, record_bytes, end_from}
+use Rattle.wal_records.specs.Again.{IsNew, IsLogFrom, Holds, Carries, IsWrittenAt}
 use Rattle.wal_records.proofs.PartLemmas.{word_taken, word_front}
-use Rattle.wal_records.proofs.RelationLemmas.{IsParts, front_of, rest_of, parts_read, length_fits}
-use Rattle.wal_records.proofs.ViewLemmas.{are_pages}
-use Rattle.wal_records.proofs.WriterLemmas.{laid_is, length-page_header}
+use Rattle.wal_records.proofs.RelationLemmas.{front_of, rest_of, parts_read, length_fits}
+use Rattle.wal_records.proofs.CarriedLemmas.{are_pages}
+use Rattle.wal_records.proofs.WriterLemmas.{laid_is}
 use Rattle.wal_records.proofs.AppendLemmas.{end_is}
 use Rattle.wal_records.proofs.AgainLemmas.{records_again, pages_again}
 use Rattle.wal_records.proofs.StandsLemmas.{page_stands, page_cut, bit_one, taken_again, carries_none, pages_stand, head_some}
@@ -68,7 +67,7 @@ from_place d front pages after zeros page k space sum fits cut e =
     ∙ ap (take space) (drop-append-le k d zeros fits ∙ ap (λ (t : List ℕ). t ++ zeros) e ∙ four front pages after zeros)
 
 pub placed : (log : LogPath) (files : Folder) (o : LogOrigin) (bytes : List ℕ) (before : Option ℕ) (at : ℕ) (r : NewRecord) → Holds log files o.start bytes
-    → ((q : ℕ) → IsLogOf log o q) → o.start + length bytes < 2 ^ 64 → IsNew before r → IsWrittenAt o bytes (place_at (bytes_of o.size) at) (record_bytes before r)
+    → IsLogFrom log o → o.start + length bytes < 2 ^ 64 → IsNew before r → IsWrittenAt o bytes (place_at (bytes_of o.size) at) (record_bytes before r)
     → end_from o before at r < 2 ^ 64
     → reading (page_at log files) (bytes_of o.size) before (place_at (bytes_of o.size) at) ≡ Spelled (record_of (place_at (bytes_of o.size) at) (end_from o before at r) (record_bytes before r))
 placed log files o bytes before at r holds of low new w ends =
@@ -94,7 +93,7 @@ placed log files o bytes before at r holds of low new w ends =
     let inside : place - o.start < length bytes =
     omega (arith, ap length laid_at, length-append (take space b ++ further_bytes) w.after, length-append (take space b) further_bytes, begins_size, some, wide, length-drop (place - o.start) bytes) in
     let fits : k ≤ length d = omega (arith, length-drop (first - o.start) bytes, inside, split, w.from) in
-    let read : pages first ≡ Ok page = page_stands log files o first w.left bytes w.rest holds (of first) (omega arith) w.from (omega (arith, inside, split, w.from)) (omega (arith, inside, split, w.from, low)) w.few w.head in
+    let read : pages first ≡ Ok page = page_stands log files o first w.left bytes w.rest holds (of first w.from) (omega arith) w.from (omega (arith, inside, split, w.from)) (omega (arith, inside, split, w.from, low)) w.few w.head in
     let cut : take 8192 (d ++ zeros) ≡ page = page_cut o first w.left d w.rest w.head in
     let moved : drop k d ≡ (take space b ++ further_bytes) ++ w.after =
     let n : first - o.start + k ≡ place - o.start = omega (arith, split, w.from) in drop-drop k (first - o.start) bytes ∙ ap (λ (i : ℕ). drop i bytes) n ∙ laid_at in
@@ -120,7 +119,7 @@ placed log files o bytes before at r holds of low new w ends =
           pages_stand log files o bytes b (total - space) next (total - space) w.after holds of (omega arith) (omega arith) (omega (arith, again.size, new.size)) (omega arith) (omega (arith, w.from)) low there
       | inr none ↦ carries_none pages size next (total - space) b (omega arith)
     ] in
-    let info = (pages_again log o first w.left (take (room size first) (w.rest ++ zeros)) (omega (arith, inside, split, w.from, low)) w.few (of first)).info in
+    let info = (pages_again log o first w.left (take (room size first) (w.rest ++ zeros)) (omega (arith, inside, split, w.from, low)) w.few (of first w.from)).info in
     let end : sealed_end size place total b ≡ end_from o before at r = end_is o before at r place total (header_of b) refl again.size refl in
     parts_read pages size before place page b (are_pages log files) (record {
       stands = place_is size place w.aligned w.behind;

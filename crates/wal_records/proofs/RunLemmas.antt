@@ -1,5 +1,5 @@
 -- Records that were written one after another are read one after another.
-use Rattle.std.proofs.Common.{◌≡◌, ℕ, ◌+◌, ◌^◌, ◌<◌, ◌≤◌, ◌++◌, List, [], ◌∷◌, drop, length, append_assoc, ◌%◌, Option, Some, None, refl, sym, ap, ◌∙◌, arith, subst}
+use Rattle.std.proofs.Common.{◌≡◌, ℕ, ◌+◌, ◌^◌, ◌<◌, ◌++◌, List, [], ◌∷◌, drop, length, append_assoc, ◌%◌, Option, None, refl, sym, ap, ◌∙◌, arith, subst}
 use Rattle.std.specs.List.{fold}
 use Rattle.std.proofs.lemmas.List.{append-nil, drop_at}
 use Rattle.wal_base.specs.Segment.{bytes_of}
@@ -11,9 +11,10 @@ use Rattle.wal_records.specs.Place.{place_at}
 use Rattle.wal_records.specs.Header.{header_of}
 use Rattle.wal_records.specs.Further.{Pages}
 use Rattle.wal_records.specs.Reading.{Spelled, reading}
-use Rattle.wal_records.specs.Log.{Log, log_from, log_step, with_first}
+use Rattle.wal_records.specs.Log.{log_from, log_step, with_first}
 use Rattle.wal_records.specs.Writer.{NewRecord, Written, record_bytes, end_from, appended, begun}
-use Rattle.wal_records.specs.Again.{IsNew, IsLogOf, Holds, IsWrittenAt, AllWritten, AllNew, IsSound, log_records, with_records, new_log_record}
+use Rattle.wal_records.specs.Again.{IsLogFrom, Holds, AllWritten, log_records, with_records, new_log_record}
+use Rattle.wal_records.specs.Sound.{AllNew, IsSound}
 use Rattle.wal_records.proofs.ExtentLemmas.{end_up}
 use Rattle.wal_records.proofs.LogLemmas.{log_next}
 use Rattle.wal_records.proofs.WriterLemmas.{length_record_bytes}
@@ -22,7 +23,7 @@ use Rattle.wal_records.proofs.PlacedLemmas.{placed}
 use Rattle.wal_records.proofs.StateLemmas.{begun_sound, written_at, grown}
 use Rattle.wal_records.proofs.NextLemmas.{sound_after}
 
-place_low : (o : LogOrigin) (before : Option ℕ) (at : ℕ) (r : NewRecord) → end_from o before at r < 2 ^ 63 → place_at (bytes_of o.size) at < 2 ^ 64
+pub place_low : (o : LogOrigin) (before : Option ℕ) (at : ℕ) (r : NewRecord) → end_from o before at r < 2 ^ 63 → place_at (bytes_of o.size) at < 2 ^ 64
 place_low o before at r low =
     let size : ℕ = bytes_of o.size in
     let place : ℕ = place_at size at in
@@ -42,7 +43,7 @@ unfolding appended
 same_origin w r = refl
 
 pub all_read : (log : LogPath) (files : Folder) (bytes : List ℕ) (records : List NewRecord) (w : Written) → Holds log files w.origin.start bytes
-    → ((q : ℕ) → IsLogOf log w.origin q) → w.origin.start + length bytes < 2 ^ 64 → AllWritten bytes w records
+    → IsLogFrom log w.origin → w.origin.start + length bytes < 2 ^ 64 → AllWritten bytes w records
     → log_from (page_at log files) (bytes_of w.origin.size) w.before (place_at (bytes_of w.origin.size) w.end)
     ≡ with_records (log_records w records) (log_from (page_at log files) (bytes_of w.origin.size) (fold appended w records).before (place_at (bytes_of w.origin.size) (fold appended w records).end))
 all_read log files bytes [] w holds of low all = refl
@@ -55,7 +56,7 @@ all_read log files bytes (r ∷ rest) w holds of low all =
     let same : next.origin ≡ o = same_origin w r in
     let read : reading pages size w.before place ≡ Spelled (new_log_record w r) = placed log files o bytes w.before w.end r holds of low all.0 all.1 (omega (arith, all.2)) in
     let onward = all_read log files bytes rest next
-    (subst (λ (p : LogOrigin). Holds log files p.start bytes) (sym same) holds) (subst (λ (p : LogOrigin). (q : ℕ) → IsLogOf log p q) (sym same) of)
+    (subst (λ (p : LogOrigin). Holds log files p.start bytes) (sym same) holds) (subst (λ (p : LogOrigin). IsLogFrom log p) (sym same) of)
     (omega (arith, low, ap (λ (p : LogOrigin). p.start) same)) all.3 in
     let onward_here = subst (λ (p : LogOrigin). log_from pages (bytes_of p.size) next.before (place_at (bytes_of p.size) next.end)
     ≡ with_records (log_records next rest) (log_from pages (bytes_of p.size) (fold appended next rest).before (place_at (bytes_of p.size) (fold appended next rest).end))) same onward in
@@ -80,7 +81,7 @@ all_written (r ∷ rest) w all e s new =
     (new.0, written_at w r all more.0 s (e ∙ more.1), new.1, all_written rest (appended w r) all e (sound_after w r s new.0) new.2)
 
 pub log_read : (log : LogPath) (files : Folder) (o : LogOrigin) (records : List NewRecord) → o.start % bytes_of o.size ≡ 0 → AllNew (begun o) records
-    → Holds log files o.start (fold appended (begun o) records).bytes → ((q : ℕ) → IsLogOf log o q) → o.start + length (fold appended (begun o) records).bytes < 2 ^ 64
+    → Holds log files o.start (fold appended (begun o) records).bytes → IsLogFrom log o → o.start + length (fold appended (begun o) records).bytes < 2 ^ 64
     → log_from (page_at log files) (bytes_of o.size) None (place_at (bytes_of o.size) o.start)
     ≡ with_records (log_records (begun o) records) (log_from (page_at log files) (bytes_of o.size) (fold appended (begun o) records).before (place_at (bytes_of o.size) (fold appended (begun o) records).end))
 log_read log files o records s new holds of low =

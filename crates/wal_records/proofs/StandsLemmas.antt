@@ -1,28 +1,26 @@
 -- A record that stands in the pages of a log is read there.
-use Rattle.std.proofs.Common.{◌≡◌, ◌⊎◌, ℕ, zero, suc, ◌+◌, ◌-◌, ◌*◌, ◌/◌, ◌%◌, ◌^◌, ◌<◌, ◌≤◌, ◌++◌, min, Bool, true, false, not, nat_eq, cond, List, [], ◌∷◌, take, drop, length, replicate, Option, Some, None, Result, Ok, Err, refl, sym, ap, ◌∙◌, append_assoc, arith, inl, inr, subst, eq-eqb, length-append, length-take, length-drop}
+use Rattle.std.proofs.Common.{◌≡◌, ℕ, zero, suc, ◌+◌, ◌-◌, ◌%◌, ◌^◌, ◌<◌, ◌≤◌, ◌++◌, Bool, true, false, not, nat_eq, cond, List, [], ◌∷◌, take, drop, length, replicate, Option, None, Result, Ok, refl, sym, ap, ◌∙◌, append_assoc, arith, inl, inr, subst, eq-eqb, length-append, length-take, length-drop}
 use Rattle.std.specs.List.{flat_map, AllByRecursion}
-use Rattle.std.proofs.Math.Seq.{take-append-add, take-add}
-use Rattle.std.proofs.lemmas.Bool.{cases_eq, cases_lt}
+use Rattle.std.proofs.Math.Seq.{take-append-add}
+use Rattle.std.proofs.lemmas.Bool.{cases_lt}
 use Rattle.std.proofs.lemmas.Bool.Decides.{nat_tests}
-use Rattle.std.proofs.lemmas.List.{drop_at, take_at, take_all, drop_all, drop-drop, append-nil, take-append-drop}
+use Rattle.std.proofs.lemmas.List.{drop_at, take_at, take_all, drop_all, drop-drop, take-append-drop}
 use Rattle.cluster_tree.specs.Causes.{given}
 use Rattle.wal_base.specs.Segment.{bytes_of}
 use Rattle.wal_pages.specs.declared.log_path.LogPath.{LogPath}
 use Rattle.wal_pages.specs.declared.header.PageHeader.{PageHeader}
 use Rattle.wal_pages.specs.declared.field.PageField.{PageField}
 use Rattle.wal_pages.specs.Folder.{Folder}
-use Rattle.wal_pages.specs.Header.{header_of as page_header_of, header_size, has_bit, page_of}
-use Rattle.wal_pages.specs.LogBytes.{segment_at, segment_bytes}
-use Rattle.wal_pages.specs.Page.{Refusal, page_at, bytes_from, unless_bad}
+use Rattle.wal_pages.specs.Header.{header_of as page_header_of, header_size, has_bit}
+use Rattle.wal_pages.specs.Page.{Refusal, page_at, unless_bad}
 use Rattle.wal_pages.specs.ValidPage.{first_bad_field}
 use Rattle.wal_pages.proofs.ValidLemmas.{valid_unbroken}
 use Rattle.wal_records.specs.declared.log_origin.LogOrigin.{LogOrigin}
-use Rattle.wal_records.specs.declared.why.Stop.{Stop}
 use Rattle.wal_records.specs.Further.{Pages, FurtherPage, further_page, room, further, stop_of, stop_in, stop_at, piece, piece_in}
-use Rattle.wal_records.specs.Writer.{pages_from, page_info, page_header, page_part}
-use Rattle.wal_records.specs.Again.{PageIsReadAgain, IsLogOf, Holds, Carries}
-use Rattle.wal_records.proofs.FurtherLemmas.{further_none, further_more, header_short, room_some}
-use Rattle.wal_records.proofs.WriterLemmas.{pages_none, pages_more, length-page_header, header_and_room}
+use Rattle.wal_records.specs.Writer.{pages_from, page_header}
+use Rattle.wal_records.specs.Again.{IsLogOf, IsLogFrom, Holds, Carries}
+use Rattle.wal_records.proofs.FurtherLemmas.{further_none, further_more, room_some}
+use Rattle.wal_records.proofs.WriterLemmas.{pages_more, length-page_header, header_and_room}
 use Rattle.wal_records.proofs.AgainLemmas.{pages_again}
 
 unbroken_is : (at : ℕ) (page : List ℕ) (broken : Option PageField) → broken ≡ None → unless_bad at page broken ≡ Ok page
@@ -159,7 +157,7 @@ past_page o bytes page head x rest from e size =
 
 -- by induction over the pages
 pub pages_stand : (log : LogPath) (files : Folder) (o : LogOrigin) (bytes b : List ℕ) (n page left : ℕ) (after : List ℕ) → Holds log files o.start bytes
-    → ((at : ℕ) → IsLogOf log o at) → left ≤ n → left ≤ length b → length b < 2 ^ 32 → page % 8192 ≡ 0 → o.start ≤ page → o.start + length bytes < 2 ^ 64
+    → IsLogFrom log o → left ≤ n → left ≤ length b → length b < 2 ^ 32 → page % 8192 ≡ 0 → o.start ≤ page → o.start + length bytes < 2 ^ 64
     → drop (page - o.start) bytes ≡ pages_from o b page left ++ after
     → Carries (page_at log files) (bytes_of o.size) (further (bytes_of o.size) page left) (drop (length b - left) b)
 pages_stand log files o bytes b zero page left after holds of most fits few p from low e = carries_none (page_at log files) (bytes_of o.size) page left b (omega arith)
@@ -174,12 +172,12 @@ pages_stand log files o bytes b (suc n) page left after holds of most fits few p
           let here : drop (page - o.start) bytes ≡ head ++ (take space x ++ (next ++ after)) =
           e ∙ ap (λ (t : List ℕ). t ++ after) (pages_more o b page left some) ∙ four_parts head (take space x) next after in
           let there : page < o.start + length bytes = omega (arith, ap length here, length-append head (take space x ++ (next ++ after)), length-page_header o page left, head_some size page, length-drop (page - o.start) bytes) in
-          let read = page_stands log files o page left bytes (take space x ++ (next ++ after)) holds (of page) p from (omega arith) (omega arith) (omega arith) here in
+          let read = page_stands log files o page left bytes (take space x ++ (next ++ after)) holds (of page from) p from (omega arith) (omega arith) (omega arith) here in
           let again = page_as o (page_at log files) page left (take space x) (next ++ after) (replicate 8192 0) read in
           let onward : 0 < left - space → drop (page + 8192 - o.start) bytes ≡ next ++ after = λ more.
           past_page o bytes page head (take space x) (next ++ after) from here (omega (arith, length-page_header o page left, length-take space x, length-drop (length b - left) b, header_and_room size page, more)) in
           carries_more (page_at log files) size page left space b some fits refl
-          (goes_on log o (page_at log files) page left _ (of page) (omega arith) some (omega arith) again)
+          (goes_on log o (page_at log files) page left _ (of page from) (omega arith) some (omega arith) again)
           (piece_again o (page_at log files) page left x ((next ++ after) ++ replicate 8192 0) (length-drop (length b - left) b ∙ omega arith) again)
           (elim (cases_lt 0 (left - space)) [
             | inl more ↦ pages_stand log files o bytes b n (page + 8192) (left - space) after holds of (omega (arith, room_some size page)) (omega arith) few (omega arith) (omega arith) low (onward more)

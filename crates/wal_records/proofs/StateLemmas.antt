@@ -1,5 +1,5 @@
 -- The bytes of a written log have each of its records at its place.
-use Rattle.std.proofs.Common.{◌≡◌, ◌⊎◌, ℕ, ◌+◌, ◌-◌, ◌*◌, ◌/◌, ◌%◌, ◌^◌, ◌<◌, ◌≤◌, ◌++◌, List, [], ◌∷◌, drop, length, replicate, Option, Some, None, refl, sym, ap, ◌∙◌, append_assoc, arith, inl, inr, length-append, length-drop}
+use Rattle.std.proofs.Common.{◌≡◌, ◌⊎◌, ℕ, ◌+◌, ◌-◌, ◌%◌, ◌<◌, ◌++◌, List, drop, length, replicate, refl, sym, ap, ◌∙◌, append_assoc, arith, inl, inr, length-append}
 use Rattle.std.proofs.lemmas.List.{drop_at, drop-append-le}
 use Rattle.wal_base.specs.Segment.{bytes_of}
 use Rattle.wal_pages.specs.Header.{header_size, page_of}
@@ -7,9 +7,10 @@ use Rattle.wal_records.specs.declared.log_origin.LogOrigin.{LogOrigin}
 use Rattle.wal_records.specs.Place.{place_at}
 use Rattle.wal_records.specs.Extent.{behind_of}
 use Rattle.wal_records.specs.Writer.{NewRecord, Written, begun, page_header, lead, laid, record_bytes, end_from, appended}
-use Rattle.wal_records.specs.Again.{IsWrittenAt, HasPage, IsFirst, IsPageEnd, IsInPage, IsSound}
+use Rattle.wal_records.specs.Again.{IsWrittenAt}
+use Rattle.wal_records.specs.Sound.{HasPage, IsSound}
 use Rattle.wal_records.proofs.FurtherLemmas.{header_short}
-use Rattle.wal_records.proofs.WriterLemmas.{lead_first, lead_page, lead_none, lead_reaches, place_of_page, place_inside, long_size, length-page_header}
+use Rattle.wal_records.proofs.WriterLemmas.{lead_first, lead_page, lead_reaches, place_of_page, place_inside, long_size, length-page_header}
 use Rattle.wal_records.proofs.AppendLemmas.{origin_page}
 use Rattle.wal_records.proofs.EndLemmas.{header_eights}
 

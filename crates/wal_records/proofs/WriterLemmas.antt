@@ -1,23 +1,22 @@
 -- The bytes of records and of page headers: how many there are.
-use Rattle.std.proofs.Common.{◌≡◌, ℕ, zero, suc, ◌+◌, ◌-◌, ◌%◌, ◌/◌, ◌≤◌, ◌<◌, ◌++◌, List, [], ◌∷◌, take, drop, length, min, replicate, Option, Some, None, refl, sym, ap, ◌∙◌, append_assoc, arith, length-append, length-take, length-drop, ◌*◌, mul_assoc, ◌^◌, inl, inr, ◌⊎◌}
+use Rattle.std.proofs.Common.{◌≡◌, ℕ, zero, suc, ◌+◌, ◌-◌, ◌%◌, ◌/◌, ◌≤◌, ◌<◌, ◌++◌, List, [], take, drop, length, min, Option, refl, sym, ap, ◌∙◌, arith, length-append, length-take, length-drop, ◌*◌, mul_assoc, ◌^◌, inl, inr, ◌⊎◌}
 use Rattle.std.specs.List.{flat_map}
-use Rattle.std.proofs.lemmas.List.{length-replicate, append-nil, take_min}
+use Rattle.std.proofs.lemmas.List.{append-nil, take_min}
 use Rattle.std.proofs.lemmas.Bool.{cases_lt, cases_eq}
 use Rattle.std.proofs.lemmas.Nat.{div-add-mod'}
 use Rattle.byteorder.specs.Endian.{little_bytes}
-use Rattle.byteorder.specs.Numbers.{length-bytes_low_first}
 use Rattle.wal_base.specs.Segment.{bytes_of}
 use Rattle.wal_base.specs.Crc.{crc32c}
 use Rattle.wal_pages.specs.Header.{header_size, page_of}
 use Rattle.wal_records.specs.declared.log_origin.LogOrigin.{LogOrigin}
-use Rattle.wal_records.specs.Further.{FurtherPage, further_page, room, further}
-use Rattle.wal_records.specs.Writer.{NewRecord, page_info, short_header, long_header, page_header, link_to, record_front, record_bytes, page_part, pages_from, laid, lead}
+use Rattle.wal_records.specs.Further.{further_page, room, further}
+use Rattle.wal_records.specs.Writer.{NewRecord, short_header, long_header, page_header, record_front, record_bytes, page_part, pages_from, laid, lead}
 use Rattle.wal_records.specs.Zeros.{ZeroEnded, with_bytes}
 use Rattle.wal_records.proofs.FurtherLemmas.{further_none, further_more, room_some}
 use Rattle.wal_records.proofs.ExtentLemmas.{behind_more, behind_done}
 use Rattle.wal_records.specs.Extent.{behind_in, behind_of}
 use Rattle.wal_records.specs.Place.{place_at}
-use Rattle.wal_records.proofs.ZerosLemmas.{with_twice, view_is}
+use Rattle.wal_records.proofs.ZerosLemmas.{with_twice}
 
 pub length-short_header : (o : LogOrigin) (at remaining : ℕ) → length (short_header o at remaining) ≡ 24
 unfolding short_header

@@ -1,7 +1,6 @@
 -- Bytes that go on in zeros, and what is written over the first of them.
-use Rattle.std.proofs.Common.{◌≡◌, ℕ, ◌+◌, ◌-◌, ◌≤◌, ◌++◌, List, [], take, drop, length, replicate, refl, sym, ap, ◌∙◌, append_assoc, arith, length-append, length-take-le, length-drop, subst}
-use Rattle.std.proofs.Math.Seq.{take-append_seam, drop-append_seam}
-use Rattle.std.proofs.lemmas.List.{length-replicate, drop-replicate, replicate-append-replicate, take-append-le, take_at, take-append-drop, append-nil, drop-drop, drop_at}
+use Rattle.std.proofs.Common.{◌≡◌, ℕ, ◌+◌, ◌-◌, ◌≤◌, ◌++◌, List, [], take, drop, length, replicate, sym, ap, ◌∙◌, append_assoc, arith, length-append, length-take-le}
+use Rattle.std.proofs.lemmas.List.{length-replicate, drop-replicate, replicate-append-replicate, take_at, append-nil, drop-drop, drop_at}
 use Rattle.wal_records.specs.Zeros.{ZeroEnded, with_bytes}
 
 -- so many bytes, and zeros behind them

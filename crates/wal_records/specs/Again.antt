@@ -1,9 +1,8 @@
 -- What was written is read again.
-use Rattle.std.specs.Prelude.{◌≡◌, ◌⊎◌, ℕ, ◌+◌, ◌-◌, ◌%◌, ◌^◌, ◌<◌, ◌≤◌, List, [], ◌∷◌, ◌++◌, length, take, drop, replicate, Option, Some, None, Ok}
+use Rattle.std.specs.Prelude.{◌≡◌, ℕ, ◌+◌, ◌-◌, ◌%◌, ◌^◌, ◌<◌, ◌≤◌, List, [], ◌∷◌, ◌++◌, length, take, drop, replicate, Option, Some, None, Ok}
 use Rattle.std.specs.List.{flat_map, fold, AllByRecursion}
 use Rattle.wal_base.specs.Crc.{crc32c}
 use Rattle.wal_base.specs.Segment.{bytes_of}
-use Rattle.wal_pages.specs.declared.header.PageHeader.{PageHeader}
 use Rattle.wal_pages.specs.declared.log_path.LogPath.{LogPath}
 use Rattle.wal_pages.specs.Header.{header_of as page_header_of, header_size, page_of}
 use Rattle.wal_pages.specs.Folder.{Folder}
@@ -14,11 +13,9 @@ use Rattle.wal_records.specs.declared.header.RecordHeader.{RecordHeader}
 use Rattle.wal_records.specs.declared.log_origin.LogOrigin.{LogOrigin}
 use Rattle.wal_records.specs.Header.{header_of, checksum, header_fault, greatest_total}
 use Rattle.wal_records.specs.Further.{Pages, FurtherPage, stop_at, piece, further}
-use Rattle.wal_records.specs.Writer.{NewRecord, Written, begun, appended, link_to, page_info, page_header, pages_from, record_front, record_bytes, laid, end_from}
+use Rattle.wal_records.specs.Writer.{NewRecord, Written, appended, link_to, page_info, page_header, pages_from, record_front, record_bytes, laid, end_from}
 use Rattle.wal_records.specs.Place.{place_at}
-use Rattle.wal_records.specs.Reading.{LogRecord, Spelled, Stopped, reading, record_of}
-use Rattle.wal_records.specs.declared.why.Why.TheVariants as why
-use Rattle.wal_records.specs.declared.why.Stop.TheVariants.{Ends}
+use Rattle.wal_records.specs.Reading.{LogRecord, Spelled, reading, record_of}
 use Rattle.wal_records.specs.Log.{Log, log_from}
 
 -- a record that can be appended: its numbers fit their fields, its resource manager may be one, and it isn't too long
@@ -67,6 +64,10 @@ pub record IsLogOf (log : LogPath) (origin : LogOrigin) (at : ℕ) : Type 0 wher
   pub system : (wanted : ℕ) → log.system ≡ Some wanted → wanted ≡ origin.system
   pub known : origin.system < 2 ^ 64
 
+-- from where it begins on
+abbrev pub IsLogFrom : LogPath → LogOrigin → Type 0
+IsLogFrom log origin = (at : ℕ) → origin.start ≤ at → IsLogOf log origin at
+
 abbrev pub PagesAreReadAgain : Type 0
 PagesAreReadAgain = (log : LogPath) (origin : LogOrigin) (at left : ℕ) (rest : List ℕ) → at < 2 ^ 64 → left < 2 ^ 32
     → IsLogOf log origin at → PageIsReadAgain log origin at left (page_header origin at left ++ rest)
@@ -84,7 +85,7 @@ pub record Carries (pages : Pages) (size : ℕ) (list : List FurtherPage) (bytes
 -- where the further pages of a record were written, they are read as its further pages
 abbrev pub FurtherPagesAreReadAgain : Type 0
 FurtherPagesAreReadAgain = (log : LogPath) (files : Folder) (origin : LogOrigin) (written rec : List ℕ) (page left : ℕ) (after : List ℕ)
-    → Holds log files origin.start written → ((at : ℕ) → IsLogOf log origin at) → left ≤ length rec → length rec < 2 ^ 32 → page % 8192 ≡ 0 → origin.start ≤ page
+    → Holds log files origin.start written → IsLogFrom log origin → left ≤ length rec → length rec < 2 ^ 32 → page % 8192 ≡ 0 → origin.start ≤ page
     → origin.start + length written < 2 ^ 64 → drop (page - origin.start) written ≡ pages_from origin rec page left ++ after
     → Carries (page_at log files) (bytes_of origin.size) (further (bytes_of origin.size) page left) (drop (length rec - left) rec)
 
@@ -105,7 +106,7 @@ pub record IsWrittenAt (origin : LogOrigin) (bytes : List ℕ) (place : ℕ) (re
 -- and so it is read there, over files that hold these bytes
 abbrev pub WrittenRecordIsRead : Type 0
 WrittenRecordIsRead = (log : LogPath) (files : Folder) (origin : LogOrigin) (bytes : List ℕ) (before : Option ℕ) (at : ℕ) (r : NewRecord)
-    → Holds log files origin.start bytes → ((q : ℕ) → IsLogOf log origin q) → origin.start + length bytes < 2 ^ 64 → IsNew before r
+    → Holds log files origin.start bytes → IsLogFrom log origin → origin.start + length bytes < 2 ^ 64 → IsNew before r
     → IsWrittenAt origin bytes (place_at (bytes_of origin.size) at) (record_bytes before r) → end_from origin before at r < 2 ^ 64
     → reading (page_at log files) (bytes_of origin.size) before (place_at (bytes_of origin.size) at)
     ≡ Spelled (record_of (place_at (bytes_of origin.size) at) (end_from origin before at r) (record_bytes before r))
@@ -134,90 +135,7 @@ AllWritten bytes w (r ∷ rest) =
 -- and then the log from where they end.
 abbrev pub WrittenRecordsAreRead : Type 0
 WrittenRecordsAreRead = (log : LogPath) (files : Folder) (bytes : List ℕ) (records : List NewRecord) (w : Written) → Holds log files w.origin.start bytes
-    → ((q : ℕ) → IsLogOf log w.origin q) → w.origin.start + length bytes < 2 ^ 64 → AllWritten bytes w records
+    → IsLogFrom log w.origin → w.origin.start + length bytes < 2 ^ 64 → AllWritten bytes w records
     → log_from (page_at log files) (bytes_of w.origin.size) w.before (place_at (bytes_of w.origin.size) w.end)
     ≡ with_records (log_records w records)
     (log_from (page_at log files) (bytes_of w.origin.size) (fold appended w records).before (place_at (bytes_of w.origin.size) (fold appended w records).end))
-
--- The bytes of a log end at a place within a page: the page has a header, which says that it goes on with a record before
--- only where the place isn't the first one behind it.
-pub record IsEndIn (origin : LogOrigin) (bytes : List ℕ) (place : ℕ) : Type 0 where
-  pub left : ℕ
-  pub rest : List ℕ
-  pub aligned : place % 8 ≡ 0
-  pub behind : header_size (bytes_of origin.size) (page_of place) ≤ place % 8192
-  pub from : origin.start ≤ page_of place
-  pub few : left < 2 ^ 32
-  pub fresh : place % 8192 ≡ header_size (bytes_of origin.size) (page_of place) → left ≡ 0
-  pub head : drop (page_of place - origin.start) bytes ≡ page_header origin (page_of place) left ++ rest
-  pub reach : origin.start + length bytes ≡ place
-
--- where the bytes end at a page's end, no further page is valid
-abbrev pub EndsAtPage : Type 0
-EndsAtPage = (log : LogPath) (files : Folder) (start size at : ℕ) (before : Option ℕ) (bytes : List ℕ) → Holds log files start bytes
-    → at % 8192 ≡ 0 → at ≡ start + length bytes → reading (page_at log files) size before (place_at size at) ≡ Stopped (Ends why.Page)
-
--- where they end within a page, a record of no length follows
-abbrev pub EndsInPage : Type 0
-EndsInPage = (log : LogPath) (files : Folder) (origin : LogOrigin) (bytes : List ℕ) (before : Option ℕ) (place : ℕ) → Holds log files origin.start bytes
-    → ((q : ℕ) → IsLogOf log origin q) → origin.start + length bytes < 2 ^ 64 → IsEndIn origin bytes place
-    → reading (page_at log files) (bytes_of origin.size) before place ≡ Stopped (Ends why.ZeroLength)
-
--- the page of a position has a header in these bytes, and the position isn't the first one behind it
-pub record HasPage (o : LogOrigin) (bytes : List ℕ) (at : ℕ) : Type 0 where
-  pub left : ℕ
-  pub rest : List ℕ
-  pub few : left < 2 ^ 32
-  pub from : o.start ≤ page_of at
-  pub behind : header_size (bytes_of o.size) (page_of at) < at % 8192
-  pub head : drop (page_of at - o.start) bytes ≡ page_header o (page_of at) left ++ rest
-
--- no record was appended yet
-pub record IsFirst (w : Written) : Type 0 where
-  pub end : w.end ≡ w.origin.start
-  pub bytes : w.bytes ≡ page_header w.origin w.origin.start 0
-
--- the last record ends at a page's end
-pub record IsPageEnd (w : Written) : Type 0 where
-  pub page : w.end % 8192 ≡ 0
-  pub later : w.origin.start < w.end
-  pub reach : w.origin.start + length w.bytes ≡ w.end
-
--- the last record ends within a page
-pub record IsInPage (w : Written) : Type 0 where
-  pub later : w.origin.start < w.end
-  pub reach : w.origin.start + length w.bytes ≡ w.end
-  pub has : HasPage w.origin w.bytes w.end
-
--- a log that was written so far
-pub record IsSound (w : Written) : Type 0 where
-  pub starts : w.origin.start % bytes_of w.origin.size ≡ 0
-  pub aligned : w.end % 8 ≡ 0
-  pub state : IsFirst w ⊎ (IsPageEnd w ⊎ IsInPage w)
-
--- A log of no records is sound, and in the bytes of a sound log that goes on with a record this stands at its place.
-abbrev pub BegunIsSound : Type 0
-BegunIsSound = (origin : LogOrigin) → origin.start % bytes_of origin.size ≡ 0 → IsSound (begun origin)
-
-abbrev pub AppendedStands : Type 0
-AppendedStands = (w : Written) (r : NewRecord) (all after : List ℕ) → IsSound w → all ≡ (appended w r).bytes ++ after
-    → IsWrittenAt w.origin all (place_at (bytes_of w.origin.size) w.end) (record_bytes w.before r)
-
--- and it stays sound
-abbrev pub StaysSound : Type 0
-StaysSound = (w : Written) (r : NewRecord) → IsSound w → IsNew w.before r → IsSound (appended w r)
-
--- each of these records can be appended in turn, and ends below 2 ^ 63
-abbrev pub AllNew : Written → List NewRecord → Type 0
-AllNew w [] = Unit {0}
-AllNew w (r ∷ rest) = IsNew w.before r × (end_from w.origin w.before w.end r < 2 ^ 63) × AllNew (appended w r) rest
-
--- The log of some records is read again: over files that hold its bytes the valid log from its start is these records, and
--- then the log from where they end.
-abbrev pub WrittenLogIsRead : Type 0
-WrittenLogIsRead = (log : LogPath) (files : Folder) (origin : LogOrigin) (records : List NewRecord) → origin.start % bytes_of origin.size ≡ 0
-    → AllNew (begun origin) records → Holds log files origin.start (fold appended (begun origin) records).bytes → ((q : ℕ) → IsLogOf log origin q)
-    → origin.start + length (fold appended (begun origin) records).bytes < 2 ^ 64
-    → log_from (page_at log files) (bytes_of origin.size) None (place_at (bytes_of origin.size) origin.start)
-    ≡ with_records (log_records (begun origin) records)
-    (log_from (page_at log files) (bytes_of origin.size) (fold appended (begun origin) records).before (place_at (bytes_of origin.size) (fold appended (begun origin) records).end))

@@ -11,3 +11,5 @@ pub mod Laws
 pub mod Writer
 pub mod Zeros
 pub mod Again
+pub mod Sound
+pub mod Stored

@@ -5,7 +5,7 @@ use Rattle.std.specs.List.{flat_map, fold}
 use Rattle.byteorder.specs.Endian.{little_bytes}
 use Rattle.wal_base.specs.Segment.{bytes_of}
 use Rattle.wal_base.specs.Crc.{crc32c}
-use Rattle.wal_pages.specs.Header.{header_size, page_of}
+use Rattle.wal_pages.specs.Header.{page_of}
 use Rattle.wal_records.specs.declared.log_origin.LogOrigin.{LogOrigin}
 use Rattle.wal_records.specs.Place.{place_at}
 use Rattle.wal_records.specs.Header.{header_of}

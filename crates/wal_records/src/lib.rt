@@ -33,7 +33,8 @@ pub use write_fault::LogWriteFault;
 pub use writer::LogWriter;
 pub use writer_laws::{
     appended_record_stands, further_pages_are_read_again, headers_are_read_again,
-    written_end_is_read, written_log_is_read, written_record_is_read, written_records_are_read,
+    written_end_is_read, written_log_is_read, written_log_is_read_back, written_record_is_read,
+    written_records_are_read,
 };
 
 #[cfg(test)]

@@ -121,9 +121,9 @@ fn record_of(alloc: Global, total: u32, prev: u64, manager: u8, info: u8) -> Res
     Ok(bytes)
 }
 
-/// A cursor over the log in the folder `log`, in segments of 1 MiB of timeline 1.
-fn cursor_at(alloc: Global, start: u64) -> Result<RecordCursor, Fail>
-    ensures { IfOk result (λ cursor. cursor.ended ≡ None) }
+/// The log in the folder `log`, in segments of 1 MiB of timeline 1.
+fn path_of(alloc: Global) -> Result<LogPath, Fail>
+    ensures { IfOk result (λ log. length log.folder.parts ≤ 63) }
 {
     let log = LogPath {
         folder: Path::parse(alloc, "log")?,
@@ -134,6 +134,14 @@ fn cursor_at(alloc: Global, start: u64) -> Result<RecordCursor, Fail>
     if log.folder.len() > 63 {
         return Err("too deep".into());
     }
+    Ok(log)
+}
+
+/// A cursor over that log.
+fn cursor_at(alloc: Global, start: u64) -> Result<RecordCursor, Fail>
+    ensures { IfOk result (λ cursor. cursor.ended ≡ None) }
+{
+    let log = path_of(alloc)?;
     Ok(RecordCursor::at(alloc, log, Lsn(start))?)
 }
 

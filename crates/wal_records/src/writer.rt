@@ -7,6 +7,7 @@ ghost use Rattle.wal_records.specs.declared.write_fault.LogWriteFault.{LogWriteF
 ghost use Rattle.wal_records.specs.Header.{greatest_total};
 ghost use Rattle.wal_records.specs.Place.{place_at};
 ghost use Rattle.wal_records.specs.Writer.{NewRecord, new_record, Written, begun, appended, written, end_from, in_pages, log_bytes_of};
+ghost use Rattle.wal_records.specs.Stored.{Wrote};
 
 use crate::extent::end_at;
 use crate::header::{GREATEST_TOTAL, HEADER_SIZE, header_of};
@@ -60,6 +61,7 @@ impl LogWriter {
         requires low { start.0 < 2 ^ 63 }
         ensures ok { IfOk result (λ writer. writer
             ≡ begun record { start = start.0; tli = tli; system = system; size = size }) }
+        ensures wrote { IfOk result (λ writer. Wrote writer []) }
     {
         let origin = LogOrigin {
             start: start.0,
@@ -102,6 +104,8 @@ impl LogWriter {
         ensures more { IfOk result (λ start. (origin : LogOrigin) (records : List NewRecord) →
             self.old ≡ written origin records →
             self.new ≡ written origin (records ++ new_record xid info manager body.now ∷ [])) }
+        ensures wrote { IfOk result (λ start. (records : List NewRecord) → Wrote self.old records →
+            Wrote self.new (records ++ new_record xid info manager body.now ∷ [])) }
         ensures too_long { (total : ℕ) → result ≡ Err (LogWriteFault.TooLong total) ↔
             (total ≡ 24 + length body.now) × (greatest_total < 24 + length body.now) }
         ensures kept { OnErr result (self.new ≡ self.old) }
@@ -122,9 +126,12 @@ impl LogWriter {
         Ok(place)
     }
 
-    /// Where the last record ends, or where the log begins if there is none.
+    /// Where the last record ends, or where the log begins if there is none. The next record ends
+    /// less than 2^32 bytes further on.
     pub fn position(&self) -> Lsn
         ensures value { result.0 ≡ self.now.end }
+        ensures near { (r : NewRecord) → 24 + length r.body ≤ greatest_total →
+            end_from self.now.origin self.now.before self.now.end r ≤ result.0 + 2 ^ 32 }
     {
         Lsn(self.end)
     }

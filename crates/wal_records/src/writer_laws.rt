@@ -1,6 +1,8 @@
 //! Laws of logs that are written.
 
-ghost use Rattle.wal_records.specs.Again.{RecordsAreReadAgain, PagesAreReadAgain, FurtherPagesAreReadAgain, WrittenRecordIsRead, WrittenRecordsAreRead, EndsAtPage, EndsInPage, BegunIsSound, AppendedStands, StaysSound, WrittenLogIsRead};
+ghost use Rattle.wal_records.specs.Again.{RecordsAreReadAgain, PagesAreReadAgain, FurtherPagesAreReadAgain, WrittenRecordIsRead, WrittenRecordsAreRead};
+ghost use Rattle.wal_records.specs.Sound.{EndsAtPage, EndsInPage, BegunIsSound, AppendedStands, StaysSound, WrittenLogIsRead};
+ghost use Rattle.wal_records.specs.Stored.{LogIsReadBack};
 
 /// From the bytes of a record that was written, its header, its body and its checksum are read
 /// again; and a page that a written header begins is valid, and says what was written.
@@ -46,4 +48,12 @@ pub fn appended_record_stands()
 /// start is these records, and then the log from where they end.
 pub fn written_log_is_read()
     ensures { WrittenLogIsRead }
+{}
+
+/// What a writer wrote is read back from the segment files of a tree that have its bytes, and then
+/// zeros: the valid log from its start is the records that were appended, each with what it was
+/// given, and ends where the writer is: for want of a page, where the last record ends at a page's
+/// end, and else for want of a record's length.
+pub fn written_log_is_read_back()
+    ensures { LogIsReadBack }
 {}

@@ -1,22 +1,28 @@
-//! A caller whose proof shows that the clauses are enough: the records given so far and those to
-//! come are the valid log, and reading ends by a measure.
-ghost use Rattle.std.specs.Prelude.{◌≡◌, ◌++◌, None, map, IsTrue, IfOk};
+//! Callers whose proofs show that the clauses are enough: what was given so far and what is to come
+//! are the valid log, reading ends by a measure, and what was written is read back.
+ghost use Rattle.std.specs.Prelude.{◌≡◌, ◌≤◌, ◌++◌, None, List, map, length, IsTrue, IfOk};
+ghost use Rattle.wal_base.specs.Segment.{bytes_of};
 ghost use Rattle.wal_records.specs.Cursor.{to_come};
+ghost use Rattle.wal_records.specs.Place.{place_at};
+ghost use Rattle.wal_records.specs.Writer.{NewRecord, in_pages};
+ghost use Rattle.wal_records.specs.Stored.{Wrote, IsPathOf, IsStored, end_why};
 
+use super::written::{log_of, tree_with};
 use super::*;
-use crate::LogFault;
+use crate::{LogFault, LogWriter, written_log_is_read_back};
 use cluster_tree::{FailPlan, FailingTree};
 use std::test::*;
 
-/// Adds where each record starts that is still to come, and tells the place of the end and why.
-fn starts_of<F: Tree>(
+/// Adds the transaction of each record that is still to come, and tells the place of the end and
+/// why.
+fn xids_of<F: Tree>(
     cursor: &mut RecordCursor,
     tree: &mut F,
-    starts: &mut Vec<u64>,
+    xids: &mut Vec<u32>,
 ) -> Result<(u64, Why), LogFault>
     requires opened { cursor.old.ended ≡ None }
-    ensures starts { IsTrue F.tells → IfOk result (λ e. starts.new.items ≡ starts.old.items
-        ++ map (λ r. r.start) (to_come cursor.old (F.contents tree.old)).records) }
+    ensures xids { IsTrue F.tells → IfOk result (λ e. xids.new.items ≡ xids.old.items
+        ++ map (λ r. r.header.xid) (to_come cursor.old (F.contents tree.old)).records) }
     ensures place { IsTrue F.tells → IfOk result (λ e.
         (to_come cursor.old (F.contents tree.old)).place ≡ e.0) }
     ensures why { IsTrue F.tells → IfOk result (λ e.
@@ -27,32 +33,58 @@ fn starts_of<F: Tree>(
             Step::End(place, why) => return Ok((place.0, why)),
             Step::Record => {}
         }
-        let start = match cursor.current() {
-            Some(current) => current.start().0,
+        let xid = match cursor.current() {
+            Some(current) => current.header().xid,
             None => return Err(LogFault::OutOfMemory),
         };
-        match starts.push(start) {
+        match xids.push(xid) {
             Ok(()) => {}
             Err(_) => return Err(LogFault::OutOfMemory),
         }
     }
 }
 
+/// Adds the transactions of the records of a writer's log, as they are read from a tree that has it
+/// in its segment files, and tells the place of the end and why.
+fn written_xids<F: Tree>(
+    alloc: Global,
+    writer: &LogWriter,
+    log: LogPath,
+    start: Lsn,
+    tree: &mut F,
+    xids: &mut Vec<u32>,
+) -> Result<(u64, Why), LogFault>
+    requires room { length log.folder.parts ≤ 63 }
+    ensures xids { IsTrue F.tells → start.0 ≡ writer.now.origin.start → IsPathOf log writer.now.origin
+        → IsStored log (F.contents tree.old) start.0 writer.now.end (in_pages writer.now.bytes)
+        → IfOk result (λ e. (records : List NewRecord) → Wrote writer.now records
+        → xids.new.items ≡ xids.old.items ++ map (λ r. r.xid) records) }
+    ensures place { IsTrue F.tells → start.0 ≡ writer.now.origin.start → IsPathOf log writer.now.origin
+        → IsStored log (F.contents tree.old) start.0 writer.now.end (in_pages writer.now.bytes)
+        → IfOk result (λ e. (records : List NewRecord) → Wrote writer.now records
+        → e.0 ≡ place_at (bytes_of writer.now.origin.size) writer.now.end) }
+    ensures why { IsTrue F.tells → start.0 ≡ writer.now.origin.start → IsPathOf log writer.now.origin
+        → IsStored log (F.contents tree.old) start.0 writer.now.end (in_pages writer.now.bytes)
+        → IfOk result (λ e. (records : List NewRecord) → Wrote writer.now records
+        → e.1 ≡ end_why writer.now) }
+{
+    written_log_is_read_back();
+    let mut cursor = match RecordCursor::at(alloc, log, start) {
+        Ok(cursor) => cursor,
+        Err(_) => return Err(LogFault::OutOfMemory),
+    };
+    xids_of(&mut cursor, tree, xids)
+}
+
 #[test]
-fn all_records_are_given_once(rt: HostRuntime) -> Result<(), Fail> {
-    let first = record_of(rt.alloc(), 50, 0, 10, 0)?;
-    let second = record_of(rt.alloc(), 24, 0x10_0028, 10, 0)?;
-    let cells = [
-        Cell::Page(FIRST, 2, 0),
-        Cell::Bytes(0x10_0028, &first),
-        Cell::Bytes(0x10_0060, &second),
-    ];
-    let tree = tree_of(rt.alloc(), [1, 0], &cells)?;
+fn what_a_writer_wrote_is_given_once(rt: HostRuntime) -> Result<(), Fail> {
+    let (writer, _) = log_of(rt.alloc(), &[(0, 10, 50), (0, 10, 24)])?;
+    let tree = tree_with(rt.alloc(), &writer)?;
     let mut tree = FailingTree::new(tree, FailPlan::Never);
-    let mut cursor = cursor_at(rt.alloc(), FIRST)?;
-    let mut starts = Vec::new(rt.alloc());
-    let end = starts_of(&mut cursor, &mut tree, &mut starts)?;
+    let log = path_of(rt.alloc())?;
+    let mut xids = Vec::new(rt.alloc());
+    let end = written_xids(rt.alloc(), &writer, log, Lsn(FIRST), &mut tree, &mut xids)?;
     assert_eq!(rt; end, (0x10_0078, Why::ZeroLength));
-    assert_eq!(rt; starts.as_slice(), [0x10_0028, 0x10_0060].as_slice());
+    assert_eq!(rt; xids.as_slice(), [700, 701].as_slice());
     Ok(())
 }

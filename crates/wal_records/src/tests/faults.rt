@@ -1,4 +1,5 @@
 //! Faults, and calls after an end.
+use super::written::{log_of, tree_with};
 use super::*;
 use crate::LogFault;
 use cluster_tree::{FailPlan, FailingTree};
@@ -6,9 +7,8 @@ use std::test::*;
 
 /// A tree whose log has one record, at 0/100028.
 fn tree_of_one(alloc: Global, plan: FailPlan) -> Result<FailingTree, Fail> {
-    let bytes = record_of(alloc, 50, 0, 10, 0)?;
-    let cells = [Cell::Page(FIRST, 2, 0), Cell::Bytes(0x10_0028, &bytes)];
-    Ok(FailingTree::new(tree_of(alloc, [1, 0], &cells)?, plan))
+    let (writer, _) = log_of(alloc, &[(0, 10, 50)])?;
+    Ok(FailingTree::new(tree_with(alloc, &writer)?, plan))
 }
 
 #[test]

@@ -7,10 +7,9 @@ use crate::LogWriter;
 use std::test::*;
 
 /// A record that is appended: the operation and its manager, and how many bytes it has in all.
-type New = (u8, u8, u32);
+pub type New = (u8, u8, u32);
 
 /// Appends a record of a transaction: the operation and its manager, and the bytes of its body.
-#[tactic(auto, using(crate::proofs::NearLemmas::ends_near))]
 fn append(writer: &mut LogWriter, xid: u32, kind: (u8, u8), body: &[u8]) -> Result<u64, Fail> {
     let (info, manager) = kind;
     if manager > 21 || writer.position().0 > 1 << 62 {
@@ -19,27 +18,27 @@ fn append(writer: &mut LogWriter, xid: u32, kind: (u8, u8), body: &[u8]) -> Resu
     Ok(writer.append(xid, info, manager, body)?.0)
 }
 
-/// Appends a record of this length, whose body is of bytes 5A.
-fn append_new(alloc: Global, writer: &mut LogWriter, new: New) -> Result<u64, Fail> {
+/// Appends a record of a transaction and of this length, whose body is of bytes 5A.
+fn append_new(alloc: Global, writer: &mut LogWriter, xid: u32, new: New) -> Result<u64, Fail> {
     let (info, manager, total) = new;
     let body = vec![in alloc; 0x5A; total.saturating_sub(24) as usize]?;
-    append(writer, 700, (info, manager), &body)
+    append(writer, xid, (info, manager), &body)
 }
 
-/// A log of timeline 1 in segments of 1 MiB from 0/100000 on, with records of these lengths, whose
-/// bodies are of bytes 5A.
-fn log_of(alloc: Global, records: &[New]) -> Result<(LogWriter, Vec<u64>), Fail> {
+/// A log of timeline 1 in segments of 1 MiB from 0/100000 on, with records of these lengths, of the
+/// transactions from 700 on, and where each starts.
+pub fn log_of(alloc: Global, records: &[New]) -> Result<(LogWriter, Vec<u64>), Fail> {
     let size = SegSize::new(0x10_0000).ok_or("no size")?;
     let mut writer = LogWriter::new(alloc, Lsn(FIRST), 1, SYSTEM, size)?;
     let mut starts = Vec::new(alloc);
-    for &new in records {
-        starts.push(append_new(alloc, &mut writer, new)?)?;
+    for (&new, xid) in records.iter().zip(700..) {
+        starts.push(append_new(alloc, &mut writer, xid, new)?)?;
     }
     Ok((writer, starts))
 }
 
 /// A tree with that log in its segment files, which go on in zeros.
-fn tree_with(alloc: Global, writer: &LogWriter) -> Result<MemoryTree, Fail> {
+pub fn tree_with(alloc: Global, writer: &LogWriter) -> Result<MemoryTree, Fail> {
     let mut tree = tree_of(alloc, [1, 1], &[])?;
     let zeros = vec![in alloc; 0; 0x10_0000]?;
     write(alloc, &mut tree, FIRST, &zeros)?;
@@ -151,18 +150,26 @@ fn a_log_of_no_records_is_at_its_end(rt: HostRuntime) -> Result<(), Fail> {
     Ok(())
 }
 
-/// The first page of a segment with one shutdown checkpoint, as it was stored.
+/// All bytes of the first segment's file.
+fn segment_of(alloc: Global, tree: &mut MemoryTree) -> Result<Vec<u8>, Fail> {
+    let mut bytes = vec![in alloc; 0; 0x10_0000]?;
+    tree.read_at(&Path::parse(alloc, FIRST_NAME)?, 0, &mut bytes)?;
+    Ok(bytes)
+}
+
+/// A segment with one shutdown checkpoint, whose bytes and sum come from an independent script: all
+/// of it, of which the writer gives the first page.
 #[test]
-fn a_checkpoint_is_written_as_it_was_stored(rt: HostRuntime) -> Result<(), Fail> {
+fn a_segment_is_written_as_it_was_stored(rt: HostRuntime) -> Result<(), Fail> {
     let size = SegSize::new(0x10_0000).ok_or("no size")?;
     let mut writer = LogWriter::new(rt.alloc(), Lsn(FIRST), 1, SYSTEM, size)?;
     let start = append(&mut writer, 0, (0, 0), &CHECKPOINT[24..])?;
     assert_eq!(rt; start, 0x10_0028);
-    let cells = [Cell::Page(FIRST, 2, 0), Cell::Bytes(0x10_0028, &CHECKPOINT)];
-    let mut tree = tree_of(rt.alloc(), [1, 0], &cells)?;
-    let mut stored = [0; 8192];
-    tree.read_at(&Path::parse(rt.alloc(), FIRST_NAME)?, 0, &mut stored)?;
-    assert_eq!(rt; writer.bytes(), stored.as_slice());
     assert_eq!(rt; writer.position(), Lsn(0x10_00A0));
+    assert_eq!(rt; writer.bytes().len(), 8192);
+    let cells = [Cell::Page(FIRST, 2, 0), Cell::Bytes(0x10_0028, &CHECKPOINT)];
+    let stored = segment_of(rt.alloc(), &mut tree_of(rt.alloc(), [128, 0], &cells)?)?;
+    let written = segment_of(rt.alloc(), &mut tree_with(rt.alloc(), &writer)?)?;
+    assert!(rt; written.as_slice() == stored.as_slice());
     Ok(())
 }

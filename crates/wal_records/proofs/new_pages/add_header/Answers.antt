@@ -1,8 +1,8 @@
-use Rattle.std.proofs.Common.{◌≡◌, ◌≤◌, ℕ, ◌-◌, ◌%◌, ◌++◌, ap, ◌∙◌, arith, sym, refl}
+use Rattle.std.proofs.Common.{◌≡◌, ℕ, ◌-◌, ◌%◌, ap, ◌∙◌, arith, sym, refl}
 use Rattle.wal_base.specs.Segment.{bytes_of}
-use Rattle.wal_records.specs.Writer.{short_header, long_header, page_header}
+use Rattle.wal_records.specs.Writer.{short_header, long_header}
 use Rattle.wal_records.specs.Zeros.{ZeroEnded, with_bytes}
-use Rattle.wal_records.proofs.ZerosLemmas.{with_first, with_then}
+use Rattle.wal_records.proofs.ZerosLemmas.{with_then}
 use Rattle.wal_records.proofs.WriterLemmas.{length-short_header, long_page_header, short_page_header, long_size}
 use Rattle.wal_records.proofs.new_pages.add_header.Goals as goal
 

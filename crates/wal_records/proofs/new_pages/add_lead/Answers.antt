@@ -1,4 +1,4 @@
-use Rattle.std.proofs.Common.{◌≡◌, ap, sym, ◌∙◌, length, arith}
+use Rattle.std.proofs.Common.{ap, sym, ◌∙◌, length, arith}
 use Rattle.wal_records.specs.Writer.{lead}
 use Rattle.wal_records.specs.Zeros.{with_bytes}
 use Rattle.wal_records.proofs.ZerosLemmas.{with_none}

@@ -1,4 +1,4 @@
-use Rattle.std.proofs.Common.{◌≡◌, ℕ, ◌++◌, List, ap, ◌∙◌}
+use Rattle.std.proofs.Common.{ℕ, ◌++◌, List, ap, ◌∙◌}
 use Rattle.byteorder.specs.Endian.{little_bytes}
 use Rattle.wal_base.specs.Segment.{bytes_of}
 use Rattle.wal_records.specs.Writer.{long_header}

@@ -1,10 +1,10 @@
-use Rattle.std.proofs.Common.{◌≡◌, ◌+◌, ◌-◌, ◌*◌, ◌<◌, ◌≤◌, ◌++◌, ◌%◌, ◌/◌, length, ℕ, List, take, drop, min, ap, sym, ◌∙◌, arith, length-append, length-take, length-drop, refl, append_assoc}
+use Rattle.std.proofs.Common.{◌≡◌, ◌+◌, ◌-◌, ◌*◌, ◌++◌, ◌/◌, length, ℕ, List, take, drop, min, ap, sym, ◌∙◌, arith, length-append, length-take, length-drop, refl, append_assoc}
 use Rattle.std.proofs.lemmas.List.{append-nil}
 use Rattle.wal_base.specs.Segment.{bytes_of}
-use Rattle.wal_pages.specs.Header.{header_size, page_of}
+use Rattle.wal_pages.specs.Header.{header_size}
 use Rattle.wal_records.specs.Further.{room}
 use Rattle.wal_records.specs.Writer.{pages_from, page_header, laid}
-use Rattle.wal_records.specs.Zeros.{ZeroEnded, with_bytes}
+use Rattle.wal_records.specs.Zeros.{ZeroEnded}
 use Rattle.wal_records.proofs.ZerosLemmas.{append_on, kept_room, both_lengths, view_is}
 use Rattle.wal_records.proofs.WriterLemmas.{pages_none, pages_step, pages_begin, parts_length, length-page_header, header_and_room}
 use Rattle.wal_records.proofs.new_pages.add_record.Goals as goal

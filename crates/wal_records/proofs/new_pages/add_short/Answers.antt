@@ -1,4 +1,4 @@
-use Rattle.std.proofs.Common.{◌≡◌, ℕ, ◌++◌, List, replicate, ap, ◌∙◌, refl}
+use Rattle.std.proofs.Common.{ℕ, ◌++◌, List, replicate, ap, ◌∙◌, refl}
 use Rattle.byteorder.specs.Endian.{little_bytes}
 use Rattle.wal_base.specs.Segment.{bytes_of}
 use Rattle.wal_records.specs.Writer.{page_info, short_header}

@@ -1,4 +1,4 @@
-use Rattle.std.proofs.Common.{rules, ◌≡◌, ◌+◌, length, ap, ◌∙◌}
+use Rattle.std.proofs.Common.{rules, length, ap, ◌∙◌}
 use Rattle.wal_records.specs.Writer.{new_record, record_bytes}
 use Rattle.wal_records.proofs.WriterLemmas.{length_record_bytes}
 use Rattle.wal_records.proofs.new_record.record_bytes.Goals as goal

@@ -1,4 +1,4 @@
-use Rattle.std.proofs.Common.{◌≤◌, arith}
+use Rattle.std.proofs.Common.{arith}
 use Rattle.wal_records.proofs.StandsLemmas.{pages_stand}
 use Rattle.wal_records.proofs.writer_laws.further_pages_are_read_again.Goals as goal
 

@@ -1,14 +1,13 @@
-use Rattle.std.proofs.Common.{◌≡◌, ℕ, ◌+◌, ◌-◌, ◌<◌, ◌≤◌, ◌^◌, ◌%◌, ◌∷◌, [], ◌++◌, List, length, replicate, Some, ap, sym, ◌∙◌, arith}
+use Rattle.std.proofs.Common.{◌≡◌, ℕ, ◌+◌, ◌-◌, ◌<◌, ◌≤◌, ◌^◌, ◌%◌, ◌++◌, List, length, replicate, ap, sym, ◌∙◌, arith}
 use Rattle.wal_base.specs.Segment.{bytes_of}
-use Rattle.wal_records.specs.declared.header.RecordHeader.{RecordHeader}
-use Rattle.wal_records.specs.Header.{header_of}
-use Rattle.wal_records.specs.Place.{place_at}
-use Rattle.wal_records.specs.Extent.{behind_of, end_of}
-use Rattle.wal_records.specs.Writer.{NewRecord, new_record, Written, record_bytes, lead, laid, end_from, appended, written}
-use Rattle.wal_records.specs.Zeros.{ZeroEnded, with_bytes}
+use Rattle.wal_records.specs.Header.{header_of, greatest_total}
+use Rattle.wal_records.specs.Extent.{behind_of}
+use Rattle.wal_records.specs.Writer.{NewRecord, new_record, Written, record_bytes, lead, laid, end_from, appended}
+use Rattle.wal_records.specs.Zeros.{ZeroEnded}
 use Rattle.wal_records.proofs.WriterLemmas.{lead_reaches}
 use Rattle.wal_records.proofs.NearLemmas.{ends_near}
 use Rattle.wal_records.proofs.AppendLemmas.{end_is, origin_page, within_end, end_aligned, added_length, whole_again, appended_is, written_more}
+use Rattle.wal_records.proofs.WroteLemmas.{wrote_more}
 use Rattle.wal_records.proofs.writer.LogWriter.append.Goals as goal
 
 pub unreachable-requires : goal.unreachable-requires
@@ -104,3 +103,9 @@ returns-clause-near c =
     let end = c.in-Some.ensures.some ∙ end_is o c.self.inside.before c.self.inside.end r c.place_at-place.result.0 (24 + length c.args.body.now) c.header_of.result c.place_at-place.ensures.value (omega arith) header in
     let at = ap (λ (w : Written). w.end) c.self.view_is in
     omega (arith, end, at, ends_near o c.self.inside.before c.self.inside.end r (omega (arith, c.from.ensures)))
+
+pub returns-clause-wrote : goal.returns-clause-wrote
+returns-clause-wrote c = λ records wrote.
+    let r : NewRecord = new_record c.args.xid c.args.info c.args.manager c.args.body.now in
+    let size : 24 + length c.args.body.now ≤ greatest_total = omega (arith, c.from.ensures) in
+    wrote_more c.args.self.now _ records r (returns-clause-ok c) wrote (omega arith) c.requires.manager size (c.requires.low size)

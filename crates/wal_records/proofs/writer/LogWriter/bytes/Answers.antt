@@ -1,6 +1,5 @@
-use Rattle.std.proofs.Common.{◌≡◌, ◌++◌, List, replicate, ap, sym, ◌∙◌}
-use Rattle.wal_records.specs.declared.log_origin.LogOrigin.{LogOrigin}
-use Rattle.wal_records.specs.Writer.{NewRecord, Written, written, in_pages}
+use Rattle.std.proofs.Common.{ap, ◌∙◌}
+use Rattle.wal_records.specs.Writer.{Written, in_pages}
 use Rattle.wal_records.proofs.AppendLemmas.{filled, in_pages_is}
 use Rattle.wal_records.proofs.writer.LogWriter.bytes.Goals as goal
 

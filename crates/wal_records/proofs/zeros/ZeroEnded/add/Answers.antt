@@ -1,7 +1,6 @@
-use Rattle.std.proofs.Common.{◌≡◌, ◌+◌, ◌-◌, ◌≤◌, ◌++◌, ℕ, List, length, replicate, take, drop, ap, sym, ◌∙◌, arith, length-append}
-use Rattle.std.proofs.lemmas.List.{length-replicate}
+use Rattle.std.proofs.Common.{◌≡◌, ◌+◌, ◌-◌, ◌≤◌, ◌++◌, ℕ, List, length, replicate, take, drop, ap, sym, ◌∙◌}
 use Rattle.wal_records.specs.Zeros.{with_bytes, ZeroEnded}
-use Rattle.wal_records.proofs.ZerosLemmas.{ends_so, seen_so, written_over, length_with, view_is, kept_len, length_over}
+use Rattle.wal_records.proofs.ZerosLemmas.{ends_so, seen_so, written_over, length_with, kept_len, length_over}
 use Rattle.wal_records.proofs.zeros.ZeroEnded.add.Goals as goal
 
 pub invariant_of-self : goal.invariant_of-self

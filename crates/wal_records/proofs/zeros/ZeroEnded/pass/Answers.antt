@@ -1,6 +1,6 @@
-use Rattle.std.proofs.Common.{◌≡◌, ◌+◌, ◌-◌, ◌++◌, ℕ, List, length, replicate, take, ap, sym, ◌∙◌, arith}
+use Rattle.std.proofs.Common.{◌≡◌, ◌+◌, ◌-◌, ◌++◌, ℕ, List, length, replicate, take, ap, sym, ◌∙◌}
 use Rattle.std.proofs.lemmas.List.{length-replicate}
-use Rattle.wal_records.specs.Zeros.{with_bytes, ZeroEnded}
+use Rattle.wal_records.specs.Zeros.{ZeroEnded}
 use Rattle.wal_records.proofs.ZerosLemmas.{ends_so, seen_so, passed_over, length_with, view_is}
 use Rattle.wal_records.proofs.zeros.ZeroEnded.pass.Goals as goal
 

@@ -2,7 +2,7 @@ use Rattle.std.proofs.Common.{◌≡◌, ◌++◌, ◌-◌, ◌^◌, None, map, 
 use Rattle.cluster_tree.specs.Causes.{OnlyReads}
 use Rattle.wal_records.specs.Reading.{LogRecord}
 use Rattle.wal_records.specs.Cursor.{to_come}
-use Rattle.wal_records.proofs.tests.callers.starts_of.Given as goal
+use Rattle.wal_records.proofs.tests.callers.xids_of.Given as goal
 
 abbrev pub invariant-records : goal.invariant-records
 invariant-records g l =
@@ -10,7 +10,7 @@ invariant-records g l =
     record {
       opened : l.cursor.ended ≡ None;
       reads : OnlyReads g.F.Tree.contents g.F.Tree.calls g.F.Tree.failed_reads g.F.Tree.failed_changes l.fn.tree l.tree;
-      starts : IsTrue g.F.Tree.tells → l.starts.items ++ map (λ (r : LogRecord). r.start) (to_come l.cursor contents).records ≡ l.fn.starts.items ++ map (λ (r : LogRecord). r.start) (to_come l.fn.cursor contents).records;
+      xids : IsTrue g.F.Tree.tells → l.xids.items ++ map (λ (r : LogRecord). r.header.xid) (to_come l.cursor contents).records ≡ l.fn.xids.items ++ map (λ (r : LogRecord). r.header.xid) (to_come l.fn.cursor contents).records;
       place : IsTrue g.F.Tree.tells → (to_come l.cursor contents).place ≡ (to_come l.fn.cursor contents).place;
       why : IsTrue g.F.Tree.tells → (to_come l.cursor contents).why ≡ (to_come l.fn.cursor contents).why;
     }
