@@ -1,0 +1,33 @@
+-- The manager CLOG: PostgreSQL 16, src/include/access/clog.h.
+use Rattle.std.specs.Prelude.{ℕ, List, ◌==◌, bit_and, if◌then◌else◌, Option}
+use Rattle.layout.specs.Readers.{word_at}
+use Rattle.record_layouts.specs.Fields.{whole}
+use Rattle.record_layouts.specs.declared.clog.ClogOp.{ClogOp}
+use Rattle.record_layouts.specs.declared.clog.ClogOp.TheVariants as op
+use Rattle.record_layouts.specs.declared.clog.ClogZeroPage.{ClogZeroPage}
+use Rattle.record_layouts.specs.declared.clog.ClogTruncate.{ClogTruncate}
+
+-- the operation of a number
+abbrev pub clog_op_numbered : ℕ → ClogOp
+clog_op_numbered number =
+    if number == 0x00 then op.ZeroPage
+    else if number == 0x10 then op.Truncate
+    else op.Unlisted number
+
+-- the operation of `info`, without its low four bits
+unfoldable pub clog_op_of : ℕ → ClogOp
+clog_op_of info = clog_op_numbered (bit_and info 0xF0)
+
+-- ZEROPAGE, in src/backend/access/transam/clog.c
+abbrev pub clog_zero_page_of : List ℕ → Option ClogZeroPage
+clog_zero_page_of bytes = whole 4 bytes record {
+  page = word_at 0 bytes;
+}
+
+-- TRUNCATE: xl_clog_truncate
+abbrev pub clog_truncate_of : List ℕ → Option ClogTruncate
+clog_truncate_of bytes = whole 12 bytes record {
+  page = word_at 0 bytes;
+  oldest_xid = word_at 4 bytes;
+  oldest_xid_db = word_at 8 bytes;
+}

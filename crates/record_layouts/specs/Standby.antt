@@ -1,0 +1,30 @@
+-- The manager Standby: PostgreSQL 16, src/include/storage/standbydefs.h.
+use Rattle.std.specs.Prelude.{ℕ, List, ◌==◌, bit_and, if◌then◌else◌, Option}
+use Rattle.layout.specs.Readers.{byte_at, word_at}
+use Rattle.record_layouts.specs.Fields.{int_at, whole}
+use Rattle.record_layouts.specs.declared.standby.StandbyOp.{StandbyOp}
+use Rattle.record_layouts.specs.declared.standby.StandbyOp.TheVariants as op
+use Rattle.record_layouts.specs.declared.standby.RunningXacts.{RunningXacts}
+
+-- the operation of a number
+abbrev pub standby_op_numbered : ℕ → StandbyOp
+standby_op_numbered number =
+    if number == 0x00 then op.Lock
+    else if number == 0x10 then op.RunningXacts
+    else if number == 0x20 then op.Invalidations
+    else op.Unlisted number
+
+-- the operation of `info`, without its low four bits
+unfoldable pub standby_op_of : ℕ → StandbyOp
+standby_op_of info = standby_op_numbered (bit_and info 0xF0)
+
+-- RUNNING_XACTS: xl_running_xacts, but for the transactions behind it. Its counts count none of these bytes, so a negative one is as good as any
+abbrev pub running_xacts_of : List ℕ → Option RunningXacts
+running_xacts_of bytes = whole 24 bytes record {
+  count = int_at 0 bytes;
+  subcount = int_at 4 bytes;
+  overflow = byte_at 8 bytes;
+  next_xid = word_at 12 bytes;
+  oldest_xid = word_at 16 bytes;
+  latest_xid = word_at 20 bytes;
+}
