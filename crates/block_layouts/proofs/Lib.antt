@@ -1,0 +1,10 @@
+pub mod RowLemmas
+pub mod FreezeLemmas
+pub mod TupleLemmas
+pub mod IndexLemmas
+pub mod PieceLemmas
+pub mod RestoredLemmas
+pub mod ListLemmas
+pub mod InsertedLemmas
+pub mod HoldLemmas
+pub mod SplitLemmas

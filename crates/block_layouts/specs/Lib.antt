@@ -1,0 +1,13 @@
+pub mod Fields
+pub mod Row
+pub mod Tuple
+pub mod Update
+pub mod Places
+pub mod Redirects
+pub mod Prune
+pub mod Freeze
+pub mod MultiInsert
+pub mod IndexTuples
+pub mod Split
+pub mod Meta
+pub mod Laws

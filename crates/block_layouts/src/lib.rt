@@ -1,0 +1,34 @@
+//! The layouts of the bytes that a record of the log has for a block: tuples, places, plans, items.
+#![tactic(auto)]
+
+mod freeze;
+mod index_tuples;
+mod laws;
+mod meta;
+mod multi_insert;
+mod places;
+mod plan;
+mod prune;
+mod redirects;
+mod split;
+mod tuple;
+mod update;
+
+pub use freeze::{FreezePlans, freeze_plans};
+pub use index_tuples::{IndexTuples, restored_tuples};
+pub use laws::{
+    inserted_tuples_are_the_bytes, places_stand, plans_stand, prunes_hold_their_bytes,
+    restored_tuples_are_the_bytes, splits_begin_the_bytes, updates_hold_their_bytes,
+};
+pub use meta::{BtreeMeta, metapage};
+pub use multi_insert::{HeapTuples, multi_insert_tuples};
+pub use places::{Places, first_places};
+pub use plan::FreezePlan;
+pub use prune::{PrunePlaces, prune_places};
+pub use redirects::{Redirect, Redirects};
+pub use split::{SplitTuples, split_tuples};
+pub use tuple::{HeapTuple, TupleHeader, insert_tuple};
+pub use update::{OldParts, UpdateTuple, update_tuple};
+
+#[cfg(test)]
+mod tests;
