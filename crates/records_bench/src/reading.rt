@@ -1,0 +1,65 @@
+//! The log as it is read back.
+
+use crate::supply::Supply;
+use anyhow::Result;
+use cluster_tree::Tree;
+use std::fmt;
+use wal_base::Lsn;
+use wal_records::{RecordCursor, Step, Why};
+
+/// What was read.
+#[derive(Clone, Copy, Debug)]
+pub struct ReadLog {
+    /// How many records were read.
+    pub records: u32,
+    /// How many of them are other than what was appended.
+    pub others: u32,
+    /// Where the log ends.
+    pub place: Lsn,
+    /// Why it ends there.
+    pub why: Why,
+}
+
+impl fmt::Display for ReadLog {
+    fn fmt<W: fmt::Write>(&self, f: &mut fmt::Formatter<W>) -> fmt::Result {
+        let (records, others, place, why) = (self.records, self.others, self.place, self.why);
+        write!(
+            f,
+            "{records} records read, {others} of them others, up to {place}: {why:?}"
+        )
+    }
+}
+
+/// Whether the record that a cursor lends is the supply's of a number.
+fn is_supplied(cursor: &RecordCursor, supply: &Supply, number: u32) -> bool {
+    match cursor.current() {
+        Some(read) => supply.record(number).is(read),
+        None => false,
+    }
+}
+
+/// Reads the log up to its end, and compares each record with what was appended.
+pub fn read_log<F: Tree>(
+    cursor: &mut RecordCursor,
+    tree: &mut F,
+    supply: &Supply,
+) -> Result<ReadLog> {
+    let mut others = 0u32;
+    for number in 0..u32::MAX {
+        match cursor.next(tree)? {
+            Step::Record => {}
+            Step::End(place, why) => {
+                return Ok(ReadLog {
+                    records: number,
+                    others,
+                    place,
+                    why,
+                });
+            }
+        }
+        if !is_supplied(cursor, supply, number) {
+            others = others.saturating_add(1);
+        }
+    }
+    anyhow::bail!("the log is too long")
+}
