@@ -29,7 +29,7 @@ root_in-refused text (Ok u) e is other = absurd (other is)
 root_in-refused text (Err f) e is other = let same : f ≡ e = cc in ap (λ g. root_in text (Err g)) same
 
 -- a piece in which no byte passes the test
-abbrev Clean : (ℕ → Bool) → List ℕ → Type 0
+abbrev pub Clean : (ℕ → Bool) → List ℕ → Type 0
 Clean p piece = All (λ b. p b ≡ false) piece
 
 -- a part that is the one part of its text
@@ -40,7 +40,7 @@ onto-clean : (p : ℕ → Bool) (b : ℕ) (parts : List (List ℕ)) → p b ≡ 
 onto-clean p b [] e h = (All-cons (λ b. p b ≡ false) b [] e (All-nil (λ b. p b ≡ false)), tt)
 onto-clean p b (part ∷ parts) e h = (All-cons (λ b. p b ≡ false) b part e h.0, h.1)
 
-pieces-clean : (p : ℕ → Bool) (bs : List ℕ) → AllByRecursion (Clean p) (slice_split p bs)
+pub pieces-clean : (p : ℕ → Bool) (bs : List ℕ) → AllByRecursion (Clean p) (slice_split p bs)
 pieces-clean p [] = (All-nil (λ b. p b ≡ false), tt)
 pieces-clean p (b ∷ bs) =
     elim (p b) as (λ t. p b ≡ t → AllByRecursion (Clean p) (cond t ([] ∷ slice_split p bs) (onto_first b (slice_split p bs)))) [

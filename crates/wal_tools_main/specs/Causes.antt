@@ -6,6 +6,8 @@ use Rattle.wal_tools_main.specs.declared.cause.Cause.{Cause}
 use Rattle.wal_tools_main.specs.declared.cause.Cause.TheVariants as cause
 use Rattle.wal_tools_main.specs.declared.cause.ControlCause.TheVariants as control
 use Rattle.wal_tools_main.specs.declared.cause.RewindCause.TheVariants as rewind
+use Rattle.wal_records.specs.declared.fault.LogFault.{LogFault}
+use Rattle.wal_records.specs.declared.fault.LogFault.TheVariants as log_fault
 
 -- the cause of a fault of a rewind; those that no command answers yet are NotBuilt
 abbrev pub rewind_cause : RewindFault → Cause
@@ -24,9 +26,36 @@ rewind_cause fault.ReadFault = cause.ReadFault
 rewind_cause (fault.Changed path) = cause.Changed path
 rewind_cause fault.OutOfMemory = cause.OutOfMemory
 
+-- the cause of what keeps a log from being read
+abbrev pub log_cause : LogFault → Cause
+log_cause log_fault.ReadFault = cause.ReadFault
+log_cause log_fault.OutOfMemory = cause.OutOfMemory
+
 -- a fault of a device or want of memory, which may come at any point
 abbrev pub IsFree : Cause → Type 0
 IsFree e = (e ≡ cause.ReadFault) ⊎ (e ≡ cause.WriteFault) ⊎ (e ≡ cause.SinkFault) ⊎ (e ≡ cause.OutOfMemory)
+
+-- what a call that only reads may answer at any point
+abbrev pub IsOfReads : Cause → Type 0
+IsOfReads e = (e ≡ cause.ReadFault) ⊎ (e ≡ cause.OutOfMemory)
+
+-- what a dump may answer
+abbrev pub is_of_dump : Cause → Bool
+is_of_dump cause.Done = false
+is_of_dump cause.Usage = false
+is_of_dump cause.NotBuilt = true
+is_of_dump cause.ReadFault = true
+is_of_dump cause.WriteFault = false
+is_of_dump cause.SinkFault = true
+is_of_dump cause.OutOfMemory = true
+is_of_dump (cause.Changed path) = false
+is_of_dump (cause.Paths p) = false
+is_of_dump (cause.Control c) = false
+is_of_dump (cause.Rewind c) = false
+is_of_dump (cause.Log c) = true
+
+abbrev pub IsOfDump : Cause → Type 0
+IsOfDump e = is_of_dump e ≡ true
 
 -- what words may answer
 abbrev pub is_of_words : Cause → Bool
@@ -41,6 +70,7 @@ is_of_words (cause.Changed path) = false
 is_of_words (cause.Paths p) = true
 is_of_words (cause.Control c) = false
 is_of_words (cause.Rewind c) = false
+is_of_words (cause.Log c) = false
 
 abbrev pub IsOfWords : Cause → Type 0
 IsOfWords e = is_of_words e ≡ true
@@ -63,3 +93,4 @@ status_of (cause.Changed path) = 1
 status_of (cause.Paths p) = 1
 status_of (cause.Control c) = 1
 status_of (cause.Rewind c) = 1
+status_of (cause.Log c) = 1

@@ -1,6 +1,11 @@
 pub mod Causes
 pub mod Command
 pub mod Words
+pub mod SegmentWords
 pub mod Lines
+pub mod RecordLine
+pub mod SegmentSize
+pub mod Dump
+pub mod DumpSteps
 pub mod Answers
 pub mod Texts

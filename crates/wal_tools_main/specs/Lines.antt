@@ -3,6 +3,10 @@ use Rattle.std.specs.Prelude.{ℕ, Bool, ◌-◌, ◌^◌, false, true, List, []
 use Rattle.std.specs.Fmt.{digits, decimal, padded_integral, format_spec}
 use Rattle.std.specs.List.{concat}
 use Rattle.cluster_tree.specs.PathValue.{PathValue, path_text}
+use Rattle.wal_base.specs.Lsn.{lsn_text}
+use Rattle.wal_base.specs.declared.lsn.Lsn.{Lsn}
+use Rattle.wal_records.specs.declared.why.Why.{Why}
+use Rattle.wal_records.specs.declared.why.Why.TheVariants as why
 use Rattle.control_file.specs.FieldNames.{field_name}
 use Rattle.control_file.specs.declared.field.Field.{Field}
 use Rattle.wal_tools_main.specs.declared.cause.Cause.{Cause}
@@ -10,6 +14,7 @@ use Rattle.wal_tools_main.specs.declared.cause.Cause.TheVariants as cause
 use Rattle.wal_tools_main.specs.declared.cause.PathCause.TheVariants as paths
 use Rattle.wal_tools_main.specs.declared.cause.ControlCause.TheVariants as control
 use Rattle.wal_tools_main.specs.declared.cause.RewindCause.TheVariants as rewind
+use Rattle.wal_tools_main.specs.declared.cause.LogCause.TheVariants as logs
 use Rattle.wal_tools_main.specs.declared.command.CommandName.{CommandName}
 use Rattle.wal_tools_main.specs.declared.lines.Line.{Line}
 use Rattle.wal_tools_main.specs.declared.lines.Line.TheVariants as line
@@ -57,6 +62,26 @@ shape_pieces root field n = codes "Shape " ∷ path_text root ∷ codes " " ∷ 
 abbrev pub systems_pieces : ℕ → ℕ → List (List ℕ)
 systems_pieces target source = codes "SystemsDiffer " ∷ decimal target ∷ codes " " ∷ decimal source ∷ []
 
+-- the name of a reason
+abbrev pub why_name : Why → List ℕ
+why_name why.Place = codes "Place"
+why_name why.NoSegment = codes "NoSegment"
+why_name why.ShortSegment = codes "ShortSegment"
+why_name why.Page = codes "Page"
+why_name why.Continuation = codes "Continuation"
+why_name why.ZeroLength = codes "ZeroLength"
+why_name why.ShortLength = codes "ShortLength"
+why_name why.TooLong = codes "TooLong"
+why_name why.Manager = codes "Manager"
+why_name why.Prev = codes "Prev"
+why_name why.Crc = codes "Crc"
+
+abbrev pub end_pieces : Lsn → Why → List (List ℕ)
+end_pieces at why = codes "LogEnds " ∷ lsn_text at.0 ∷ codes " " ∷ why_name why ∷ []
+
+abbrev pub place_pieces : Lsn → List (List ℕ)
+place_pieces at = codes "NoRecordAt " ∷ lsn_text at.0 ∷ []
+
 -- the line of a cause; there is none of Done
 abbrev pub line_of : Option CommandName → Cause → List ℕ
 line_of name cause.Done = []
@@ -77,6 +102,9 @@ line_of name (cause.Control (control.Version root n)) = line_with name (number_p
 line_of name (cause.Control (control.Catalog root n)) = line_with name (number_pieces (codes "Catalog") root n)
 line_of name (cause.Control (control.Shape root field n)) = line_with name (shape_pieces root field n)
 line_of name (cause.Rewind (rewind.SystemsDiffer target source)) = line_with name (systems_pieces target source)
+line_of name (cause.Log (logs.LogEnds at why)) = line_with name (end_pieces at why)
+line_of name (cause.Log (logs.NoRecordAt at)) = line_with name (place_pieces at)
+line_of name (cause.Log (logs.BadSegment path)) = line_with name (path_pieces (codes "BadSegment") path)
 
 -- the text of a line on its way
 abbrev pub made_text : Option CommandName → Line → List ℕ
@@ -99,3 +127,4 @@ has_values (cause.Paths (paths.TooDeep path)) = true
 has_values (cause.Paths paths.PathsOverlap) = false
 has_values (cause.Control c) = true
 has_values (cause.Rewind c) = true
+has_values (cause.Log c) = true

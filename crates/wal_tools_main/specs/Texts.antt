@@ -1,10 +1,11 @@
 -- What stands on standard output and standard error after a run, and what the tree has gone through, over every tree and sink.
-use Rattle.std.specs.Prelude.{ℕ, ◌≡◌, ◌⊎◌, ◌++◌, List, Result, Ok, Err}
+use Rattle.std.specs.Prelude.{ℕ, ◌≡◌, ◌⊎◌, ◌++◌, List, take, length, Result, Ok, Err}
 use Rattle.cluster_tree.specs.Sink.{AddsPart, Adds}
 use Rattle.cluster_tree.specs.Causes.{Rose}
 use Rattle.cluster_tree.specs.Contents.{Contents}
 use Rattle.cluster_tree.specs.declared.tree.ChangeCall.{ChangeCall}
 use Rattle.wal_tools_main.specs.Answers.{Answer, same_report, cause_in}
+use Rattle.wal_tools_main.specs.Causes.{IsFree}
 use Rattle.wal_tools_main.specs.declared.cause.Cause.{Cause}
 use Rattle.wal_tools_main.specs.declared.cause.Cause.TheVariants as cause
 use Rattle.wal_tools_main.specs.declared.command.Command.{Command}
@@ -18,22 +19,27 @@ pub record Puts (text : List ℕ) (ended : Cause) (old new : List ℕ) (before a
   pub rose : ended ≡ cause.SinkFault → Rose before after
   pub silent : (ended ≡ cause.Done) ⊎ (ended ≡ cause.SinkFault) ⊎ ((new ≡ old) × (after ≡ before))
 
--- A text of one write was put on standard output: all of it where the command is done, the first bytes of it where a write failed, and else nothing.
+-- A command's text was put on standard output: all of it, unless a device failed or memory was wanting, and then the first bytes of it.
 pub record Shows (text : List ℕ) (ended : Cause) (old new : List ℕ) : Type 0 where
-  pub whole : ended ≡ cause.Done → new ≡ old ++ text
-  pub part : ended ≡ cause.SinkFault → AddsPart text old new
-  pub silent : (ended ≡ cause.Done) ⊎ (ended ≡ cause.SinkFault) ⊎ (new ≡ old)
+  pub whole : IsFree ended ⊎ (new ≡ old ++ text)
+  pub part : AddsPart text old new
+
+-- what stood on a sink stays, and nothing stands before it
+abbrev pub Extends : List ℕ → List ℕ → Type 0
+Extends old new = take (length old) new ≡ old
 
 -- what a command puts on standard output, whatever the tree tells
 abbrev pub Prints : Result Command Cause → Cause → List ℕ → List ℕ → Type 0
 Prints (Ok (command.PgRewind target source)) ended old new = new ≡ old
 Prints (Ok (command.PgControldata root)) ended old new = (ended ≡ cause.Done) ⊎ (ended ≡ cause.SinkFault) ⊎ (new ≡ old)
+Prints (Ok (command.PgWaldump folder file)) ended old new = Extends old new
 Prints (Err e) ended old new = new ≡ old
 
 -- what a command reports on standard error before the line of its cause
 abbrev pub Reports : Result Command Cause → Cause → List ℕ → List ℕ → ℕ → ℕ → Type 0
 Reports (Ok (command.PgRewind target source)) ended old new before after = Puts same_report ended old new before after
 Reports (Ok (command.PgControldata root)) ended old new before after = (new ≡ old) × (after ≡ before)
+Reports (Ok (command.PgWaldump folder file)) ended old new before after = (new ≡ old) × (after ≡ before)
 Reports (Err e) ended old new before after = (new ≡ old) × (after ≡ before)
 
 -- Standard error after a run: first the report of the command, after which it held `told` and its count of failed writes was `between`;
@@ -54,4 +60,5 @@ pub record Changes (answer : Answer) (ended : Cause) (calls calls' : List Change
 abbrev pub MayChange : Result Command Cause → Type 0
 MayChange (Ok (command.PgRewind target source)) = ⊥
 MayChange (Ok (command.PgControldata root)) = ⊥
+MayChange (Ok (command.PgWaldump folder file)) = ⊥
 MayChange (Err e) = ⊥

@@ -1,4 +1,4 @@
--- What the words of a command ask for: PostgreSQL 16 manual, reference pages of pg_rewind and pg_controldata. Own: "Roots of at most 61 parts", "The order of what is wrong with roots".
+-- What the words of a command ask for: PostgreSQL 16 manual, reference pages of pg_rewind, pg_controldata and pg_waldump. Own: "Roots of at most 61 parts", "The order of what is wrong with roots".
 use Rattle.std.specs.Prelude.{ℕ, ◌≤◌, Bool, true, false, ◌||◌, nat_lt, if◌then◌else◌, List, length, take, Option, None, Some, Result, Ok, Err}
 use Rattle.cluster_tree.specs.PathValue.{PathValue, path_of, parsed, kept_parts, is_rooted}
 use Rattle.cluster_tree.specs.Paths.{checked}
@@ -9,7 +9,6 @@ use Rattle.rewind_core.specs.Roots.{AreApart, overlap}
 use Rattle.tool_words.specs.Command.{command_of as asked_for}
 use Rattle.tool_words.specs.declared.command.Command.{Command as Asked}
 use Rattle.tool_words.specs.declared.command.Command.TheVariants as asked
-use Rattle.tool_words.specs.declared.rewind.RewindWords.{RewindWords}
 use Rattle.wal_tools_main.specs.declared.cause.Cause.{Cause}
 use Rattle.wal_tools_main.specs.declared.cause.Cause.TheVariants as cause
 use Rattle.wal_tools_main.specs.declared.cause.PathCause.TheVariants as paths
@@ -18,6 +17,7 @@ use Rattle.wal_tools_main.specs.declared.command.CommandName.TheVariants as name
 use Rattle.wal_tools_main.specs.declared.command.Command.{Command}
 use Rattle.wal_tools_main.specs.declared.command.Command.TheVariants as command
 use Rattle.wal_tools_main.specs.Command.{name_of}
+use Rattle.wal_tools_main.specs.SegmentWords.{IsFitFolder, segment_words}
 
 -- a cluster's root leaves room for the files below it
 abbrev pub IsFitRoot : PathValue → Type 0
@@ -32,6 +32,7 @@ pub record AreFitRoots (target source : PathValue) : Type 0 where
 abbrev pub IsFit : Command → Type 0
 IsFit (command.PgRewind target source) = AreFitRoots target source
 IsFit (command.PgControldata root) = IsFitRoot root
+IsFit (command.PgWaldump folder file) = IsFitFolder folder
 
 -- the path of a text's first 64 parts
 unfoldable pub front_of : List ℕ → PathValue
@@ -80,6 +81,7 @@ abbrev pub words_of : Option CommandName → List (List ℕ) → Result Command 
 words_of None words = Err cause.Usage
 words_of (Some name.PgRewind) words = on_paths (asked_for words)
 words_of (Some name.PgControldata) words = on_paths (asked_for words)
+words_of (Some name.PgWaldump) words = segment_words words
 words_of (Some _) words = Err cause.NotBuilt
 
 -- the command that the words ask for, or what is wrong with them

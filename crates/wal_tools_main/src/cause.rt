@@ -2,7 +2,8 @@
 use cluster_tree::{Path, SinkFailed};
 use control_file::Field;
 use rewind_core::RewindFault;
-use wal_base::OutOfMemory;
+use wal_base::{Lsn, OutOfMemory};
+use wal_records::{LogFault, Why};
 
 /// Why a run ended. Each later command adds the causes of what it builds.
 #[derive(Drop)]
@@ -29,6 +30,8 @@ pub enum Cause {
     Control(ControlCause),
     /// Two clusters are unfit for a rewind.
     Rewind(RewindCause),
+    /// A log or a segment of one is refused.
+    Log(LogCause),
 }
 
 /// What is wrong with a path.
@@ -64,6 +67,17 @@ pub enum ControlCause {
 pub enum RewindCause {
     /// The target's system identifier, and the source's.
     SystemsDiffer(u64, u64),
+}
+
+/// What is wrong with a log.
+#[derive(Drop)]
+pub enum LogCause {
+    /// The place at which the log ends before the stop, and why.
+    LogEnds(Lsn, Why),
+    /// The start, from which no record lies before the stop.
+    NoRecordAt(Lsn),
+    /// The file, whose first 40 bytes aren't the header of a segment.
+    BadSegment(Path),
 }
 
 impl From<RewindFault> for Cause {
@@ -111,5 +125,19 @@ impl From<OutOfMemory> for Cause {
 
     fn from(_: OutOfMemory) -> Cause {
         Cause::OutOfMemory
+    }
+}
+
+impl From<LogFault> for Cause {
+    ghost use Rattle.std.specs.Prelude.{◌≡◌};
+    ghost use Rattle.wal_tools_main.specs.Causes.{log_cause};
+
+    ghost from_gives = { λ f e. e ≡ log_cause f };
+
+    fn from(fault: LogFault) -> Cause {
+        match fault {
+            LogFault::ReadFault => Cause::ReadFault,
+            LogFault::OutOfMemory => Cause::OutOfMemory,
+        }
     }
 }

@@ -3,6 +3,7 @@ ghost use Rattle.std.specs.Prelude.{◌≡◌, map, string_bytes};
 ghost use Rattle.wal_tools_main.specs.Command.{named, name_of, name_text};
 
 use cluster_tree::Path;
+use wal_base::Text;
 
 /// A command's name.
 #[derive(Clone, Copy, Debug, PartialEq, Eq)]
@@ -24,6 +25,8 @@ pub enum Command {
     PgRewind { target: Path, source: Path },
     /// The root of the cluster whose control file is shown.
     PgControldata { root: Path },
+    /// The folder of the segment whose records are printed, and the name of its file.
+    PgWaldump { folder: Path, file: Text },
 }
 
 // The command that a word names.

@@ -29,7 +29,8 @@ impl Exit {
             | Cause::Changed(_)
             | Cause::Paths(_)
             | Cause::Control(_)
-            | Cause::Rewind(_) => 1,
+            | Cause::Rewind(_)
+            | Cause::Log(_) => 1,
         };
         Exit { status, cause }
     }

@@ -1,13 +1,15 @@
 // The line of a cause.
 ghost use Rattle.std.specs.Prelude.{◌≡◌, string_bytes, false, IfOk, IsOk};
-ghost use Rattle.wal_tools_main.specs.Lines.{line_with, path_pieces, number_pieces, crc_pieces, shape_pieces, systems_pieces, line_of, made_text, has_values};
+ghost use Rattle.wal_tools_main.specs.Lines.{line_with, path_pieces, number_pieces, crc_pieces, shape_pieces, systems_pieces, end_pieces, place_pieces, why_name, line_of, made_text, has_values};
 
 use crate::command::name_text;
 use crate::fixed::Fixed;
-use crate::{Cause, CommandName, ControlCause, PathCause, RewindCause};
+use crate::{Cause, CommandName, ControlCause, LogCause, PathCause, RewindCause};
 use cluster_tree::Path;
 use control_file::Field;
 use std::alloc::{AllocError, Global};
+use wal_base::Lsn;
+use wal_records::Why;
 
 // The line of a cause with a path.
 fn path_line(
@@ -107,6 +109,57 @@ fn control_line(
     }
 }
 
+fn why_name(why: Why) -> &'static str
+    ensures { result.now ≡ why_name why }
+{
+    match why {
+        Why::Place => "Place",
+        Why::NoSegment => "NoSegment",
+        Why::ShortSegment => "ShortSegment",
+        Why::Page => "Page",
+        Why::Continuation => "Continuation",
+        Why::ZeroLength => "ZeroLength",
+        Why::ShortLength => "ShortLength",
+        Why::TooLong => "TooLong",
+        Why::Manager => "Manager",
+        Why::Prev => "Prev",
+        Why::Crc => "Crc",
+    }
+}
+
+// The line of where a log ends.
+fn end_line(
+    alloc: Global,
+    name: Option<CommandName>,
+    at: Lsn,
+    why: Why,
+) -> Result<String, AllocError>
+    ensures { IfOk result (λ line. string_bytes line ≡ line_with name (end_pieces at why)) }
+{
+    let name = name_text(name);
+    let why = why_name(why);
+    format!(in alloc; "{name}: error: LogEnds {at} {why}\n")
+}
+
+// The line of a start from which there is no record.
+fn place_line(alloc: Global, name: Option<CommandName>, at: Lsn) -> Result<String, AllocError>
+    ensures { IfOk result (λ line. string_bytes line ≡ line_with name (place_pieces at)) }
+{
+    let name = name_text(name);
+    format!(in alloc; "{name}: error: NoRecordAt {at}\n")
+}
+
+// The line of what is wrong with a log.
+fn log_line(alloc: Global, name: Option<CommandName>, log: &LogCause) -> Result<String, AllocError>
+    ensures { IfOk result (λ line. string_bytes line ≡ line_of name (Cause.Log log.now)) }
+{
+    match log {
+        LogCause::LogEnds(at, why) => end_line(alloc, name, *at, *why),
+        LogCause::NoRecordAt(at) => place_line(alloc, name, *at),
+        LogCause::BadSegment(path) => path_line(alloc, name, "BadSegment", path),
+    }
+}
+
 /// A line on its way: none, one that takes no memory, or one that was made.
 #[derive(Drop)]
 pub enum Line {
@@ -155,5 +208,6 @@ pub(crate) fn line_of(
         Cause::Rewind(RewindCause::SystemsDiffer(target, source)) => {
             Line::Made(systems_line(alloc, name, *target, *source)?)
         }
+        Cause::Log(log) => Line::Made(log_line(alloc, name, log)?),
     })
 }

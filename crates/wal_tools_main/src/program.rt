@@ -13,12 +13,14 @@ use crate::command::name_of;
 use crate::finish::finish;
 use crate::pg_controldata::pg_controldata;
 use crate::pg_rewind::pg_rewind;
+use crate::pg_waldump::pg_waldump;
 use crate::words::command_of;
 use crate::{Cause, Command, Exit};
 use cluster_tree::{Sink, Tree};
 use std::alloc::Global;
 
 // Carries out a command.
+#[tactic(auto, using(crate::proofs::DumpLemmas::shown_steps))]
 fn carry_out<F: Tree, O: Sink, E: Sink>(
     alloc: Global,
     command: Command,
@@ -60,10 +62,14 @@ fn carry_out<F: Tree, O: Sink, E: Sink>(
             pg_rewind(alloc, tree, err, &target, &source, now)
         }
         Command::PgControldata { root } => pg_controldata(alloc, tree, out, &root),
+        Command::PgWaldump { folder, file } => {
+            pg_waldump(alloc, tree, out, &folder, file.as_str())
+        }
     }
 }
 
 // Answers the words, but for the line of the cause.
+#[tactic(auto, using(crate::proofs::DumpLemmas::shown_steps))]
 fn answer<F: Tree, O: Sink, E: Sink>(
     alloc: Global,
     words: &[String],
@@ -123,6 +129,7 @@ fn cause_of(outcome: Result<(), Cause>) -> Cause
 /// `words` are the command and its words, `tree` holds the files, `out` and `err` are standard
 /// output and standard error, and `now` is in seconds since 1970. Where the run ends in another
 /// cause than `Done`, one line on `err` names it.
+#[tactic(auto, using(crate::proofs::DumpLemmas::shown_steps))]
 pub fn run<F: Tree, O: Sink, E: Sink>(
     alloc: Global,
     words: &[String],

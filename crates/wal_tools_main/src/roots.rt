@@ -1,5 +1,5 @@
 // The roots of clusters, as the words name them.
-ghost use Rattle.std.specs.Prelude.{◌≡◌, ◌⊎◌, [], IfOk, IfErr};
+ghost use Rattle.std.specs.Prelude.{◌≡◌, ◌⊎◌, [], IfOk, IfErr, IsFalse};
 ghost use Rattle.cluster_tree.specs.Causes.{Meets};
 ghost use Rattle.cluster_tree.specs.PathValue.{parsed, is_kept, is_rooted, path_of};
 ghost use Rattle.cluster_tree.specs.Paths.{checked, Refuses};
@@ -22,9 +22,10 @@ fn is_kept(piece: &str) -> bool
     !piece.is_empty() && piece != "."
 }
 
-// The path with no part, absolute where the text is.
+// The path with no part, absolute where the text is. The only error is `OutOfMemory`.
 fn start(alloc: Global, text: &str) -> Result<Path, PathFault>
-    ensures { IfOk result (λ path. path ≡ path_of (is_rooted text.now) []) }
+    ensures path { IfOk result (λ path. path ≡ path_of (is_rooted text.now) []) }
+    ensures memory { IfErr result (λ fault. fault ≡ PathFault.OutOfMemory) }
 {
     if text.starts_with('/') {
         Path::parse(alloc, "/")
@@ -33,10 +34,12 @@ fn start(alloc: Global, text: &str) -> Result<Path, PathFault>
     }
 }
 
-// The path of the first 64 parts of a text that has no part `..`.
+// The path of the first 64 parts of a text that has no part `..`. The only error is `OutOfMemory`.
 #[tactic(auto, unfolding(crate::specs::Words::front_of))]
 fn front_of(alloc: Global, text: &str) -> Result<Path, PathFault>
-    ensures { IfOk result (λ path. path ≡ front_of text.now) }
+    requires { IsFalse (climbs (checked 0 text.now)) }
+    ensures path { IfOk result (λ path. path ≡ front_of text.now) }
+    ensures memory { IfErr result (λ fault. fault ≡ PathFault.OutOfMemory) }
 {
     let mut front = start(alloc, text)?;
     for part in text
@@ -51,6 +54,7 @@ fn front_of(alloc: Global, text: &str) -> Result<Path, PathFault>
 
 // The cause of a text with too many parts.
 fn too_deep(alloc: Global, text: &str) -> Cause
+    requires { IsFalse (climbs (checked 0 text.now)) }
     ensures { (result ≡ Cause.Paths (PathCause.TooDeep (front_of text.now))) ⊎ (result ≡ Cause.OutOfMemory) }
 {
     match front_of(alloc, text) {
@@ -60,7 +64,7 @@ fn too_deep(alloc: Global, text: &str) -> Cause
 }
 
 // The root of a cluster that a text names, by what its path was read as.
-#[tactic(auto, using(crate::proofs::RootLemmas::root_steps), unfolding(crate::specs::Words::root_of))]
+#[tactic(auto, using(crate::proofs::RootLemmas::root_steps, crate::proofs::RootLemmas::climb_steps), unfolding(crate::specs::Words::root_of))]
 fn root_read(alloc: Global, text: &str, read: Result<Path, PathFault>) -> Result<Path, Cause>
     requires refused { Refuses (checked 0 text.now) read }
     requires parsed { IfOk read (λ path. path ≡ parsed text.now) }

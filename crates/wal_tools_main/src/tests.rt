@@ -3,4 +3,5 @@
 mod adapters;
 mod clusters;
 mod runs;
+mod segments;
 mod words;

@@ -8,6 +8,7 @@ ghost use Rattle.wal_tools_main.specs.Words.{IsFit, on_paths, command_of};
 
 use crate::command::name_of;
 use crate::roots::{root_of, two_roots};
+use crate::segment_words::segment_words;
 use crate::{Cause, Command, CommandName};
 use command_words::WordsFault;
 use std::alloc::Global;
@@ -45,6 +46,7 @@ pub(crate) fn command_of(alloc: Global, words: &[String]) -> Result<Command, Cau
     match name_of(words) {
         None => Err(Cause::Usage),
         Some(CommandName::PgRewind | CommandName::PgControldata) => on_paths(alloc, words),
+        Some(CommandName::PgWaldump) => segment_words(alloc, words),
         Some(_) => Err(Cause::NotBuilt),
     }
 }
