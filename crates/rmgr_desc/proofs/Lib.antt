@@ -1,0 +1,2 @@
+pub mod ZeroLemmas
+pub mod ListLemmas

@@ -1,0 +1,13 @@
+pub mod Pieces
+pub mod Managers
+pub mod Operations
+pub mod Checkpoint
+pub mod Xlog
+pub mod Transaction
+pub mod Storage
+pub mod Clog
+pub mod Database
+pub mod Standby
+pub mod Heap
+pub mod Btree
+pub mod Describe

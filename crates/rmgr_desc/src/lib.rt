@@ -1,0 +1,28 @@
+//! The names of records of the log, and the texts of what they say.
+#![tactic(auto)]
+
+mod btree;
+mod checkpoint;
+mod clog;
+mod database;
+mod description;
+mod heap;
+mod heap2;
+mod managers;
+mod multixact;
+mod names;
+mod operations;
+mod pieces;
+mod relmap;
+mod sequence;
+mod standby;
+mod storage;
+mod transaction;
+mod xlog;
+
+pub use description::{add_description, describe};
+pub use managers::{add_manager_name, manager_name};
+pub use operations::{add_operation_name, operation_name};
+
+#[cfg(test)]
+mod tests;
