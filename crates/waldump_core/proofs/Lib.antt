@@ -1,0 +1,5 @@
+pub mod BlockLemmas
+pub mod LineLemmas
+pub mod PlaceLemmas
+pub mod ShownLemmas
+pub mod StepLemmas

@@ -1,0 +1,22 @@
+use Rattle.std.proofs.Common.{◌≡◌, ◌%◌, ◌^◌, ◌<◌, IsTrue}
+use Rattle.cluster_tree.specs.Causes.{OnlyReads}
+use Rattle.wal_base.specs.Segment.{bytes_of}
+use Rattle.wal_records.specs.Further.{pages_of}
+use Rattle.waldump_core.specs.FirstPlace.{place_within}
+use Rattle.waldump_core.proofs.first_place.first_place.Given as goal
+
+abbrev pub invariant-pages : goal.invariant-pages
+invariant-pages g l =
+    let log = l.fn.pages.log in
+    let contents = g.F.Tree.contents l.fn.tree in
+    record {
+      same : l.pages.log ≡ log;
+      whole : l.at % 8192 ≡ 0;
+      within : l.at < 2 ^ 64;
+      reads : OnlyReads g.F.Tree.contents g.F.Tree.calls g.F.Tree.failed_reads g.F.Tree.failed_changes l.fn.tree l.tree;
+      place : IsTrue g.F.Tree.tells → place_within (pages_of log contents) (bytes_of log.size) l.left l.at
+          ≡ place_within (pages_of log contents) (bytes_of log.size) (2 ^ 51) l.fn.from;
+    }
+
+abbrev pub decreases-pages : goal.decreases-pages
+decreases-pages g l = l.left

@@ -1,0 +1,23 @@
+//! The dump of a log: which of its records are shown, and as which lines.
+#![tactic(auto)]
+
+mod dumped;
+mod fault;
+mod filters;
+mod first_place;
+mod last_byte;
+mod line;
+mod lines;
+mod progress;
+mod refs;
+mod selection;
+mod turn;
+mod walk;
+
+pub use dumped::Dumped;
+pub use fault::DumpFault;
+pub use selection::Selection;
+pub use walk::dump;
+
+#[cfg(test)]
+mod tests;

@@ -1,0 +1,209 @@
+//! The dump of a log.
+
+ghost use Rattle.std.specs.Prelude.{◌≡◌, ◌≢◌, ◌⊎◌, ◌≤◌, ◌++◌, [], Err, IfErr, IfOk, IsErrOf, IsTrue, MatchResult, None, Ok, OnOk, Some, length};
+ghost use Rattle.cluster_tree.specs.Causes.{Meets, OnlyReads, Rose};
+ghost use Rattle.wal_base.specs.Segment.{bytes_of};
+ghost use Rattle.wal_records.specs.Further.{pages_of};
+ghost use Rattle.waldump_core.specs.Dump.{dump_from, dump_of, nothing_shown};
+ghost use Rattle.waldump_core.specs.Steps.{GoesUp, left, left_behind};
+ghost use Rattle.waldump_core.specs.Texts.{Extends, IsFree, Shows};
+
+use crate::dumped::Dumped;
+use crate::fault::DumpFault;
+use crate::first_place::place_from;
+use crate::lines::Lines;
+use crate::progress::{Progress, Turn};
+use crate::selection::Selection;
+use crate::turn::take_turn;
+use cluster_tree::{Sink, Tree};
+use std::alloc::Global;
+use wal_base::{Lsn, SegSize};
+use wal_pages::LogPath;
+use wal_records::{RecordCursor, Step};
+
+/// What a walk over a log is asked for, and how long its segments are.
+#[derive(Clone, Copy)]
+pub struct Asked {
+    sel: Selection,
+    size: SegSize,
+}
+
+/// Goes one record on.
+#[tactic(auto, using(crate::proofs::ShownLemmas::shown_steps), unfolding(crate::specs::Dump::dump_of_records))]
+fn advance<F: Tree, O: Sink>(
+    alloc: Global,
+    cursor: &mut RecordCursor,
+    tree: &mut F,
+    out: &mut O,
+    lines: &mut Lines,
+    asked: &Asked,
+    progress: Progress,
+) -> Result<Turn, DumpFault>
+    requires opened { cursor.old.ended ≡ None }
+    requires size { asked.now.size ≡ cursor.old.log.size }
+    requires few { progress.shown ≤ cursor.old.place }
+    ensures answer { IsTrue F.tells → MatchResult result
+        (λ turn. (left_behind asked.now.sel turn cursor.new (F.contents tree.old)).answer
+        ≡ (left asked.now.sel progress cursor.old (F.contents tree.old)).answer)
+        (λ e. IsFree e
+        ⊎ ((left asked.now.sel progress cursor.old (F.contents tree.old)).answer ≡ Err e)) }
+    ensures text { IsTrue F.tells → IsTrue O.tells → MatchResult result
+        (λ turn. O.written out.new
+        ++ (lines.new ++ (left_behind asked.now.sel turn cursor.new (F.contents tree.old)).text)
+        ≡ O.written out.old
+        ++ (lines.old ++ (left asked.now.sel progress cursor.old (F.contents tree.old)).text))
+        (λ e. Shows (lines.old ++ (left asked.now.sel progress cursor.old (F.contents tree.old)).text)
+        e (O.written out.old) (O.written out.new ++ lines.new)) }
+    ensures extends { IsTrue O.tells → Extends (O.written out.old) (O.written out.new) }
+    ensures log { cursor.new.log ≡ cursor.old.log }
+    ensures goes_up { IfOk result (GoesUp cursor.old cursor.new) }
+    ensures quiet { IsTrue asked.now.sel.quiet → (out.new ≡ out.old) × (lines.new ≡ lines.old) }
+    ensures unfailed { IsTrue asked.now.sel.quiet → result ≢ Err DumpFault.SinkFault }
+    ensures reads { OnlyReads F.contents F.calls F.failed_reads F.failed_changes tree.old tree.new }
+    ensures read_fault { IsErrOf result DumpFault.ReadFault →
+        Rose (F.failed_reads tree.old) (F.failed_reads tree.new) }
+    ensures later { O.failed_writes out.old ≤ O.failed_writes out.new }
+    ensures sink_fault { IsErrOf result DumpFault.SinkFault →
+        Rose (O.failed_writes out.old) (O.failed_writes out.new) }
+{
+    match cursor.next(tree)? {
+        Step::Record => {}
+        Step::End(place, why) => return Err(progress.at_end(asked.sel.start, place, why)),
+    }
+    let rec = cursor.current().unwrap();
+    match take_turn(alloc, asked.size, &asked.sel, progress, rec, out, lines) {
+        Ok(turn) => Ok(turn),
+        Err(e) => Err(e),
+    }
+}
+
+/// Walks over the log that a cursor has still to give, up to the end of the dump.
+#[tactic(auto, using(crate::proofs::ShownLemmas::shown_steps))]
+fn walk<F: Tree, O: Sink>(
+    alloc: Global,
+    cursor: &mut RecordCursor,
+    tree: &mut F,
+    out: &mut O,
+    lines: &mut Lines,
+    asked: &Asked,
+) -> Result<Dumped, DumpFault>
+    requires opened { cursor.old.ended ≡ None }
+    requires size { asked.now.size ≡ cursor.old.log.size }
+    ensures answer { IsTrue F.tells → Meets IsFree
+        (left asked.now.sel nothing_shown cursor.old (F.contents tree.old)).answer result }
+    ensures text { IsTrue F.tells → IsTrue O.tells → MatchResult result
+        (λ _. O.written out.new ++ lines.new ≡ O.written out.old
+        ++ (lines.old ++ (left asked.now.sel nothing_shown cursor.old (F.contents tree.old)).text))
+        (λ e. Shows
+        (lines.old ++ (left asked.now.sel nothing_shown cursor.old (F.contents tree.old)).text)
+        e (O.written out.old) (O.written out.new ++ lines.new)) }
+    ensures extends { IsTrue O.tells → Extends (O.written out.old) (O.written out.new) }
+    ensures quiet { IsTrue asked.now.sel.quiet → (out.new ≡ out.old) × (lines.new ≡ lines.old) }
+    ensures unfailed { IsTrue asked.now.sel.quiet → result ≢ Err DumpFault.SinkFault }
+    ensures reads { OnlyReads F.contents F.calls F.failed_reads F.failed_changes tree.old tree.new }
+    ensures read_fault { IsErrOf result DumpFault.ReadFault →
+        Rose (F.failed_reads tree.old) (F.failed_reads tree.new) }
+    ensures later { O.failed_writes out.old ≤ O.failed_writes out.new }
+    ensures sink_fault { IsErrOf result DumpFault.SinkFault →
+        Rose (O.failed_writes out.old) (O.failed_writes out.new) }
+{
+    let mut progress = Progress::new();
+    'records: loop {
+        match advance(alloc, cursor, tree, out, lines, asked, progress)? {
+            Turn::Goes(next) => progress = next,
+            Turn::Stops(dumped) => return Ok(dumped),
+        }
+    }
+}
+
+/// Dumps a log from a place on.
+#[tactic(auto, using(crate::proofs::ShownLemmas::shown_steps))]
+fn dump_at<F: Tree, O: Sink>(
+    alloc: Global,
+    tree: &mut F,
+    out: &mut O,
+    log: LogPath,
+    sel: &Selection,
+    place: u64,
+) -> Result<Dumped, DumpFault>
+    requires room { length log.folder.parts ≤ 63 }
+    ensures answer { IsTrue F.tells → Meets IsFree (dump_from (pages_of log (F.contents tree.old))
+        (bytes_of log.size) sel.now (Some place)).answer result }
+    ensures text { IsTrue F.tells → IsTrue O.tells → MatchResult result
+        (λ _. O.written out.new ≡ O.written out.old ++ (dump_from
+        (pages_of log (F.contents tree.old)) (bytes_of log.size) sel.now (Some place)).text)
+        (λ e. Shows (dump_from
+        (pages_of log (F.contents tree.old)) (bytes_of log.size) sel.now (Some place)).text
+        e (O.written out.old) (O.written out.new)) }
+    ensures extends { IsTrue O.tells → Extends (O.written out.old) (O.written out.new) }
+    ensures quiet { IsTrue sel.now.quiet → out.new ≡ out.old }
+    ensures unfailed { IsTrue sel.now.quiet → result ≢ Err DumpFault.SinkFault }
+    ensures reads { OnlyReads F.contents F.calls F.failed_reads F.failed_changes tree.old tree.new }
+    ensures read_fault { IsErrOf result DumpFault.ReadFault →
+        Rose (F.failed_reads tree.old) (F.failed_reads tree.new) }
+    ensures sink_fault { IsErrOf result DumpFault.SinkFault →
+        Rose (O.failed_writes out.old) (O.failed_writes out.new) }
+{
+    let asked = Asked {
+        sel: *sel,
+        size: log.size,
+    };
+    let mut cursor = RecordCursor::at(alloc, log, Lsn(place))?;
+    let mut lines = Lines::new(alloc);
+    let walked = walk(alloc, &mut cursor, tree, out, &mut lines, &asked);
+    match lines.flush(out) {
+        Ok(()) => walked,
+        Err(_) => Err(DumpFault::SinkFault),
+    }
+}
+
+/// Shows the records of a log that are selected on `out`, as pg_waldump does: a line for each, in the
+/// order of the log, and with `details` a line for each block reference below it. The folder of the
+/// log has at most 63 parts.
+///
+/// The first record is looked for on the page that holds the start: at the first place behind the
+/// page's header and behind what goes on there of a record begun before, or on a later page where
+/// that fills the page. Records that start below the start are passed over. The dump ends before
+/// the first record whose last byte lies at or past the stop, and behind the one that fills the
+/// limit; then it answers how many records were shown, and where the last record from the start on
+/// ends that was walked.
+///
+/// Answers `NoRecordAt` where no record from the start on lies before the stop; `LogEnds` where the
+/// log ends before the stop and the limit; `BadParts` and `Compressed` at the first record from the
+/// start on and before these ends that has no parts, shown or not; `ReadFault` and `SinkFault` only
+/// where a read or a write failed, which the tree or the sink has counted; and `OutOfMemory` only
+/// for want of memory. The lines before a refusal stand. A quiet dump leaves the sink alone and
+/// answers alike. It makes no changing call.
+#[tactic(auto, using(crate::proofs::ShownLemmas::shown_steps))]
+pub fn dump<F: Tree, O: Sink>(
+    alloc: Global,
+    tree: &mut F,
+    out: &mut O,
+    log: LogPath,
+    sel: &Selection,
+) -> Result<Dumped, DumpFault>
+    requires room { length log.folder.parts ≤ 63 }
+    // The answer is the dump's, a device's fault, or want of memory.
+    ensures exact { IsTrue F.tells → Meets IsFree (dump_of (pages_of log (F.contents tree.old))
+        (bytes_of log.size) sel.now).answer result }
+    // The text is the dump's: all of it, unless a device failed or memory was wanting.
+    ensures shown { IsTrue F.tells → IsTrue O.tells → MatchResult result
+        (λ _. O.written out.new ≡ O.written out.old
+        ++ (dump_of (pages_of log (F.contents tree.old)) (bytes_of log.size) sel.now).text)
+        (λ e. Shows (dump_of (pages_of log (F.contents tree.old)) (bytes_of log.size) sel.now).text
+        e (O.written out.old) (O.written out.new)) }
+    ensures extends { IsTrue O.tells → Extends (O.written out.old) (O.written out.new) }
+    ensures quiet { IsTrue sel.now.quiet → out.new ≡ out.old }
+    ensures unfailed { IsTrue sel.now.quiet → result ≢ Err DumpFault.SinkFault }
+
+    ensures reads { OnlyReads F.contents F.calls F.failed_reads F.failed_changes tree.old tree.new }
+    ensures read_fault { IsErrOf result DumpFault.ReadFault →
+        Rose (F.failed_reads tree.old) (F.failed_reads tree.new) }
+    ensures sink_fault { IsErrOf result DumpFault.SinkFault →
+        Rose (O.failed_writes out.old) (O.failed_writes out.new) }
+{
+    match place_from(alloc, tree, &log, sel.start)? {
+        Some(place) => dump_at(alloc, tree, out, log, sel, place),
+        None => Err(DumpFault::NoRecordAt(sel.start)),
+    }
+}
