@@ -4,5 +4,6 @@ pub mod Refs
 pub mod Line
 pub mod FirstPlace
 pub mod Dump
+pub mod Selected
 pub mod Steps
 pub mod Texts

@@ -6,6 +6,7 @@ mod fault;
 mod filters;
 mod first_place;
 mod last_byte;
+mod laws;
 mod line;
 mod lines;
 mod progress;
@@ -16,6 +17,7 @@ mod walk;
 
 pub use dumped::Dumped;
 pub use fault::DumpFault;
+pub use laws::dump_shows_what_is_selected;
 pub use selection::Selection;
 pub use walk::dump;
 

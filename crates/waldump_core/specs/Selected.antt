@@ -1,0 +1,54 @@
+-- What a dump shows, said of the whole list of a log's records.
+use Rattle.std.specs.Prelude.{ℕ, ◌==◌, ◌≡◌, Bool, true, false, not, is_ok, List, [], ◌∷◌, filter, take, nat_lt, if◌then◌else◌, Result, Ok, Err}
+use Rattle.std.specs.List.{flat_map}
+use Rattle.wal_records.specs.Log.{Log}
+use Rattle.wal_records.specs.Reading.{LogRecord}
+use Rattle.block_refs.specs.declared.fault.PartsFault.{PartsFault}
+use Rattle.block_refs.specs.Outcomes.{record_parts}
+use Rattle.block_refs.specs.Parts.{PartsView}
+use Rattle.waldump_core.specs.declared.selection.Selection.{Selection}
+use Rattle.waldump_core.specs.Dump.{is_before, dump_behind, nothing_shown}
+use Rattle.waldump_core.specs.Line.{line_text}
+use Rattle.waldump_core.specs.Selecting.{meets}
+
+-- those from the front on that pass a test
+abbrev pub front : {X : Type 0} → (X → Bool) → List X → List X
+front test [] = []
+front test (x ∷ xs) = if test x then x ∷ front test xs else []
+
+abbrev pub is_from : Selection → LogRecord → Bool
+is_from sel r = not (nat_lt r.start sel.start.0)
+
+abbrev pub has_parts : LogRecord → Bool
+has_parts r = is_ok (record_parts r)
+
+-- The records that a dump may show: those at or past the start, before the first of them that lies not before the stop, and
+-- before the first that has no parts.
+abbrev pub readable : ℕ → Selection → List LogRecord → List LogRecord
+readable size sel records = front has_parts (front (is_before size sel.stop) (filter (is_from sel) records))
+
+abbrev pub is_met : Selection → LogRecord → Result PartsView PartsFault → Bool
+is_met sel r (Err e) = false
+is_met sel r (Ok parts) = meets sel r parts
+
+-- a record meets every filter that is given
+abbrev pub is_selected : Selection → LogRecord → Bool
+is_selected sel r = is_met sel r (record_parts r)
+
+abbrev pub line_with : Selection → LogRecord → Result PartsView PartsFault → List ℕ
+line_with sel r (Err e) = []
+line_with sel r (Ok parts) = line_text sel.details r parts
+
+-- the line of a record
+abbrev pub line_of : Selection → LogRecord → List ℕ
+line_of sel r = line_with sel r (record_parts r)
+
+-- the first so many of them; 0 is no limit
+abbrev pub within : ℕ → List LogRecord → List LogRecord
+within limit records = if limit == 0 then records else take limit records
+
+-- The text of a dump that isn't quiet: the lines, in the order of the log, of the first records, up to the limit, that are
+-- selected among those that may be shown. That of a quiet dump is empty.
+pub record ShowsSelected (size : ℕ) (sel : Selection) (log : Log) : Type 0 where
+  pub lines : sel.quiet ≡ false → (dump_behind size sel nothing_shown log).text ≡ flat_map (line_of sel) (within sel.limit (filter (is_selected sel) (readable size sel log.records)))
+  pub quiet : sel.quiet ≡ true → (dump_behind size sel nothing_shown log).text ≡ []
