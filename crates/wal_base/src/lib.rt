@@ -20,7 +20,7 @@ pub use lsn::Lsn;
 pub use memory::OutOfMemory;
 pub use plain::plain_crc32c;
 pub use seg_size::SegSize;
-pub use segment::Segment;
+pub use segment::{Segment, is_long_name};
 pub use spans::{Span, Spans};
 pub use text::Text;
 

@@ -73,9 +73,10 @@ impl Segment {
     }
 }
 
-/// Whether these are 24 digits 0 to 9 and A to F.
-fn is_long_name(digits: &[u8]) -> bool
-    ensures { result ≡ is_long_name digits.now }
+/// Whether a name has the form of that of a segment file, 24 digits 0 to 9 and A to F
+/// (`IsXLogFileName`). Which segment it names depends on the size of segments.
+pub fn is_long_name(name: &[u8]) -> bool
+    ensures { result ≡ is_long_name name.now }
 {
-    digits.len() == 24 && hex::all_upper(digits)
+    name.len() == 24 && hex::all_upper(name)
 }

@@ -120,6 +120,21 @@ fn segments_are_named_and_read(rt: HostRuntime) -> Result<(), Fail> {
 }
 
 #[test]
+fn names_of_segments_have_one_form(rt: HostRuntime) {
+    for (name, valid) in [
+        ("00000002000000050000003A", true),
+        ("FFFFFFFFFFFFFFFFFFFFFFFF", true),
+        ("00000002000000050000003", false),
+        ("00000002000000050000003A0", false),
+        ("00000002000000050000003a", false),
+        ("0000000200000005000000G0", false),
+        ("", false),
+    ] {
+        assert_eq!(rt; is_long_name(name.as_bytes()), valid, "{name}");
+    }
+}
+
+#[test]
 fn sizes_are_powers_of_two(rt: HostRuntime) {
     for (bytes, valid) in [
         (0, false),
