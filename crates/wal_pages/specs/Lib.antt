@@ -5,4 +5,5 @@ pub mod ValidPage
 pub mod Page
 pub mod Payload
 pub mod Cursor
+pub mod File
 pub mod Laws

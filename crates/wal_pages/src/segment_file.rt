@@ -1,10 +1,12 @@
 //! Reading the page at a position from its segment's file.
 
-ghost use Rattle.std.specs.Prelude.{◌≡◌, ◌⊎◌, ◌≤◌, ◌%◌, [], ◌∷◌, Ok, Err, length, IfOk, IfErr, OnOk, IsTrue, IsErrOf};
+ghost use Rattle.std.specs.Prelude.{◌≡◌, ◌⊎◌, ◌≤◌, ◌%◌, [], ◌∷◌, Ok, Err, length, IfSome, IfOk, IfErr, OnOk, IsTrue, IsErrOf};
 ghost use Rattle.cluster_tree.specs.Contents.{entry_at};
 ghost use Rattle.cluster_tree.specs.Causes.{IsAmong, Meets, OnlyReads, Rose};
+ghost use Rattle.wal_pages.specs.File.{IsFileIn};
 ghost use Rattle.wal_pages.specs.Folder.{file_in, folder_of};
 ghost use Rattle.wal_pages.specs.Header.{header_of};
+ghost use Rattle.wal_pages.specs.LogBytes.{segment_at};
 ghost use Rattle.wal_pages.specs.Page.{bytes_from, told, page_at, answer_of, IsFree, NamesPage};
 ghost use Rattle.wal_pages.specs.ValidPage.{IsValidPage};
 
@@ -45,15 +47,52 @@ fn read_from<F: Tree>(
     }
 }
 
-/// Reads the page that begins at a position. What `page` holds after a refusal is open.
+/// A segment of a log, and the path of its file.
+#[derive(Drop)]
+pub(crate) struct SegmentFile {
+    segment: Segment,
+    path: Path,
+}
+
+impl SegmentFile {
+    /// The file of the segment that holds a position: the one that is kept, where it is that
+    /// segment's. The only refusal is `OutOfMemory`.
+    pub(crate) fn of(
+        alloc: Global,
+        log: &LogPath,
+        kept: Option<SegmentFile>,
+        at: Lsn,
+    ) -> Result<SegmentFile, PageFault>
+        requires room { length log.now.folder.parts ≤ 63 }
+        requires kept { IfSome kept (IsFileIn log.now) }
+        ensures here { IfOk result (λ file. file.segment ≡ segment_at log.now at.0) }
+        ensures file { IfOk result (IsFileIn log.now) }
+        ensures memory { IfErr result (λ e. e ≡ PageFault.OutOfMemory) }
+    {
+        if let Some(file) = kept {
+            if file.segment.number == at.0 / u64::from(log.size.bytes()) {
+                return Ok(file);
+            }
+        }
+        let segment = log.segment_at(at);
+        match log.file_of(alloc, segment) {
+            Ok(path) => Ok(SegmentFile { segment, path }),
+            Err(_) => Err(PageFault::OutOfMemory),
+        }
+    }
+}
+
+/// Reads the page that begins at a position from the file of its segment. What `page` holds after a
+/// refusal is open.
 pub(crate) fn load<F: Tree>(
-    alloc: Global,
     log: &LogPath,
+    file: &SegmentFile,
     tree: &mut F,
     at: Lsn,
     page: &mut [u8],
 ) -> Result<PageHeader, PageFault>
-    requires room { length log.now.folder.parts ≤ 63 }
+    requires here { file.now.segment ≡ segment_at log.now at.0 }
+    requires file { IsFileIn log.now file.now }
     requires starts { at.0 % 8192 ≡ 0 }
     requires whole { length page.old ≡ 8192 }
     ensures exact { IsTrue F.tells → Meets IsFree (answer_of
@@ -68,12 +107,9 @@ pub(crate) fn load<F: Tree>(
     ensures read_fault { IsErrOf result PageFault.ReadFault →
         Rose (F.failed_reads tree.old) (F.failed_reads tree.new) }
 {
-    let segment = log.segment_at(at);
-    let Ok(file) = log.file_of(alloc, segment) else {
-        return Err(PageFault::OutOfMemory);
-    };
+    let segment = file.segment;
     let offset = at.0 % u64::from(log.size.bytes());
-    read_from(tree, &file, segment, offset, page)?;
+    read_from(tree, &file.path, segment, offset, page)?;
     match first_bad_field(log, segment, at, page) {
         Some(field) => Err(PageFault::BadPage(at, field)),
         None => Ok(header_of(page)),

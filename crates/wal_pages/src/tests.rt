@@ -1,6 +1,7 @@
 //! The tests, by what they are about.
 
 mod faults;
+mod holding;
 mod reading;
 
 use crate::{LogPath, PageCursor};
