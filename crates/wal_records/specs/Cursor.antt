@@ -1,8 +1,9 @@
 -- What contracts see of a record cursor, and what a call of it does.
-use Rattle.std.specs.Prelude.{◌≡◌, ℕ, ◌+◌, ◌^◌, ◌<◌, ◌≤◌, length, Option, Some, None, IsSomeAnd}
+use Rattle.std.specs.Prelude.{◌≡◌, ℕ, ◌+◌, ◌^◌, ◌<◌, ◌≤◌, List, [], length, Option, Some, None, IsSomeAnd}
 use Rattle.cluster_tree.specs.Contents.{Contents}
 use Rattle.wal_base.specs.Segment.{bytes_of}
 use Rattle.wal_pages.specs.declared.log_path.LogPath.{LogPath}
+use Rattle.wal_pages.specs.Cursor.{Knows as PageKnows}
 use Rattle.wal_records.specs.declared.cursor.LogEnd.{LogEnd}
 use Rattle.wal_records.specs.declared.cursor.Step.{Step}
 use Rattle.wal_records.specs.declared.cursor.Step.TheVariants as step
@@ -13,10 +14,12 @@ use Rattle.wal_records.specs.Further.{pages_of}
 use Rattle.wal_records.specs.Reading.{LogRecord}
 use Rattle.wal_records.specs.Log.{Log, ended, with_first, log_from}
 
--- A cursor: where it reads, the start of the record before, the place where the next one is looked for, the end that it
--- answered, and the record that the last call gave.
+-- A cursor: where it reads, the position of the page that it holds and that page, if it holds one, the start of the record
+-- before, the place where the next one is looked for, the end that it answered, and the record that the last call gave.
 pub record CursorView : Type 0 where
   pub log : LogPath
+  pub held : Option ℕ
+  pub page : List ℕ
   pub before : Option ℕ
   pub place : ℕ
   pub ended : Option LogEnd
@@ -26,9 +29,14 @@ pub record CursorView : Type 0 where
 abbrev pub to_come : CursorView → Contents → Log
 to_come cursor contents = log_from (pages_of cursor.log contents) (bytes_of cursor.log.size) cursor.before cursor.place
 
--- a cursor that has nothing to give, but is where it was
+-- The page that it holds is the log's in these contents: so it is where it holds none, and as long as the log's files stay
+-- as they were when the page was read.
+abbrev pub Knows : CursorView → Contents → Type 0
+Knows cursor contents = PageKnows (record { log = cursor.log; held = cursor.held; page = cursor.page }) contents
+
+-- a cursor that has nothing to give and holds no page, but is where it was
 abbrev pub without_current : CursorView → CursorView
-without_current cursor = record cursor { current = None }
+without_current cursor = record cursor { held = None; page = []; current = None }
 
 -- One step: the log to come was the record and the log that is to come now, or it was at its end.
 abbrev pub Steps : CursorView → CursorView → Step → Contents → Type 0
@@ -51,9 +59,9 @@ pub record GoesOn (old new : CursorView) (r : LogRecord) : Type 0 where
   pub within : new.place < 2 ^ 64
   pub opened : new.ended ≡ None
 
--- a cursor that has answered this end, and is where it was
+-- a cursor that has answered this end and holds no page, and is where it was
 abbrev pub ended_at : CursorView → ℕ → Why → CursorView
-ended_at cursor place why = record cursor { ended = Some record { place = record { 0 = place }; why = why }; current = None }
+ended_at cursor place why = record cursor { held = None; page = []; ended = Some record { place = record { 0 = place }; why = why }; current = None }
 
 -- whatever the tree holds: each record stands further on, and an end is kept
 abbrev pub Moves : CursorView → CursorView → Step → Type 0

@@ -1,6 +1,6 @@
 //! The records of a log, one after another.
 
-ghost use Rattle.std.specs.Prelude.{◌≡◌, ◌≤◌, None, Some, Ok, length, IsTrue, IfOk, IfSome, IfNone, OnErr, IsErrOf};
+ghost use Rattle.std.specs.Prelude.{◌≡◌, ◌≤◌, [], None, Some, Ok, length, IsTrue, IfOk, IfSome, IfNone, OnErr, IsErrOf};
 ghost use Rattle.cluster_tree.specs.Causes.{OnlyReads, Rose};
 ghost use Rattle.cluster_tree.specs.Contents.{Contents};
 ghost use Rattle.wal_base.specs.Segment.{bytes_of};
@@ -8,7 +8,7 @@ ghost use Rattle.wal_records.specs.declared.cursor.LogEnd.{LogEnd};
 ghost use Rattle.wal_records.specs.Place.{place_at};
 ghost use Rattle.wal_records.specs.Further.{pages_of};
 ghost use Rattle.wal_records.specs.Log.{log_of};
-ghost use Rattle.wal_records.specs.Cursor.{IsWhole, Moves, Steps, to_come, without_current};
+ghost use Rattle.wal_records.specs.Cursor.{IsWhole, Knows, Moves, Steps, to_come, without_current};
 
 use crate::fault::LogFault;
 use crate::log_record::{Record, emptied};
@@ -21,7 +21,7 @@ use std::marker::Model;
 use wal_base::{Lsn, OutOfMemory};
 use wal_pages::{LogPath, PageCursor};
 
-/// What a call of `next` gave.
+/// What a call of `next` or `next_unchanged` gave.
 #[derive(Clone, Copy, Debug, PartialEq, Eq)]
 pub enum Step {
     /// A record, which `current` lends.
@@ -56,6 +56,8 @@ impl Model for RecordCursor {
 
     ghost view = { λ c. record {
       log = c.pages.log;
+      held = c.pages.held;
+      page = c.pages.page;
       before = c.before;
       place = c.place;
       ended = c.ended;
@@ -73,6 +75,8 @@ impl RecordCursor {
         requires room { length log.folder.parts ≤ 63 }
         ensures ok { IfOk result (λ cursor. cursor ≡ record {
           log = log;
+          held = None;
+          page = [];
           before = None;
           place = place_at (bytes_of log.size) start.0;
           ended = None;
@@ -80,6 +84,7 @@ impl RecordCursor {
         }) }
         ensures starts { IfOk result (λ cursor. (contents : Contents) → to_come cursor contents
             ≡ log_of (pages_of log contents) (bytes_of log.size) start.0) }
+        ensures knows { IfOk result (λ cursor. (contents : Contents) → Knows cursor contents) }
     {
         let place = place_at(start, log.size).0;
         Ok(RecordCursor {
@@ -99,10 +104,38 @@ impl RecordCursor {
     /// After an `End` every later call answers the same. After a fault the next call tries the same
     /// place again. Answers `ReadFault` only where a read failed, which the tree has counted, and
     /// `OutOfMemory` only for want of memory. It makes no changing call.
+    ///
+    /// The pages are read from the tree as it now is. Where nothing changes the log's files between
+    /// two calls, `next_unchanged` gives the same and is faster.
     pub fn next<F: Tree>(&mut self, tree: &mut F) -> Result<Step, LogFault>
         ensures log { self.new.log ≡ self.old.log }
         ensures step { IsTrue F.tells → self.old.ended ≡ None → IfOk result (λ step.
             Steps self.old self.new step (F.contents tree.old)) }
+        ensures knows { IsTrue F.tells → Knows self.new (F.contents tree.new) }
+        ensures moves { IfOk result (Moves self.old self.new) }
+        ensures sticky { (end : LogEnd) → self.old.ended ≡ Some end →
+            result ≡ Ok (Step.End end.place end.why) }
+        ensures fault { OnErr result (self.new ≡ without_current self.old) }
+        ensures reads { OnlyReads F.contents F.calls F.failed_reads F.failed_changes
+            tree.old tree.new }
+        ensures read_fault { IsErrOf result LogFault.ReadFault →
+            Rose (F.failed_reads tree.old) (F.failed_reads tree.new) }
+    {
+        self.pages.forget(); // the log's files may have changed
+        self.next_unchanged(tree)
+    }
+
+    /// As `next`, but the page on which the last call stopped isn't read again: right where the
+    /// log's files are as they were at the last call, as in a log that no server writes to. Where
+    /// one may have changed, `next` is right: what this call then gives may be of the page as it
+    /// was.
+    pub fn next_unchanged<F: Tree>(&mut self, tree: &mut F) -> Result<Step, LogFault>
+        ensures log { self.new.log ≡ self.old.log }
+        ensures step { IsTrue F.tells → Knows self.old (F.contents tree.old) →
+            self.old.ended ≡ None → IfOk result (λ step.
+            Steps self.old self.new step (F.contents tree.old)) }
+        ensures knows { IsTrue F.tells → Knows self.old (F.contents tree.old) →
+            Knows self.new (F.contents tree.new) }
         ensures moves { IfOk result (Moves self.old self.new) }
         ensures sticky { (end : LogEnd) → self.old.ended ≡ Some end →
             result ≡ Ok (Step.End end.place end.why) }
@@ -114,27 +147,35 @@ impl RecordCursor {
     {
         let mut bytes = emptied(self.current.take(), self.alloc);
         match self.ended {
-            Some(end) => return Ok(Step::End(end.place, end.why)),
+            Some(end) => {
+                self.pages.forget();
+                return Ok(Step::End(end.place, end.why));
+            }
             None => {}
         }
-        match find(&mut self.pages, tree, self.before, self.place, &mut bytes)? {
-            Sought::Record(start, end) => {
+        match find(&mut self.pages, tree, self.before, self.place, &mut bytes) {
+            Ok(Sought::Record(start, end)) => {
                 let size = self.pages.size();
                 self.before = Some(start);
                 self.place = place_at(Lsn(end), size).0;
                 self.current = Some(Record::new(start, end, bytes));
                 Ok(Step::Record)
             }
-            Sought::End(place, why) => {
+            Ok(Sought::End(place, why)) => {
                 let place = Lsn(place);
+                self.pages.forget();
                 self.ended = Some(LogEnd { place, why });
                 Ok(Step::End(place, why))
+            }
+            Err(fault) => {
+                self.pages.forget();
+                Err(fault)
             }
         }
     }
 
-    /// The record that the last call of `next` gave. `None` before the first call, and after one
-    /// that answered an end or a fault.
+    /// The record that the last call of `next` or `next_unchanged` gave. `None` before the first
+    /// call, and after one that answered an end or a fault.
     pub fn current(&self) -> Option<&Record>
         ensures none { IfNone result (self.now.current ≡ None) }
         ensures some { IfSome result (λ r. self.now.current ≡ Some r.now) }

@@ -47,6 +47,21 @@ fn behind_of(size: SegSize, place: u64, total: u32) -> Option<InPage>
     Some(InPage { number, offset })
 }
 
+/// The position behind the last byte of a record of `total` bytes at a place, or `None` where it is
+/// past all positions.
+pub fn behind(size: SegSize, place: u64, total: u32) -> Option<Lsn>
+    requires some { 0 < total }
+    ensures value { IfSome result (λ at. at.0 ≡ behind_of (bytes_of size) place total) }
+    ensures none { IfNone result (2 ^ 64 ≤ behind_of (bytes_of size) place total) }
+{
+    match behind_of(size, place, total) {
+        None => None,
+        Some(behind) => (behind.number * PAGE_SIZE)
+            .checked_add(behind.offset)
+            .map(Lsn),
+    }
+}
+
 /// Whether it is the header of a switch record (`XLOG_SWITCH`).
 fn is_switch(header: RecordHeader) -> bool
     ensures value { result ≡ is_switch header }

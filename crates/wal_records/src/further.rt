@@ -3,6 +3,7 @@
 ghost use Rattle.std.specs.Prelude.{◌≡◌, ◌+◌, ◌-◌, ◌*◌, ◌<◌, ◌≤◌, ◌^◌, ◌++◌, None, length, min, take, drop, IsTrue, IfOk, IsErrOf};
 ghost use Rattle.cluster_tree.specs.Causes.{OnlyReads, Rose};
 ghost use Rattle.wal_base.specs.Segment.{bytes_of};
+ghost use Rattle.wal_pages.specs.Cursor.{Knows};
 ghost use Rattle.wal_records.specs.Further.{pages_of, further_page, further, room, stop_of, stop_at, piece, gathered};
 ghost use Rattle.wal_records.specs.Steps.{Adds, Gathers, Grows, StopsFrom};
 
@@ -62,12 +63,15 @@ pub fn add_page<F: Tree>(
 ) -> Result<Option<Stop>, LogFault>
     requires low { number < 2 ^ 51 }
     ensures log { pages.new.log ≡ pages.old.log }
-    ensures added { IsTrue F.tells → IfOk result (λ stop. Adds stop bytes.old.items bytes.new.items
+    ensures added { IsTrue F.tells → Knows pages.old (F.contents tree.old) →
+        IfOk result (λ stop. Adds stop bytes.old.items bytes.new.items
         (pages_of pages.old.log (F.contents tree.old)) (bytes_of pages.old.log.size)
         (further_page (number * 8192) left)) }
     ensures grows { IfOk result (λ stop. stop ≡ None → Grows bytes.old.items bytes.new.items
         (min left (room (bytes_of pages.old.log.size) (number * 8192)))) }
     ensures from { IfOk result (StopsFrom (number * 8192)) }
+    ensures knows { IsTrue F.tells → Knows pages.old (F.contents tree.old) →
+        Knows pages.new (F.contents tree.new) }
     ensures reads { OnlyReads F.contents F.calls F.failed_reads F.failed_changes tree.old tree.new }
     ensures read_fault { IsErrOf result LogFault.ReadFault →
         Rose (F.failed_reads tree.old) (F.failed_reads tree.new) }
@@ -97,12 +101,15 @@ pub fn add_rest<F: Tree>(
 ) -> Result<Option<Stop>, LogFault>
     requires low { number ≤ 2 ^ 51 }
     ensures log { pages.new.log ≡ pages.old.log }
-    ensures gathered { IsTrue F.tells → IfOk result (λ stop. Gathers stop bytes.new.items
+    ensures gathered { IsTrue F.tells → Knows pages.old (F.contents tree.old) →
+        IfOk result (λ stop. Gathers stop bytes.new.items
         (gathered (pages_of pages.old.log (F.contents tree.old)) (bytes_of pages.old.log.size)
         bytes.old.items (further (bytes_of pages.old.log.size) (number * 8192) left))) }
     ensures grows { IfOk result (λ stop. stop ≡ None →
         Grows bytes.old.items bytes.new.items left) }
     ensures from { IfOk result (StopsFrom (number * 8192)) }
+    ensures knows { IsTrue F.tells → Knows pages.old (F.contents tree.old) →
+        Knows pages.new (F.contents tree.new) }
     ensures reads { OnlyReads F.contents F.calls F.failed_reads F.failed_changes tree.old tree.new }
     ensures read_fault { IsErrOf result LogFault.ReadFault →
         Rose (F.failed_reads tree.old) (F.failed_reads tree.new) }

@@ -1,14 +1,17 @@
 //! A record of the log.
 
-ghost use Rattle.std.specs.Prelude.{◌≡◌, ◌+◌, ◌≤◌, [], length};
+ghost use Rattle.std.specs.Prelude.{◌≡◌, ◌+◌, ◌^◌, ◌≤◌, [], length, IfSome, IfNone};
+ghost use Rattle.wal_base.specs.Segment.{bytes_of};
+ghost use Rattle.wal_records.specs.Extent.{behind_of};
 ghost use Rattle.wal_records.specs.Header.{greatest_total};
 ghost use Rattle.wal_records.specs.Reading.{record_of};
 ghost use Rattle.wal_records.specs.Steps.{IsAll};
 
+use crate::extent::behind;
 use crate::header::{HEADER_SIZE, RecordHeader, header_of};
 use std::alloc::Global;
 use std::marker::Model;
-use wal_base::Lsn;
+use wal_base::{Lsn, SegSize};
 
 /// A record of the log, its bytes put together from the pages that it spans.
 #[derive(Debug, Drop)]
@@ -64,6 +67,18 @@ impl Record {
         ensures value { result.0 ≡ self.now.end }
     {
         self.end
+    }
+
+    /// The position behind its last byte, in segments of this size, or `None` where that is past
+    /// all positions. Its end comes after it: up to 7 bytes on, and the end of a switch record is
+    /// that of its segment.
+    pub fn behind(&self, size: SegSize) -> Option<Lsn>
+        ensures value { IfSome result (λ at.
+            at.0 ≡ behind_of (bytes_of size) self.now.start self.now.header.total) }
+        ensures none { IfNone result
+            (2 ^ 64 ≤ behind_of (bytes_of size) self.now.start self.now.header.total) }
+    {
+        behind(size, self.start.0, self.header.total)
     }
 
     /// Its header.

@@ -2,6 +2,7 @@
 
 ghost use Rattle.std.specs.Prelude.{◌≡◌, length, IsTrue, IfOk, IsErrOf};
 ghost use Rattle.cluster_tree.specs.Causes.{OnlyReads, Rose};
+ghost use Rattle.wal_pages.specs.Cursor.{Knows};
 ghost use Rattle.wal_pages.specs.Header.{header_of, page_of};
 ghost use Rattle.wal_records.specs.Further.{pages_of};
 ghost use Rattle.wal_records.specs.Steps.{Opens, IsOpened};
@@ -23,14 +24,17 @@ pub enum Opened {
 /// Reads the page that holds a position.
 pub fn open_page<F: Tree>(pages: &mut PageCursor, tree: &mut F, at: u64) -> Result<Opened, LogFault>
     ensures log { pages.new.log ≡ pages.old.log }
-    ensures opened { IsTrue F.tells → IfOk result (λ opened. Opens opened pages.new.page
+    ensures opened { IsTrue F.tells → Knows pages.old (F.contents tree.old) →
+        IfOk result (λ opened. Opens opened pages.new.page
         (pages_of pages.old.log (F.contents tree.old) (page_of at))) }
     ensures page { IfOk result (λ opened. IsOpened opened pages.new.page) }
+    ensures knows { IsTrue F.tells → Knows pages.old (F.contents tree.old) →
+        Knows pages.new (F.contents tree.new) }
     ensures reads { OnlyReads F.contents F.calls F.failed_reads F.failed_changes tree.old tree.new }
     ensures read_fault { IsErrOf result LogFault.ReadFault →
         Rose (F.failed_reads tree.old) (F.failed_reads tree.new) }
 {
-    match pages.read_page(tree, Lsn(at)) {
+    match pages.turn_to(tree, Lsn(at)) {
         Ok(header) => Ok(Opened::Page(header)),
         Err(PageFault::SegmentMissing(_)) => Ok(Opened::Refused(Why::NoSegment)),
         Err(PageFault::ShortSegment(_)) => Ok(Opened::Refused(Why::ShortSegment)),

@@ -6,7 +6,7 @@ ghost use Rattle.wal_records.specs.Place.{place_at, is_place};
 ghost use Rattle.wal_records.specs.Reading.{continues_at};
 
 use wal_base::{Lsn, SegSize};
-use wal_pages::{FIRST_IS_CONTRECORD, PAGE_SIZE, header_size, page_of};
+use wal_pages::{FIRST_IS_CONTRECORD, LONG_HEADER_SIZE, PAGE_SIZE, header_size, page_of};
 
 /// The place at which a record can start that begins at a position: 40 bytes on at a segment's
 /// start, 24 at another page's start, behind the page's header, and else the position itself.
@@ -21,17 +21,24 @@ pub fn place_at(at: Lsn, size: SegSize) -> Lsn
     }
 }
 
-/// Whether a record can start at a position: a multiple of 8 that isn't in its page's header.
+/// Whether a record can start at a position: a multiple of 8 that isn't in its page's header. Which
+/// header that is, a division by the segment size, is asked for only where it counts.
+#[tactic(auto, using(crate::proofs::FurtherLemmas::header_short))]
 pub fn is_place(at: Lsn, size: SegSize) -> bool
     ensures value { result ≡ is_place (bytes_of size) at.0 }
     ensures whole { IsTrue result → at.0 % 8 ≡ 0 }
 {
-    at.0 % 8 == 0 && header_size(page_of(at), size) <= at.0 % PAGE_SIZE
+    let offset = at.0 % PAGE_SIZE;
+    at.0 % 8 == 0 && (offset >= LONG_HEADER_SIZE || offset >= header_size(page_of(at), size))
 }
 
 /// Whether a place stands right behind the header of a page whose first bytes go on with a record.
+#[tactic(auto, using(crate::proofs::FurtherLemmas::header_short))]
 pub fn continues_at(at: Lsn, size: SegSize, info: u16) -> bool
     ensures value { result ≡ continues_at (bytes_of size) at.0 info }
 {
-    at.0 % PAGE_SIZE == header_size(page_of(at), size) && info & FIRST_IS_CONTRECORD != 0
+    let offset = at.0 % PAGE_SIZE;
+    offset <= LONG_HEADER_SIZE
+        && info & FIRST_IS_CONTRECORD != 0
+        && offset == header_size(page_of(at), size)
 }

@@ -3,6 +3,7 @@
 ghost use Rattle.std.specs.Prelude.{◌≡◌, ℕ, ◌+◌, ◌*◌, ◌<◌, ◌≤◌, ◌^◌, [], None, Some, Option, length, IsTrue, IfOk, IfErr, IsErrOf};
 ghost use Rattle.cluster_tree.specs.Causes.{OnlyReads, Rose};
 ghost use Rattle.wal_base.specs.Segment.{bytes_of};
+ghost use Rattle.wal_pages.specs.Cursor.{Knows};
 ghost use Rattle.wal_records.specs.Further.{pages_of, further};
 ghost use Rattle.wal_records.specs.Reading.{sealed_end, seal_fault, after_header, reading};
 ghost use Rattle.wal_records.specs.Steps.{Begins, FirstFits, IsPart, Reads, AllFit, BeginsFrom, FindsFrom};
@@ -44,11 +45,14 @@ fn begin<F: Tree>(
 ) -> Result<Begun, LogFault>
     requires empty { bytes.old.items ≡ [] }
     ensures log { pages.new.log ≡ pages.old.log }
-    ensures read { IsTrue F.tells → IfOk result (λ begun. (before : Option ℕ) →
+    ensures read { IsTrue F.tells → Knows pages.old (F.contents tree.old) →
+        IfOk result (λ begun. (before : Option ℕ) →
         Begins (pages_of pages.old.log (F.contents tree.old)) (bytes_of pages.old.log.size)
         before place begun bytes.new.items) }
     ensures fits { IfOk result (λ begun. FirstFits place begun bytes.new.items) }
     ensures from { IfOk result (BeginsFrom (place + 1)) }
+    ensures knows { IsTrue F.tells → Knows pages.old (F.contents tree.old) →
+        Knows pages.new (F.contents tree.new) }
     ensures reads { OnlyReads F.contents F.calls F.failed_reads F.failed_changes tree.old tree.new }
     ensures read_fault { IsErrOf result LogFault.ReadFault →
         Rose (F.failed_reads tree.old) (F.failed_reads tree.new) }
@@ -110,12 +114,15 @@ fn read_body<F: Tree>(
     requires whole { 24 ≤ length bytes.old.items }
     requires low { number ≤ 2 ^ 51 }
     ensures log { pages.new.log ≡ pages.old.log }
-    ensures read { IsTrue F.tells → IfOk result (λ found. Reads place found bytes.new.items
+    ensures read { IsTrue F.tells → Knows pages.old (F.contents tree.old) →
+        IfOk result (λ found. Reads place found bytes.new.items
         (after_header (pages_of pages.old.log (F.contents tree.old)) (bytes_of pages.old.log.size)
         before place (length bytes.old.items + left)
         (further (bytes_of pages.old.log.size) (number * 8192) left) bytes.old.items)) }
     ensures fits { IfOk result (λ found. AllFit place found bytes.new.items) }
     ensures from { IfOk result (FindsFrom (number * 8192)) }
+    ensures knows { IsTrue F.tells → Knows pages.old (F.contents tree.old) →
+        Knows pages.new (F.contents tree.new) }
     ensures reads { OnlyReads F.contents F.calls F.failed_reads F.failed_changes tree.old tree.new }
     ensures read_fault { IsErrOf result LogFault.ReadFault →
         Rose (F.failed_reads tree.old) (F.failed_reads tree.new) }
@@ -147,11 +154,14 @@ pub fn read_record<F: Tree>(
 ) -> Result<Found, LogFault>
     requires empty { bytes.old.items ≡ [] }
     ensures log { pages.new.log ≡ pages.old.log }
-    ensures read { IsTrue F.tells → IfOk result (λ found. Reads place found bytes.new.items
+    ensures read { IsTrue F.tells → Knows pages.old (F.contents tree.old) →
+        IfOk result (λ found. Reads place found bytes.new.items
         (reading (pages_of pages.old.log (F.contents tree.old)) (bytes_of pages.old.log.size)
         before place)) }
     ensures fits { IfOk result (λ found. AllFit place found bytes.new.items) }
     ensures from { IfOk result (FindsFrom (place + 1)) }
+    ensures knows { IsTrue F.tells → Knows pages.old (F.contents tree.old) →
+        Knows pages.new (F.contents tree.new) }
     ensures reads { OnlyReads F.contents F.calls F.failed_reads F.failed_changes tree.old tree.new }
     ensures read_fault { IsErrOf result LogFault.ReadFault →
         Rose (F.failed_reads tree.old) (F.failed_reads tree.new) }

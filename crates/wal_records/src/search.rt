@@ -3,6 +3,7 @@
 ghost use Rattle.std.specs.Prelude.{◌≡◌, IsTrue, IfOk, IsErrOf};
 ghost use Rattle.cluster_tree.specs.Causes.{OnlyReads, Rose};
 ghost use Rattle.wal_base.specs.Segment.{bytes_of};
+ghost use Rattle.wal_pages.specs.Cursor.{Knows};
 ghost use Rattle.wal_records.specs.Further.{pages_of};
 ghost use Rattle.wal_records.specs.Steps.{Seeks, SoughtFits};
 
@@ -32,10 +33,13 @@ pub fn find<F: Tree>(
     bytes: &mut Vec<u8>,
 ) -> Result<Sought, LogFault>
     ensures log { pages.new.log ≡ pages.old.log }
-    ensures found { IsTrue F.tells → IfOk result (λ sought.
-        Seeks (pages_of pages.old.log (F.contents tree.old)) (bytes_of pages.old.log.size)
+    ensures found { IsTrue F.tells → Knows pages.old (F.contents tree.old) →
+        IfOk result (λ sought. Seeks
+        (pages_of pages.old.log (F.contents tree.old)) (bytes_of pages.old.log.size)
         before place sought bytes.new.items) }
     ensures fits { IfOk result (λ sought. SoughtFits place sought bytes.new.items) }
+    ensures knows { IsTrue F.tells → Knows pages.old (F.contents tree.old) →
+        Knows pages.new (F.contents tree.new) }
     ensures reads { OnlyReads F.contents F.calls F.failed_reads F.failed_changes tree.old tree.new }
     ensures read_fault { IsErrOf result LogFault.ReadFault →
         Rose (F.failed_reads tree.old) (F.failed_reads tree.new) }

@@ -6,6 +6,7 @@ mod callers;
 mod faults;
 mod reasons;
 mod spans;
+mod unchanged;
 mod written;
 
 use crate::{RecordCursor, Step, Why};

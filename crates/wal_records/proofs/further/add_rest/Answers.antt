@@ -8,19 +8,19 @@ use Rattle.wal_records.proofs.PartLemmas.{grows_on}
 use Rattle.wal_records.proofs.further.add_rest.Goals as goal
 
 pub returns-then-number-eq-PAGES-clause-gathered : goal.returns-then-number-eq-PAGES-clause-gathered
-returns-then-number-eq-PAGES-clause-gathered g c = λ tells.
+returns-then-number-eq-PAGES-clause-gathered g c = λ tells knows.
     let log = c.args.pages.now.log in
     let contents = g.F.Tree.contents c.args.tree.now in
-    ap (λ (x : Gathered). x.stop) (sym (c.loop-left.invariant.on tells))
+    ap (λ (x : Gathered). x.stop) (sym (c.loop-left.invariant.on tells knows))
     ∙ gathered_stop (pages_of log contents) (bytes_of log.size) (c.loop-left.number * 8192) c.loop-left.left c.loop-left.bytes.items (Ends why.NoSegment) (omega arith)
     (past_end log contents (c.loop-left.number * 8192) c.loop-left.left (omega arith))
 
 pub returns-in-Some-clause-gathered : goal.returns-in-Some-clause-gathered
-returns-in-Some-clause-gathered g c = λ tells.
+returns-in-Some-clause-gathered g c = λ tells knows.
     let log = c.args.pages.now.log in
     let contents = g.F.Tree.contents c.args.tree.now in
-    let added = rw (c.in-Some.is, c.loop-left.invariant.log, c.loop-left.invariant.reads.same) at (c.in_ok-stop.ensures.added tells) in
-    ap (λ (x : Gathered). x.stop) (sym (c.loop-left.invariant.on tells))
+    let added = rw (c.in-Some.is, c.loop-left.invariant.log, c.loop-left.invariant.reads.same) at (c.in_ok-stop.ensures.added tells (c.loop-left.invariant.knows tells knows)) in
+    ap (λ (x : Gathered). x.stop) (sym (c.loop-left.invariant.on tells knows))
     ∙ gathered_stop (pages_of log contents) (bytes_of log.size) (c.loop-left.number * 8192) c.loop-left.left c.loop-left.bytes.items c.in-Some.stop (omega arith) added.stop_is
 
 pub loop-left-preserved : goal.loop-left-preserved
@@ -45,16 +45,17 @@ loop-left-preserved g c =
           c.loop-left.invariant.grows more (omega (arith, after, c.loop-left.invariant.fewer));
       later = omega (arith, c.loop-left.invariant.later);
       within = omega arith;
-      on = λ tells.
-          let added = rw (c.in-None.is, c.loop-left.invariant.log, c.loop-left.invariant.reads.same) at (c.in_ok-stop.ensures.added tells) in
+      knows = λ tells knows. c.add_page.ensures.knows tells (c.loop-left.invariant.knows tells knows);
+      on = λ tells knows.
+          let added = rw (c.in-None.is, c.loop-left.invariant.log, c.loop-left.invariant.reads.same) at (c.in_ok-stop.ensures.added tells (c.loop-left.invariant.knows tells knows)) in
           let next : (c.loop-left.number + 1) * 8192 ≡ page + 8192 = omega arith in
           gathered_at (pages_of log contents) (bytes_of log.size) _ _ _ _ _ _ (added.bytes refl) next after
           ∙ sym (gathered_more (pages_of log contents) (bytes_of log.size) page c.loop-left.left c.loop-left.bytes.items (omega arith) added.stop_is)
-          ∙ c.loop-left.invariant.on tells;
+          ∙ c.loop-left.invariant.on tells knows;
     }
 
 pub returns-clause-gathered : goal.returns-clause-gathered
-returns-clause-gathered g c = λ tells.
+returns-clause-gathered g c = λ tells knows.
     let log = c.args.pages.now.log in
-    sym (c.loop-left.invariant.on tells)
+    sym (c.loop-left.invariant.on tells knows)
     ∙ gathered_end (pages_of log (g.F.Tree.contents c.args.tree.now)) (bytes_of log.size) (c.loop-left.number * 8192) c.loop-left.left c.loop-left.bytes.items (omega arith)

@@ -1,6 +1,7 @@
 use Rattle.std.proofs.Common.{◌≡◌, ◌≤◌, ◌*◌, ◌^◌, ◌-◌, IsTrue}
 use Rattle.cluster_tree.specs.Causes.{OnlyReads}
 use Rattle.wal_base.specs.Segment.{bytes_of}
+use Rattle.wal_pages.specs.Cursor.{Knows}
 use Rattle.wal_records.specs.Further.{pages_of, further, gathered}
 use Rattle.wal_records.specs.Steps.{Grows}
 use Rattle.wal_records.proofs.further.add_rest.Given as goal
@@ -16,7 +17,8 @@ invariant-loop-left g l =
       grows : Grows l.fn.bytes.items l.bytes.items (l.fn.left - l.left);
       later : l.fn.number ≤ l.number;
       within : l.number ≤ 2 ^ 51;
-      on : IsTrue g.F.Tree.tells →
+      knows : IsTrue g.F.Tree.tells → Knows l.fn.pages (g.F.Tree.contents l.fn.tree) → Knows l.pages (g.F.Tree.contents l.tree);
+      on : IsTrue g.F.Tree.tells → Knows l.fn.pages (g.F.Tree.contents l.fn.tree) →
           gathered pages size l.bytes.items (further size (l.number * 8192) l.left)
           ≡ gathered pages size l.fn.bytes.items (further size (l.fn.number * 8192) l.fn.left);
     }

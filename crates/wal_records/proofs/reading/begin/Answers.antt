@@ -12,20 +12,20 @@ use Rattle.wal_records.proofs.PartLemmas.{first_part}
 use Rattle.wal_records.proofs.reading.begin.Goals as goal
 
 pub returns-then-not-is_place-clause-read : goal.returns-then-not-is_place-clause-read
-returns-then-not-is_place-clause-read g c = λ tells before.
+returns-then-not-is_place-clause-read g c = λ tells knows before.
     let log = c.args.pages.now.log in
     let here : is_place (bytes_of log.size) c.args.place ≡ false = sym (ap (λ s. is_place (bytes_of s) c.args.place) c.size-size.ensures.value) ∙ sym c.is_place.ensures.value ∙ c.if-not-is_place.true in
     read_no_place (pages_of log (g.F.Tree.contents c.args.tree.now)) (bytes_of log.size) c.args.place before here
 
 pub returns-in-Refused-clause-read : goal.returns-in-Refused-clause-read
-returns-in-Refused-clause-read g c = λ tells before.
+returns-in-Refused-clause-read g c = λ tells knows before.
     let log = c.args.pages.now.log in
     let here : is_place (bytes_of log.size) c.args.place ≡ true = sym (ap (λ s. is_place (bytes_of s) c.args.place) c.size-size.ensures.value) ∙ sym c.is_place.ensures.value ∙ c.if-not-is_place.false in
     read_refused (pages_of log (g.F.Tree.contents c.args.tree.now)) (bytes_of log.size) c.args.place before c.in-Refused.why here
-    ((rw c.in-Refused.is at c.in_ok-header.ensures).opened tells)
+    ((rw c.in-Refused.is at c.in_ok-header.ensures).opened tells knows)
 
 pub returns-then-continues_at-clause-read : goal.returns-then-continues_at-clause-read
-returns-then-continues_at-clause-read g c = λ tells before.
+returns-then-continues_at-clause-read g c = λ tells knows before.
     let log = c.args.pages.now.log in
     let page = c.open_page.new.pages.page in
     let here : is_place (bytes_of log.size) c.args.place ≡ true = sym (ap (λ s. is_place (bytes_of s) c.args.place) c.size-size.ensures.value) ∙ sym c.is_place.ensures.value ∙ c.if-not-is_place.false in
@@ -33,10 +33,10 @@ returns-then-continues_at-clause-read g c = λ tells before.
     let on : continues_at (bytes_of log.size) c.args.place (page_header page).info ≡ true =
     sym (c.continues_at.ensures.value ∙ ap (λ s. continues_at (bytes_of s) c.args.place c.in-Page.header.info) c.size-size.ensures.value
     ∙ ap (λ (h : PageHeader). continues_at (bytes_of log.size) c.args.place h.info) opened.page.1) ∙ c.if-continues_at.true in
-    read_continues (pages_of log (g.F.Tree.contents c.args.tree.now)) (bytes_of log.size) c.args.place before page here (opened.opened tells) on
+    read_continues (pages_of log (g.F.Tree.contents c.args.tree.now)) (bytes_of log.size) c.args.place before page here (opened.opened tells knows) on
 
 pub returns-in-Some-clause-read : goal.returns-in-Some-clause-read
-returns-in-Some-clause-read g c = λ tells before.
+returns-in-Some-clause-read g c = λ tells knows before.
     let log = c.args.pages.now.log in
     let page = c.open_page.new.pages.page in
     let here : is_place (bytes_of log.size) c.args.place ≡ true = sym (ap (λ s. is_place (bytes_of s) c.args.place) c.size-size.ensures.value) ∙ sym c.is_place.ensures.value ∙ c.if-not-is_place.false in
@@ -46,10 +46,10 @@ returns-in-Some-clause-read g c = λ tells before.
     ∙ ap (λ (h : PageHeader). continues_at (bytes_of log.size) c.args.place h.info) opened.page.1) ∙ c.if-continues_at.false in
     let total : c.u32_at-total.result ≡ word_at (c.args.place % 8192) page = c.u32_at-total.ensures ∙ ap (word_at (c.args.place % 8192)) c.page.ensures.value in
     let fault : length_fault (word_at (c.args.place % 8192) page) ≡ Some c.in-Some.why = sym (ap length_fault total) ∙ sym c.length_fault.ensures.value ∙ c.in-Some.is in
-    read_on (pages_of log (g.F.Tree.contents c.args.tree.now)) (bytes_of log.size) c.args.place before page (Some c.in-Some.why) here (opened.opened tells) on fault
+    read_on (pages_of log (g.F.Tree.contents c.args.tree.now)) (bytes_of log.size) c.args.place before page (Some c.in-Some.why) here (opened.opened tells knows) on fault
 
 pub returns-clause-read : goal.returns-clause-read
-returns-clause-read g c = λ tells before.
+returns-clause-read g c = λ tells knows before.
     let log = c.args.pages.now.log in
     let page = c.open_page.new.pages.page in
     let here : is_place (bytes_of log.size) c.args.place ≡ true = sym (ap (λ s. is_place (bytes_of s) c.args.place) c.size-size.ensures.value) ∙ sym c.is_place.ensures.value ∙ c.if-not-is_place.false in
@@ -58,7 +58,7 @@ returns-clause-read g c = λ tells before.
     sym (c.continues_at.ensures.value ∙ ap (λ s. continues_at (bytes_of s) c.args.place c.in-Page.header.info) c.size-size.ensures.value
     ∙ ap (λ (h : PageHeader). continues_at (bytes_of log.size) c.args.place h.info) opened.page.1) ∙ c.if-continues_at.false in
     let total : c.u32_at-total.result ≡ word_at (c.args.place % 8192) page = c.u32_at-total.ensures ∙ ap (word_at (c.args.place % 8192)) c.page.ensures.value in
-    read_first (pages_of log (g.F.Tree.contents c.args.tree.now)) (bytes_of log.size) c.args.place before page c.u32_at-total.result _ here (opened.opened tells) on
+    read_first (pages_of log (g.F.Tree.contents c.args.tree.now)) (bytes_of log.size) c.args.place before page c.u32_at-total.result _ here (opened.opened tells knows) on
     (sym c.length_fault.ensures.value ∙ c.in-None.is) total
     (c.in_ok-extend_from_slice.ensures.items ∙ ap (λ b. b ++ c.piece_of.result.now) c.requires.empty ∙ c.piece_of.ensures.value ∙ ap (λ p. take c.u32_at-total.result (drop (c.args.place % 8192) p)) c.page-2.ensures.value)
 

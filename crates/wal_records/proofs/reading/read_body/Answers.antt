@@ -8,7 +8,7 @@ use Rattle.wal_records.proofs.PartLemmas.{part_grows, all_there}
 use Rattle.wal_records.proofs.reading.read_body.Goals as goal
 
 pub returns-in-Some-clause-read : goal.returns-in-Some-clause-read
-returns-in-Some-clause-read g c = λ tells.
+returns-in-Some-clause-read g c = λ tells knows.
     let log = c.args.pages.now.log in
     let bytes = c.args.bytes.now.items in
     let rest = further (bytes_of log.size) (c.args.number * 8192) c.args.left in
@@ -17,19 +17,19 @@ returns-in-Some-clause-read g c = λ tells.
     body_fault (pages_of log (g.F.Tree.contents c.args.tree.now)) (bytes_of log.size) c.args.place (length bytes + c.args.left) c.args.before rest bytes c.in-Some.why fault
 
 pub returns-in-Some-2-clause-read : goal.returns-in-Some-2-clause-read
-returns-in-Some-2-clause-read g c = λ tells.
+returns-in-Some-2-clause-read g c = λ tells knows.
     let log = c.args.pages.now.log in
     let pages = pages_of log (g.F.Tree.contents c.args.tree.now) in
     let bytes = c.args.bytes.now.items in
     let rest = further (bytes_of log.size) (c.args.number * 8192) c.args.left in
     let fault : header_fault c.args.before c.args.place (header_of bytes) ≡ None =
     sym (c.header_fault.ensures.value ∙ ap (header_fault c.args.before c.args.place) (c.header_of.ensures.value ∙ ap header_of c.deref.ensures.value)) ∙ c.in-None.is in
-    let stopped = rw c.in-Some-2.is at (c.in_ok-stop.ensures.gathered tells) in
+    let stopped = rw c.in-Some-2.is at (c.in_ok-stop.ensures.gathered tells knows) in
     body_on pages (bytes_of log.size) c.args.place (length bytes + c.args.left) c.args.before rest bytes fault
     ∙ rest_stops (bytes_of log.size) c.args.place (length bytes + c.args.left) (gathered pages (bytes_of log.size) bytes rest) c.in-Some-2.stop stopped
 
 pub returns-in-Ok-clause-read : goal.returns-in-Ok-clause-read
-returns-in-Ok-clause-read g c = λ tells.
+returns-in-Ok-clause-read g c = λ tells knows.
     let log = c.args.pages.now.log in
     let pages = pages_of log (g.F.Tree.contents c.args.tree.now) in
     let bytes = c.args.bytes.now.items in
@@ -38,7 +38,7 @@ returns-in-Ok-clause-read g c = λ tells.
     let rest = further (bytes_of log.size) (c.args.number * 8192) c.args.left in
     let fault : header_fault c.args.before c.args.place (header_of bytes) ≡ None =
     sym (c.header_fault.ensures.value ∙ ap (header_fault c.args.before c.args.place) (c.header_of.ensures.value ∙ ap header_of c.deref.ensures.value)) ∙ c.in-None.is in
-    let gathered_all = rw c.in-None-2.is at (c.in_ok-stop.ensures.gathered tells) in
+    let gathered_all = rw c.in-None-2.is at (c.in_ok-stop.ensures.gathered tells knows) in
     let len_is : c.len.result ≡ length bytes = omega (arith, c.len.ensures) in
     let same : seal_fault (bytes_of c.size-size.result) c.args.place (c.len.result + c.args.left) c.deref-2.result.now ≡ seal_fault (bytes_of log.size) c.args.place total all =
     ap (λ s. seal_fault (bytes_of s) c.args.place (c.len.result + c.args.left) c.deref-2.result.now) c.size-size.ensures.value
@@ -63,7 +63,7 @@ returns-in-Ok-clause-fits g c =
     all_there c.args.place c.in-Ok.end total all (part_grows total c.args.left bytes all c.requires.part grows) grows.size (omega (arith, c.in-Ok.ensures.up, c.len.ensures))
 
 pub returns-in-Err-clause-read : goal.returns-in-Err-clause-read
-returns-in-Err-clause-read g c = λ tells.
+returns-in-Err-clause-read g c = λ tells knows.
     let log = c.args.pages.now.log in
     let pages = pages_of log (g.F.Tree.contents c.args.tree.now) in
     let bytes = c.args.bytes.now.items in
@@ -72,7 +72,7 @@ returns-in-Err-clause-read g c = λ tells.
     let rest = further (bytes_of log.size) (c.args.number * 8192) c.args.left in
     let fault : header_fault c.args.before c.args.place (header_of bytes) ≡ None =
     sym (c.header_fault.ensures.value ∙ ap (header_fault c.args.before c.args.place) (c.header_of.ensures.value ∙ ap header_of c.deref.ensures.value)) ∙ c.in-None.is in
-    let gathered_all = rw c.in-None-2.is at (c.in_ok-stop.ensures.gathered tells) in
+    let gathered_all = rw c.in-None-2.is at (c.in_ok-stop.ensures.gathered tells knows) in
     let len_is : c.len.result ≡ length bytes = omega (arith, c.len.ensures) in
     let same : seal_fault (bytes_of c.size-size.result) c.args.place (c.len.result + c.args.left) c.deref-2.result.now ≡ seal_fault (bytes_of log.size) c.args.place total all =
     ap (λ s. seal_fault (bytes_of s) c.args.place (c.len.result + c.args.left) c.deref-2.result.now) c.size-size.ensures.value

@@ -12,10 +12,10 @@ use Rattle.wal_records.proofs.PartLemmas.{part_grows, part_of}
 use Rattle.wal_records.proofs.reading.read_record.Goals as goal
 
 pub returns-in-Stopped-clause-read : goal.returns-in-Stopped-clause-read
-returns-in-Stopped-clause-read g c = λ tells. (rw c.in-Stopped.is at c.in_ok-stop.ensures).read tells c.args.before
+returns-in-Stopped-clause-read g c = λ tells knows. (rw c.in-Stopped.is at c.in_ok-stop.ensures).read tells knows c.args.before
 
 pub returns-then-len-ge-HEADER_SIZE-clause-read : goal.returns-then-len-ge-HEADER_SIZE-clause-read
-returns-then-len-ge-HEADER_SIZE-clause-read g c = λ tells.
+returns-then-len-ge-HEADER_SIZE-clause-read g c = λ tells knows.
     let log = c.args.pages.now.log in
     let pages = pages_of log (g.F.Tree.contents c.args.tree.now) in
     let size = bytes_of log.size in
@@ -24,16 +24,16 @@ returns-then-len-ge-HEADER_SIZE-clause-read g c = λ tells.
     let page : ℕ = (c.args.place / 8192 + 1) * 8192 in
     let left : ℕ = total - c.len.result in
     let begun = rw c.in-Total.is at c.in_ok-stop.ensures in
-    let held = rw (c.begin.ensures.log, c.begin.ensures.reads.same) at (c.read_body.ensures.read tells) in
+    let held = rw (c.begin.ensures.log, c.begin.ensures.reads.same) at (c.read_body.ensures.read tells (c.begin.ensures.knows tells knows)) in
     let sum : total ≡ length bytes + left = omega (arith, begun.fits.first, c.len.ensures) in
-    let is = begun.read tells c.args.before
+    let is = begun.read tells knows c.args.before
     ∙ first_whole pages size c.args.place total page left c.args.before bytes (omega arith) (next_page c.args.place) (omega arith)
     ∙ header_at pages size c.args.place total (length bytes + left) c.args.before _ _ bytes bytes sum refl refl in
     let P : Reading → Type 0 = λ r. IfOk c.read_body.result (λ found. Reads c.args.place found c.read_body.new.bytes.items r) in
     subst P (sym is) held
 
 pub returns-then-number-eq-PAGES-clause-read : goal.returns-then-number-eq-PAGES-clause-read
-returns-then-number-eq-PAGES-clause-read g c = λ tells.
+returns-then-number-eq-PAGES-clause-read g c = λ tells knows.
     let log = c.args.pages.now.log in
     let contents = g.F.Tree.contents c.args.tree.now in
     let pages = pages_of log contents in
@@ -42,12 +42,12 @@ returns-then-number-eq-PAGES-clause-read g c = λ tells.
     let page : ℕ = (c.args.place / 8192 + 1) * 8192 in
     let left : ℕ = total - c.len.result in
     let begun = rw c.in-Total.is at c.in_ok-stop.ensures in
-    begun.read tells c.args.before
+    begun.read tells knows c.args.before
     ∙ first_reaches pages (bytes_of log.size) c.args.place total page left c.args.before bytes (omega arith) (next_page c.args.place) (omega arith)
     ∙ front_stops pages (bytes_of log.size) c.args.place total c.args.before (further_page page left) bytes (Ends why.NoSegment) (past_end log contents page left (omega arith))
 
 pub returns-in-Some-clause-read : goal.returns-in-Some-clause-read
-returns-in-Some-clause-read g c = λ tells.
+returns-in-Some-clause-read g c = λ tells knows.
     let log = c.args.pages.now.log in
     let pages = pages_of log (g.F.Tree.contents c.args.tree.now) in
     let total = c.in-Total.total in
@@ -55,8 +55,8 @@ returns-in-Some-clause-read g c = λ tells.
     let page : ℕ = (c.args.place / 8192 + 1) * 8192 in
     let left : ℕ = total - c.len.result in
     let begun = rw c.in-Total.is at c.in_ok-stop.ensures in
-    let added = rw (c.in-Some.is, c.begin.ensures.log, c.begin.ensures.reads.same) at (c.in_ok-stop-2.ensures.added tells) in
-    begun.read tells c.args.before
+    let added = rw (c.in-Some.is, c.begin.ensures.log, c.begin.ensures.reads.same) at (c.in_ok-stop-2.ensures.added tells (c.begin.ensures.knows tells knows)) in
+    begun.read tells knows c.args.before
     ∙ first_reaches pages (bytes_of log.size) c.args.place total page left c.args.before bytes (omega arith) (next_page c.args.place) (omega arith)
     ∙ front_stops pages (bytes_of log.size) c.args.place total c.args.before (further_page page left) bytes c.in-Some.stop added.stop_is
 
@@ -74,7 +74,7 @@ read_body-requires-2-clause-part g c =
     part_of total _ c.add_page.new.bytes.items sum (part_grows total (min left (room (bytes_of log.size) page)) bytes c.add_page.new.bytes.items begun.fits.part grows)
 
 pub returns-clause-read : goal.returns-clause-read
-returns-clause-read g c = λ tells.
+returns-clause-read g c = λ tells knows.
     let log = c.args.pages.now.log in
     let pages = pages_of log (g.F.Tree.contents c.args.tree.now) in
     let size = bytes_of log.size in
@@ -85,13 +85,13 @@ returns-clause-read g c = λ tells.
     let left : ℕ = total - c.len.result in
     let begun = rw c.in-Total.is at c.in_ok-stop.ensures in
     let grows = rw c.begin.ensures.log at (c.in_ok-stop-2.ensures.grows c.in-None.is) in
-    let added = rw (c.in-None.is, c.begin.ensures.log, c.begin.ensures.reads.same) at (c.in_ok-stop-2.ensures.added tells) in
+    let added = rw (c.in-None.is, c.begin.ensures.log, c.begin.ensures.reads.same) at (c.in_ok-stop-2.ensures.added tells (c.begin.ensures.knows tells knows)) in
     let room_is : c.room_of.result ≡ room size page = c.room_of.ensures.value ∙ ap (λ s. room (bytes_of s) page) c.size-size.ensures.value in
     let sum : total ≡ length all + c.saturating_sub-left.result = omega (arith, grows.size, room_is, begun.fits.first, c.len.ensures, c.saturating_sub-left.ensures) in
     let after : left - room size page ≡ c.saturating_sub-left.result = omega (arith, room_is, c.saturating_sub-left.ensures) in
     let next : page + 8192 ≡ (c.args.place / 8192 + 1 + 1) * 8192 = omega arith in
-    let held = rw (c.add_page.ensures.log, c.begin.ensures.log, c.add_page.ensures.reads.same, c.begin.ensures.reads.same) at (c.read_body-2.ensures.read tells) in
-    let is = begun.read tells c.args.before
+    let held = rw (c.add_page.ensures.log, c.begin.ensures.log, c.add_page.ensures.reads.same, c.begin.ensures.reads.same) at (c.read_body-2.ensures.read tells (c.add_page.ensures.knows tells (c.begin.ensures.knows tells knows))) in
+    let is = begun.read tells knows c.args.before
     ∙ first_reaches pages size c.args.place total page left c.args.before bytes (omega arith) (next_page c.args.place) (omega arith)
     ∙ front_on pages size c.args.place total c.args.before (further_page page left) bytes added.stop_is
     ∙ header_at pages size c.args.place total (length all + c.saturating_sub-left.result) c.args.before _ _ _ all sum (same_further size _ _ _ _ next after) (sym (added.bytes refl)) in

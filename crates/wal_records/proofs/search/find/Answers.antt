@@ -9,18 +9,18 @@ use Rattle.wal_records.proofs.LogLemmas.{log_on}
 use Rattle.wal_records.proofs.search.find.Goals as goal
 
 pub returns-in-Record-clause-found : goal.returns-in-Record-clause-found
-returns-in-Record-clause-found g c = λ tells.
+returns-in-Record-clause-found g c = λ tells knows.
     let log = c.args.pages.now.log in
-    let read = rw (c.in-Record.is, c.pages.invariant.log, c.pages.invariant.reads.same) at (c.in_ok-end.ensures.read tells) in
-    c.pages.invariant.on tells
+    let read = rw (c.in-Record.is, c.pages.invariant.log, c.pages.invariant.reads.same) at (c.in_ok-end.ensures.read tells (c.pages.invariant.knows tells knows)) in
+    c.pages.invariant.on tells knows
     ∙ log_on (pages_of log (g.F.Tree.contents c.args.tree.now)) (bytes_of log.size) c.pages.place c.args.before (Spelled (record_of c.pages.place c.in-Record.end c.read_record.new.bytes.items))
     (omega (arith, log.size.is_size.least)) c.pages.invariant.low read
 
 pub returns-in-Stopped-Ends-clause-found : goal.returns-in-Stopped-Ends-clause-found
-returns-in-Stopped-Ends-clause-found g c = λ tells.
+returns-in-Stopped-Ends-clause-found g c = λ tells knows.
     let log = c.args.pages.now.log in
-    let read = rw (c.in-Stopped-Ends.is, c.in-Stopped-Ends.field-0-is, c.pages.invariant.log, c.pages.invariant.reads.same) at (c.in_ok-end.ensures.read tells) in
-    c.pages.invariant.on tells
+    let read = rw (c.in-Stopped-Ends.is, c.in-Stopped-Ends.field-0-is, c.pages.invariant.log, c.pages.invariant.reads.same) at (c.in_ok-end.ensures.read tells (c.pages.invariant.knows tells knows)) in
+    c.pages.invariant.on tells knows
     ∙ log_on (pages_of log (g.F.Tree.contents c.args.tree.now)) (bytes_of log.size) c.pages.place c.args.before (Stopped (Ends c.in-Stopped-Ends.why))
     (omega (arith, log.size.is_size.least)) c.pages.invariant.low read
 
@@ -38,9 +38,10 @@ pages-preserved g c =
       };
       up = omega (arith, from, c.place_at-place.ensures.up, c.pages.invariant.up);
       low = omega arith;
-      on = λ tells.
-          let read = rw (c.in-Stopped-Dropped.is, c.in-Stopped-Dropped.field-0-is, c.pages.invariant.log, c.pages.invariant.reads.same) at (c.in_ok-end.ensures.read tells) in
-          c.pages.invariant.on tells
+      knows = λ tells knows. c.read_record.ensures.knows tells (c.pages.invariant.knows tells knows);
+      on = λ tells knows.
+          let read = rw (c.in-Stopped-Dropped.is, c.in-Stopped-Dropped.field-0-is, c.pages.invariant.log, c.pages.invariant.reads.same) at (c.in_ok-end.ensures.read tells (c.pages.invariant.knows tells knows)) in
+          c.pages.invariant.on tells knows
           ∙ log_on (pages_of log (g.F.Tree.contents c.args.tree.now)) (bytes_of log.size) c.pages.place c.args.before (Stopped (Dropped c.in-Stopped-Dropped.page))
           (omega (arith, log.size.is_size.least)) c.pages.invariant.low read
           ∙ ap (log_from (pages_of log (g.F.Tree.contents c.args.tree.now)) (bytes_of log.size) c.args.before)

@@ -1,6 +1,7 @@
 use Rattle.std.proofs.Common.{◌≡◌, ◌-◌, ◌^◌, ◌≤◌, ◌<◌, IsTrue}
 use Rattle.cluster_tree.specs.Causes.{OnlyReads}
 use Rattle.wal_base.specs.Segment.{bytes_of}
+use Rattle.wal_pages.specs.Cursor.{Knows}
 use Rattle.wal_records.specs.Further.{pages_of}
 use Rattle.wal_records.specs.Log.{log_from}
 use Rattle.wal_records.proofs.search.find.Given as goal
@@ -14,7 +15,8 @@ invariant-pages g l =
       reads : OnlyReads g.F.Tree.contents g.F.Tree.calls g.F.Tree.failed_reads g.F.Tree.failed_changes l.fn.tree l.tree;
       up : l.fn.place ≤ l.place;
       low : l.place < 2 ^ 64;
-      on : IsTrue g.F.Tree.tells → log_from pages size l.before l.fn.place ≡ log_from pages size l.before l.place;
+      knows : IsTrue g.F.Tree.tells → Knows l.fn.pages (g.F.Tree.contents l.fn.tree) → Knows l.pages (g.F.Tree.contents l.tree);
+      on : IsTrue g.F.Tree.tells → Knows l.fn.pages (g.F.Tree.contents l.fn.tree) → log_from pages size l.before l.fn.place ≡ log_from pages size l.before l.place;
     }
 
 abbrev pub decreases-pages : goal.decreases-pages

@@ -5,31 +5,31 @@ use Rattle.wal_records.specs.Place.{place_at}
 use Rattle.wal_records.specs.Reading.{LogRecord, record_of}
 use Rattle.wal_records.specs.Cursor.{CursorView, IsWhole}
 use Rattle.wal_records.proofs.PartLemmas.{whole_record}
-use Rattle.wal_records.proofs.cursor.RecordCursor.next.Goals as goal
+use Rattle.wal_records.proofs.cursor.RecordCursor.next_unchanged.Goals as goal
 
-pub returns-in-Record-clause-moves : goal.returns-in-Record-clause-moves
-returns-in-Record-clause-moves g c =
-    let fits = (rw c.in-Record.is at c.in_ok-start.ensures).fits in
-    let is : c.new.result ≡ record_of c.in-Record.start c.in-Record.end c.find.new.bytes.items = c.new.ensures.value in
+pub returns-in-Ok-Record-clause-moves : goal.returns-in-Ok-Record-clause-moves
+returns-in-Ok-Record-clause-moves g c =
+    let fits = (rw c.in-Ok-Record.field-0-is at c.in-Ok-Record.ensures).fits in
+    let is : c.new.result ≡ record_of c.in-Ok-Record.start c.in-Ok-Record.end c.find.new.bytes.items = c.new.ensures.value in
     let view = ap (λ (v : CursorView). v.place) c.self.view_is in
     let start = ap (λ (r : LogRecord). r.start) is in
     let end = ap (λ (r : LogRecord). r.end) is in
     let total = ap (λ (r : LogRecord). r.header.total) is in
     record {
-      whole = subst IsWhole (sym is) (whole_record c.in-Record.start c.in-Record.end c.find.new.bytes.items fits.all);
+      whole = subst IsWhole (sym is) (whole_record c.in-Ok-Record.start c.in-Ok-Record.end c.find.new.bytes.items fits.all);
       later = omega (arith, fits.later, view, start);
       longer = omega (arith, fits.all.longer, fits.all.total, start, end, total);
       up = omega (arith, fits.later, view, fits.all.longer, fits.all.least, c.place_at.ensures.up);
       before = ap (λ n. Some n) (sym start);
       place =
           c.place_at.ensures.value
-          ∙ ap (λ s. place_at (bytes_of s) c.in-Record.end) (c.size-size.ensures.value ∙ ap (λ (l : LogPath). l.size) (c.find.ensures.log ∙ ap (λ (v : CursorView). v.log) c.self.view_is))
+          ∙ ap (λ s. place_at (bytes_of s) c.in-Ok-Record.end) (c.size-size.ensures.value ∙ ap (λ (l : LogPath). l.size) (c.find.ensures.log ∙ ap (λ (v : CursorView). v.log) c.self.view_is))
           ∙ ap (place_at (bytes_of c.args.self.now.log.size)) (sym end);
       within = omega arith;
       opened = c.in-None.is;
     }
 
-pub invariant_of-self-in-Record : goal.invariant_of-self-in-Record
-invariant_of-self-in-Record g c =
-    let fits = (rw c.in-Record.is at c.in_ok-start.ensures).fits in
-    subst IsWhole (sym c.new.ensures.value) (whole_record c.in-Record.start c.in-Record.end c.find.new.bytes.items fits.all)
+pub invariant_of-self-in-Ok-Record : goal.invariant_of-self-in-Ok-Record
+invariant_of-self-in-Ok-Record g c =
+    let fits = (rw c.in-Ok-Record.field-0-is at c.in-Ok-Record.ensures).fits in
+    subst IsWhole (sym c.new.ensures.value) (whole_record c.in-Ok-Record.start c.in-Ok-Record.end c.find.new.bytes.items fits.all)
