@@ -1,5 +1,5 @@
 //! Times the writer and the cursor of wal_records: a log is written record by record, put into the segment files of a tree
-//! in memory, and read back; beside the CRC-32C of its bytes.
+//! in memory, and read back in two ways; beside the CRC-32C of its bytes.
 //!
 //! Its one word says how many MiB the log has; without it, two. Standard output is the same in every run with that word,
 //! and the times go to standard error.
@@ -12,7 +12,7 @@ mod times;
 mod writing;
 
 use anyhow::{Context, Result};
-use reading::read_log;
+use reading::{Way, time_reading};
 use std::alloc::Alloc;
 use std::env;
 use std::rt::Env;
@@ -50,17 +50,19 @@ fn main(rt: HostRuntime) -> Result<()> {
     println!(rt; "{records} records from {begin} to {end}, in {len} bytes of crc32c {sum:08X}")?;
 
     let mut tree = tree_of(rt.alloc(), bytes)?;
-    let mut cursor = cursor_of(rt.alloc())?;
-    let start = Instant::now(&rt)?;
-    let read = read_log(&mut cursor, &mut tree, &supply)?;
-    let reading = micros_since(&rt, start)?;
+    let cursor = cursor_of(rt.alloc())?;
+    let (read, reading) = time_reading(&rt, cursor, &mut tree, &supply, Way::Anew)?;
     println!(rt; "{read}")?;
+    let cursor = cursor_of(rt.alloc())?;
+    let (again, unchanged) = time_reading(&rt, cursor, &mut tree, &supply, Way::Unchanged)?;
+    println!(rt; "unchanged: {again}")?;
 
     let pace = Pace {
         len: len as u64,
         writing,
         summing,
         reading,
+        unchanged,
     };
     eprintln!(rt; "{pace}")?;
     Ok(())

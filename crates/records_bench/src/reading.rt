@@ -1,11 +1,23 @@
 //! The log as it is read back.
 
 use crate::supply::Supply;
+use crate::times::micros_since;
 use anyhow::Result;
 use cluster_tree::Tree;
 use std::fmt;
+use std::rt::Clock;
+use std::time::Instant;
 use wal_base::Lsn;
-use wal_records::{RecordCursor, Step, Why};
+use wal_records::{LogFault, RecordCursor, Step, Why};
+
+/// By which call the records are read.
+#[derive(Clone, Copy)]
+pub enum Way {
+    /// `next`, which reads the page of each record from the tree.
+    Anew,
+    /// `next_unchanged`, which reads no page again.
+    Unchanged,
+}
 
 /// What was read.
 #[derive(Clone, Copy, Debug)]
@@ -38,15 +50,24 @@ fn is_supplied(cursor: &RecordCursor, supply: &Supply, number: u32) -> bool {
     }
 }
 
-/// Reads the log up to its end, and compares each record with what was appended.
-pub fn read_log<F: Tree>(
+/// Reads the next record in a way.
+fn step<F: Tree>(cursor: &mut RecordCursor, tree: &mut F, way: Way) -> Result<Step, LogFault> {
+    match way {
+        Way::Anew => cursor.next(tree),
+        Way::Unchanged => cursor.next_unchanged(tree),
+    }
+}
+
+/// Reads the log up to its end in a way, and compares each record with what was appended.
+fn read_log<F: Tree>(
     cursor: &mut RecordCursor,
     tree: &mut F,
     supply: &Supply,
+    way: Way,
 ) -> Result<ReadLog> {
     let mut others = 0u32;
     for number in 0..u32::MAX {
-        match cursor.next(tree)? {
+        match step(cursor, tree, way)? {
             Step::Record => {}
             Step::End(place, why) => {
                 return Ok(ReadLog {
@@ -62,4 +83,18 @@ pub fn read_log<F: Tree>(
         }
     }
     anyhow::bail!("the log is too long")
+}
+
+/// What a cursor reads in a way, and in how many microseconds.
+pub fn time_reading<F: Tree>(
+    clock: &impl Clock,
+    mut cursor: RecordCursor,
+    tree: &mut F,
+    supply: &Supply,
+    way: Way,
+) -> Result<(ReadLog, u64)> {
+    let start = Instant::now(clock)?;
+    let read = read_log(&mut cursor, tree, supply, way)?;
+    let micros = micros_since(clock, start)?;
+    Ok((read, micros))
 }

@@ -13,8 +13,10 @@ pub struct Pace {
     pub writing: u64,
     /// The CRC-32C of all bytes.
     pub summing: u64,
-    /// Reading all records.
+    /// Reading all records by `next`.
     pub reading: u64,
+    /// Reading all records by `next_unchanged`.
+    pub unchanged: u64,
 }
 
 /// Bytes in a microsecond, which are MB in a second.
@@ -25,12 +27,11 @@ fn rate(len: u64, micros: u64) -> u64 {
 impl fmt::Display for Pace {
     fn fmt<W: fmt::Write>(&self, f: &mut fmt::Formatter<W>) -> fmt::Result {
         let writing = rate(self.len, self.writing);
-        let summing = rate(self.len, self.summing);
         let reading = rate(self.len, self.reading);
-        write!(
-            f,
-            "written {writing} MB/s, read {reading} MB/s, summed {summing} MB/s"
-        )
+        let unchanged = rate(self.len, self.unchanged);
+        let summing = rate(self.len, self.summing);
+        write!(f, "written {writing} MB/s, read {reading} MB/s, ")?;
+        write!(f, "read unchanged {unchanged} MB/s, summed {summing} MB/s")
     }
 }
 
