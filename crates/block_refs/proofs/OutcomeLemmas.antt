@@ -1,5 +1,5 @@
 -- What an answer tells of a record's body.
-use Rattle.std.proofs.Common.{◌≡◌, ℕ, ◌⊎◌, inl, inr, List, Result, Ok, Err, refl, sym, ap, subst, ◌∙◌}
+use Rattle.std.proofs.Common.{◌≡◌, ℕ, ◌⊎◌, inl, inr, Result, Ok, Err, sym, ap, ◌∙◌}
 use Rattle.std.specs.Prelude.{IfOk}
 use Rattle.wal_base.specs.declared.lsn.Lsn.{Lsn}
 use Rattle.wal_records.specs.Reading.{LogRecord}
@@ -21,12 +21,6 @@ told_ok start (Ok p) parts e = ap (λ (x : PartsView). Ok x) (by p parts e)
     by : (x y : PartsView) → told start (Ok x) ≡ Ok y → x ≡ y
     by x y e = cc
 told_ok start (Err d) parts e = absurd cc
-
-same_record : (rec : LogRecord) (start : Lsn) (body : List ℕ) → start.0 ≡ rec.start → body ≡ rec.body → told start (parts_of body) ≡ record_parts rec
-same_record rec start body s b = rw (b, ← s) refl
-
-pub record_told : (rec : LogRecord) (start : Lsn) (body : List ℕ) (result : Told) → start.0 ≡ rec.start → body ≡ rec.body → Meets (told start (parts_of body)) result → Meets (record_parts rec) result
-record_told rec start body result s b h = subst (λ (m : Told). Meets m result) (same_record rec start body s b) h
 
 pub parts_told : (rec : LogRecord) (result : Told) → Meets (record_parts rec) result → IfOk result (λ parts. ArePartsOf rec parts)
 parts_told rec (Ok parts) h = told_ok (start_of rec) (parts_of rec.body) parts h

@@ -42,6 +42,10 @@ begun body = record {
   so_far = led_by_none (parts_from (suc (length body)) body nothing_seen);
 }
 
+-- no blocks were read so far
+pub begun_with : (body : List ℕ) (blocks : List Placed) → blocks ≡ [] → Reading body nothing_seen blocks
+begun_with body blocks none = rw none (begun body)
+
 main_within : (before announced : ℕ) (fragment : Fragment) → before ≤ announced → main_size before fragment ≤ announced + announced_by fragment
 main_within before announced (Block block size) h = omega arith
 main_within before announced (Main size) h = omega arith
@@ -107,3 +111,5 @@ stops body seen blocks d h e read = by h.fuel h.enough h.so_far
     by : (fuel : ℕ) → length body - seen.at < fuel → led_by blocks (parts_from fuel body seen) ≡ parts_of body → parts_of body ≡ Err d
     by zero enough so_far = absurd (omega arith)
     by (suc more) enough so_far = sym so_far ∙ ap (led_by blocks) (flaw_step body more seen d e read)
+
+pub ruleset reading_steps = (begun_with)

@@ -1,7 +1,20 @@
--- Forks of relations: PostgreSQL 16, src/include/common/relpath.h, ForkNumber.
-use Rattle.std.specs.Prelude.{ℕ, ◌==◌, Option, Some, None, if◌then◌else◌}
+-- Relations and their forks: PostgreSQL 16, src/include/common/relpath.h, ForkNumber; src/common/relpath.c, forkNames;
+-- src/backend/access/rmgrdesc/xlogdesc.c, XLogRecGetBlockRefInfo.
+use Rattle.std.specs.Prelude.{ℕ, ◌==◌, List, ◌++◌, codes, decimal, Option, Some, None, if◌then◌else◌}
 use Rattle.block_refs.specs.declared.names.Fork.{Fork}
 use Rattle.block_refs.specs.declared.names.Fork.TheVariants.{Main, FreeSpace, Visibility, Init}
+use Rattle.block_refs.specs.declared.names.RelName.{RelName}
+
+-- a relation: tablespace, database, number
+abbrev pub rel_text : RelName → List ℕ
+rel_text rel = decimal rel.space ++ (codes "/" ++ (decimal rel.database ++ (codes "/" ++ decimal rel.relation)))
+
+-- the name of a fork
+abbrev pub fork_name : Fork → List ℕ
+fork_name Main = codes "main"
+fork_name FreeSpace = codes "fsm"
+fork_name Visibility = codes "vm"
+fork_name Init = codes "init"
 
 -- the number of a fork
 abbrev pub fork_number : Fork → ℕ

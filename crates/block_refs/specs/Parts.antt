@@ -19,6 +19,10 @@ pub record PartsView : Type 0 where
   pub blocks : List Placed
   pub main : ℕ
 
+-- no parts: those of an empty body
+abbrev pub no_parts : PartsView
+no_parts = record { start = 0; blocks = []; main = 0 }
+
 -- before the first fragment
 abbrev pub nothing_seen : Seen
 nothing_seen = record { at = 0; announced = 0; before = None; main = 0 }

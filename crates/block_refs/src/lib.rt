@@ -10,6 +10,7 @@ mod laws;
 mod names;
 mod page;
 mod parts;
+mod reading;
 mod split;
 
 pub use block_ref::{BlockRef, ImageRef};
@@ -18,7 +19,7 @@ pub use laws::{bodies_have_one_reading, ids_rise, parts_fill_a_body};
 pub use names::{BlockName, Fork, RelName};
 pub use page::image_page;
 pub use parts::Parts;
-pub use split::split_record;
+pub use split::{split_into, split_record};
 
 #[cfg(test)]
 mod tests;

@@ -1,9 +1,12 @@
 //! Names of relations, of their forks and blocks.
 
 ghost use Rattle.std.specs.Prelude.{◌≡◌};
-ghost use Rattle.block_refs.specs.Names.{fork_of};
+ghost use Rattle.block_refs.specs.Names.{fork_name, fork_of};
 
-/// A relation by its files (`RelFileLocator`).
+use std::fmt;
+
+/// A relation by its files (`RelFileLocator`). It shows as its tablespace, its database and its
+/// number, as `1663/5/16384`.
 #[derive(Clone, Copy, Debug, PartialEq, Eq)]
 pub struct RelName {
     /// Its tablespace (`spcOid`).
@@ -12,6 +15,22 @@ pub struct RelName {
     pub database: u32,
     /// Its number (`relNumber`).
     pub relation: u32,
+}
+
+impl fmt::Display for RelName {
+    ghost use Rattle.std.specs.Prelude.{Some};
+    ghost use Rattle.block_refs.specs.Names.{rel_text};
+
+    ghost output = { λ rel. Some (rel_text rel) };
+
+    fn fmt<W: fmt::Write>(&self, f: &mut fmt::Formatter<W>) -> fmt::Result {
+        let RelName {
+            space,
+            database,
+            relation,
+        } = *self;
+        write!(f, "{space}/{database}/{relation}")
+    }
 }
 
 /// A fork of a relation (`ForkNumber`).
@@ -39,6 +58,18 @@ impl Fork {
             2 => Some(Fork::Visibility),
             3 => Some(Fork::Init),
             _ => None,
+        }
+    }
+
+    /// Its name, as files and options have it (`forkNames`): `main`, `fsm`, `vm` or `init`.
+    pub fn name(self) -> &'static str
+        ensures value { result.now ≡ fork_name self }
+    {
+        match self {
+            Fork::Main => "main",
+            Fork::FreeSpace => "fsm",
+            Fork::Visibility => "vm",
+            Fork::Init => "init",
         }
     }
 }

@@ -1,13 +1,18 @@
 //! The parts of a record.
 
-ghost use Rattle.std.specs.Prelude.{◌≡◌, ◌≤◌, ◌+◌, ◌<◌, ◌^◌, None, Some, length, option_map, MatchOption};
+ghost use Rattle.std.specs.Prelude.{◌≡◌, ◌≤◌, ◌+◌, ◌<◌, ◌^◌, None, Some, length, option_map, MatchOption, OnErr};
 ghost use Rattle.std.specs.List.{slice_get};
-ghost use Rattle.block_refs.specs.Parts.{ArePartsOf};
+ghost use Rattle.block_refs.specs.Parts.{ArePartsOf, no_parts, parts_of};
 ghost use Rattle.block_refs.specs.Bytes.{bytes_at, block_with, block_bytes, main_bytes, image_total};
+ghost use Rattle.block_refs.specs.Outcomes.{MeetsIn, told};
 
 use crate::block_ref::BlockRef;
+use crate::fault::PartsFault;
 use crate::fragment::Placed;
+use crate::reading::read_blocks;
+use std::alloc::Global;
 use std::marker::Model;
+use wal_base::Lsn;
 use wal_records::Record;
 
 /// The parts of a record: where they stand in its body, of which nothing is copied.
@@ -31,15 +36,36 @@ impl Model for Parts {
 }
 
 impl Parts {
-    /// Parts whose headers end at `start`, with these blocks, and main bytes from `main` on.
-    pub(crate) fn new(start: usize, blocks: Vec<Placed>, main: usize) -> Parts
-        requires few { image_total blocks.items < 2 ^ 32 }
-        ensures value { result ≡ record { start = start; blocks = blocks.items; main = main } }
+    /// No parts.
+    pub fn new(alloc: Global) -> Parts
+        ensures value { result ≡ no_parts }
     {
         Parts {
-            start,
-            blocks,
-            main,
+            start: 0,
+            blocks: Vec::new(alloc),
+            main: 0,
+        }
+    }
+
+    /// Reads the parts of the body of a record at `start`, in place of what is there. After an error
+    /// there are none.
+    pub(crate) fn read(&mut self, start: Lsn, body: &[u8]) -> Result<(), PartsFault>
+        requires small { length body.now < 2 ^ 31 }
+        ensures exact { MeetsIn (told start (parts_of body.now)) self.new result }
+        ensures none { OnErr result (self.new ≡ no_parts) }
+    {
+        match read_blocks(start, body, &mut self.blocks) {
+            Ok(bounds) => {
+                self.start = bounds.start;
+                self.main = bounds.main;
+                Ok(())
+            }
+            Err(fault) => {
+                self.start = 0;
+                self.blocks.clear();
+                self.main = 0;
+                Err(fault)
+            }
         }
     }
 

@@ -1,53 +1,37 @@
 //! A record's body, cut into its parts.
 
-ghost use Rattle.std.specs.Prelude.{◌≡◌, ◌⊎◌, ◌<◌, ◌^◌, ℕ, Ok, Err, length, IfOk};
+ghost use Rattle.std.specs.Prelude.{◌≡◌, ◌⊎◌, ℕ, Ok, Err, IfOk, OnErr, OnOk};
 ghost use Rattle.wal_base.specs.declared.lsn.Lsn.{Lsn};
 ghost use Rattle.block_refs.specs.declared.fault.Flaw.{Flaw};
 ghost use Rattle.block_refs.specs.declared.fault.Flaw.TheVariants as flaws;
 ghost use Rattle.block_refs.specs.declared.fault.PartsFault.TheVariants as faults;
-ghost use Rattle.block_refs.specs.Parts.{PartsView, ArePartsOf, parts_of};
+ghost use Rattle.block_refs.specs.Parts.{PartsView, ArePartsOf, no_parts};
 ghost use Rattle.block_refs.specs.Spelling.{HasParts, IsFirstFlaw};
-ghost use Rattle.block_refs.specs.Outcomes.{fault_of, start_of, told, record_parts, Meets};
+ghost use Rattle.block_refs.specs.Outcomes.{fault_of, start_of, record_parts, Meets, MeetsIn};
 
-use crate::fault::{PartsFault, fault_of};
-use crate::fragment::{Seen, add_placed, after, is_ended, piece_at};
+use crate::fault::PartsFault;
 use crate::parts::Parts;
 use std::alloc::Global;
-use wal_base::Lsn;
 use wal_records::Record;
 
-/// Before the first fragment.
-const NOTHING_SEEN: Seen = Seen {
-    at: 0,
-    announced: 0,
-    before: None,
-    main: 0,
-};
-
-/// The parts of the body of a record at `start`, header by header.
-fn read_parts(alloc: Global, start: Lsn, body: &[u8]) -> Result<Parts, PartsFault>
-    requires small { length body.now < 2 ^ 31 }
-    ensures { Meets (told start (parts_of body.now)) result }
+/// Reads the parts of a record into `parts`, in place of what is there and in its memory, so that
+/// parts which are used again take none after a while. Answers as `split_record` does, and after an
+/// error there are no parts.
+pub fn split_into(rec: &Record, parts: &mut Parts) -> Result<(), PartsFault>
+    ensures exact { MeetsIn (record_parts rec.now) parts.new result }
+    ensures parts { OnOk result (ArePartsOf rec.now parts.new) }
+    ensures none { OnErr result (parts.new ≡ no_parts) }
 {
-    let mut seen = NOTHING_SEEN;
-    let mut blocks = Vec::new(alloc);
-    while !is_ended(body, seen) {
-        let piece = match piece_at(body, seen) {
-            Ok(piece) => piece,
-            Err(flaw) => return Err(fault_of(start, flaw)),
-        };
-        add_placed(&mut blocks, seen.announced, piece.fragment)?;
-        seen = after(seen, piece);
-    }
-    let main = seen.at + seen.announced - seen.main as usize;
-    Ok(Parts::new(seen.at, blocks, main))
+    parts.read(rec.start(), rec.body())
 }
 
 /// The parts of a record.
 fn split(alloc: Global, rec: &Record) -> Result<Parts, PartsFault>
     ensures { Meets (record_parts rec.now) result }
 {
-    read_parts(alloc, rec.start(), rec.body())
+    let mut parts = Parts::new(alloc);
+    split_into(rec, &mut parts)?;
+    Ok(parts)
 }
 
 /// The parts of a record (`DecodeXLogRecord`).

@@ -1,10 +1,12 @@
 //! The tests, by what they are about, and the records that they split.
 
 mod faults;
+mod names;
 mod readings;
 
 use crate::{
-    BlockName, BlockRef, Fork, ImageRef, Parts, PartsFault, RelName, image_page, split_record,
+    BlockName, BlockRef, Fork, ImageRef, Parts, PartsFault, RelName, image_page, split_into,
+    split_record,
 };
 use cluster_tree::{MemoryTree, Path, Tree};
 use std::alloc::Global;

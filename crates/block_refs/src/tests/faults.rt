@@ -97,3 +97,16 @@ fn a_compressed_image_is_told(rt: HostRuntime) -> Result<(), Fail> {
     assert_eq!(rt; fault_with(rt.alloc(), 8, &[0x27])?, bad);
     Ok(())
 }
+
+#[test]
+fn no_parts_are_left_after_a_fault(rt: HostRuntime) -> Result<(), Fail> {
+    let good = cursor_with(rt.alloc(), &BODY)?;
+    let bad = cursor_with(rt.alloc(), &COMPRESSED)?;
+    let mut parts = Parts::new(rt.alloc());
+    split_into(good.current().ok_or("no record")?, &mut parts)?;
+    assert_eq!(rt; parts.count(), 2);
+    let fault = split_into(bad.current().ok_or("no record")?, &mut parts).err();
+    assert_eq!(rt; fault, Some(PartsFault::Compressed(START, 0)));
+    assert_eq!(rt; parts.count(), 0);
+    Ok(())
+}

@@ -191,3 +191,28 @@ fn main_bytes_are_the_last(rt: HostRuntime) -> Result<(), Fail> {
     }
     Ok(())
 }
+
+/// The first block reference after the parts of two bodies were read into the same place, and how
+/// many there are.
+fn first_of_second(
+    alloc: Global,
+    first: &[u8],
+    second: &[u8],
+) -> Result<(usize, Option<BlockRef>), Fail> {
+    let before = cursor_with(alloc, first)?;
+    let cursor = cursor_with(alloc, second)?;
+    let mut parts = Parts::new(alloc);
+    split_into(before.current().ok_or("no record")?, &mut parts)?;
+    split_into(cursor.current().ok_or("no record")?, &mut parts)?;
+    Ok((parts.count(), parts.get(0)))
+}
+
+#[test]
+fn parts_take_the_place_of_those_before(rt: HostRuntime) -> Result<(), Fail> {
+    let hint = hint_body(rt.alloc())?;
+    let found = first_of_second(rt.alloc(), &THREE_BLOCKS, &hint)?;
+    let expected = reference(0, TABLE, Fork::Main, 2, image(true, 24, 8168));
+    assert_eq!(rt; found, (1, Some(expected)));
+    assert_eq!(rt; first_of_second(rt.alloc(), &hint, &[])?, (0, None));
+    Ok(())
+}
