@@ -1,2 +1,5 @@
 pub mod ZeroLemmas
 pub mod ListLemmas
+pub mod NamingLemmas
+pub mod DistinctNames
+pub mod HexLemmas

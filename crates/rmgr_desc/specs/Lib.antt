@@ -1,5 +1,6 @@
 pub mod Pieces
 pub mod Managers
+pub mod Naming
 pub mod Operations
 pub mod Checkpoint
 pub mod Xlog

@@ -1,9 +1,6 @@
 -- Pieces that the texts of records are made of. Own: "Names and texts of operations".
 use Rattle.std.specs.Prelude.{ℕ, ◌/◌, ◌%◌, ◌==◌, List, [], ◌∷◌, ◌++◌, Option, None, Some, codes, decimal, if◌then◌else◌}
 use Rattle.wal_base.specs.Hex.{hex_text}
-use Rattle.block_refs.specs.declared.names.Fork.{Fork}
-use Rattle.block_refs.specs.declared.names.Fork.TheVariants.{Main, FreeSpace, Visibility, Init}
-use Rattle.block_refs.specs.declared.names.RelName.{RelName}
 
 -- %02X of a byte: its two digits
 abbrev pub hex2 : ℕ → List ℕ
@@ -16,17 +13,6 @@ flags_text flags = codes "0x" ++ hex2 flags
 -- a setting that is 0 or 1
 unfoldable pub switch_text : ℕ → List ℕ
 switch_text setting = if setting == 0 then codes "off" else codes "on"
-
--- a relation: tablespace, database, number
-abbrev pub rel_text : RelName → List ℕ
-rel_text rel = decimal rel.space ++ (codes "/" ++ (decimal rel.database ++ (codes "/" ++ decimal rel.relation)))
-
--- a fork: src/common/relpath.c, forkNames
-abbrev pub fork_name : Fork → List ℕ
-fork_name Main = codes "main"
-fork_name FreeSpace = codes "fsm"
-fork_name Visibility = codes "vm"
-fork_name Init = codes "init"
 
 -- a value with its name
 abbrev pub field : List ℕ → List ℕ → List ℕ

@@ -9,7 +9,8 @@ use Rattle.record_layouts.specs.declared.sequence.SequenceOp.TheVariants as sequ
 use Rattle.record_layouts.specs.declared.standby.RunningXacts.{RunningXacts}
 use Rattle.record_layouts.specs.declared.standby.StandbyOp.{StandbyOp}
 use Rattle.record_layouts.specs.declared.standby.StandbyOp.TheVariants as op
-use Rattle.rmgr_desc.specs.Pieces.{or_short, rel_text}
+use Rattle.block_refs.specs.Names.{rel_text}
+use Rattle.rmgr_desc.specs.Pieces.{or_short}
 
 -- RUNNING_XACTS
 abbrev pub running_text : RunningXacts → List ℕ

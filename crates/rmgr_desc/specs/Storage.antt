@@ -5,7 +5,8 @@ use Rattle.record_layouts.specs.declared.storage.StorageOp.{StorageOp}
 use Rattle.record_layouts.specs.declared.storage.StorageOp.TheVariants as op
 use Rattle.record_layouts.specs.declared.storage.StorageTruncate.{StorageTruncate}
 use Rattle.record_layouts.specs.Storage.{storage_create_of, storage_truncate_of}
-use Rattle.rmgr_desc.specs.Pieces.{fork_name, or_short, rel_text}
+use Rattle.block_refs.specs.Names.{fork_name, rel_text}
+use Rattle.rmgr_desc.specs.Pieces.{or_short}
 
 -- CREATE
 abbrev pub create_text : StorageCreate → List ℕ

@@ -9,7 +9,8 @@ use Rattle.record_layouts.specs.declared.end_parts.Outcome.TheVariants.{Commit, 
 use Rattle.record_layouts.specs.declared.transaction.Assignment.{Assignment}
 use Rattle.record_layouts.specs.declared.transaction.TransactionOp.{TransactionOp}
 use Rattle.record_layouts.specs.declared.transaction.TransactionOp.TheVariants as op
-use Rattle.rmgr_desc.specs.Pieces.{or_short, rel_text}
+use Rattle.block_refs.specs.Names.{rel_text}
+use Rattle.rmgr_desc.specs.Pieces.{or_short}
 
 -- each with a space before it
 abbrev pub spaced : {A : Type 0} → (A → List ℕ) → List A → List ℕ

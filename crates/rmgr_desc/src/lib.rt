@@ -11,6 +11,7 @@ mod heap2;
 mod managers;
 mod multixact;
 mod names;
+mod naming;
 mod operations;
 mod pieces;
 mod relmap;
@@ -22,7 +23,9 @@ mod xlog;
 
 pub use description::{add_description, describe};
 pub use managers::{add_manager_name, manager_name};
+pub use naming::{a_name_is_one_manager, manager_named};
 pub use operations::{add_operation_name, operation_name};
+pub use pieces::hex_digit;
 
 #[cfg(test)]
 mod tests;

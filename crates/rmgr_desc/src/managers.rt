@@ -42,7 +42,7 @@ fn add_name(text: &mut String, manager: u8) -> Result<(), AllocError>
     write!(text, "custom{manager}")
 }
 
-fn listed_name(manager: u8) -> &'static str
+pub(crate) fn listed_name(manager: u8) -> &'static str
     requires { manager < 22 }
     ensures { result.now ≡ get_or manager_names manager [] }
 {

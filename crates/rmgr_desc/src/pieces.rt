@@ -1,12 +1,38 @@
 //! Pieces that the texts of records are made of.
 
-ghost use Rattle.std.specs.Prelude.{◌≡◌, ◌++◌, [], IfOk, OnErr, codes, is_ok, string_bytes};
-ghost use Rattle.rmgr_desc.specs.Pieces.{fork_name, switch_text};
+ghost use Rattle.std.specs.Prelude.{◌≡◌, ◌<◌, ◌++◌, [], IfOk, OnErr, codes, is_ok, string_bytes};
+ghost use Rattle.wal_base.specs.Hex.{hex_text};
+ghost use Rattle.rmgr_desc.specs.Pieces.{switch_text};
 
-use block_refs::{Fork, RelName};
 use std::alloc::AllocError;
 use std::fmt;
 use wal_base::OutOfMemory;
+
+/// The digit of a number below 16 in hexadecimal, `0` to `F`.
+#[tactic(auto, using(crate::proofs::HexLemmas::digit_steps))]
+pub fn hex_digit(number: u8) -> &'static str
+    requires { number < 16 }
+    ensures { result.now ≡ hex_text number }
+{
+    match number {
+        0 => "0",
+        1 => "1",
+        2 => "2",
+        3 => "3",
+        4 => "4",
+        5 => "5",
+        6 => "6",
+        7 => "7",
+        8 => "8",
+        9 => "9",
+        10 => "A",
+        11 => "B",
+        12 => "C",
+        13 => "D",
+        14 => "E",
+        _ => "F",
+    }
+}
 
 /// A byte, which shows as its two hexadecimal digits.
 #[derive(Clone, Copy)]
@@ -19,9 +45,9 @@ impl fmt::Display for HexByte {
     ghost output = { λ byte. Some (hex2 byte.0) };
 
     fn fmt<W: fmt::Write>(&self, f: &mut fmt::Formatter<W>) -> fmt::Result {
-        let high = self.0 / 16;
-        let low = self.0 % 16;
-        write!(f, "{high:X}{low:X}")
+        let high = hex_digit(self.0 / 16);
+        let low = hex_digit(self.0 % 16);
+        write!(f, "{high}{low}")
     }
 }
 
@@ -36,40 +62,9 @@ impl fmt::Display for Flags {
     ghost output = { λ flags. Some (flags_text flags.0) };
 
     fn fmt<W: fmt::Write>(&self, f: &mut fmt::Formatter<W>) -> fmt::Result {
-        let byte = HexByte(self.0);
-        write!(f, "0x{byte}")
-    }
-}
-
-/// A relation, which shows as its tablespace, its database and its number.
-#[derive(Clone, Copy)]
-pub struct Rel(pub RelName);
-
-impl fmt::Display for Rel {
-    ghost use Rattle.std.specs.Prelude.{Some};
-    ghost use Rattle.rmgr_desc.specs.Pieces.{rel_text};
-
-    ghost output = { λ rel. Some (rel_text rel.0) };
-
-    fn fmt<W: fmt::Write>(&self, f: &mut fmt::Formatter<W>) -> fmt::Result {
-        let RelName {
-            space,
-            database,
-            relation,
-        } = self.0;
-        write!(f, "{space}/{database}/{relation}")
-    }
-}
-
-/// The name of a fork.
-pub fn fork_name(fork: Fork) -> &'static str
-    ensures { result.now ≡ fork_name fork }
-{
-    match fork {
-        Fork::Main => "main",
-        Fork::FreeSpace => "fsm",
-        Fork::Visibility => "vm",
-        Fork::Init => "init",
+        let high = hex_digit(self.0 / 16);
+        let low = hex_digit(self.0 % 16);
+        write!(f, "0x{high}{low}")
     }
 }
 

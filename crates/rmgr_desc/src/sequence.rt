@@ -5,7 +5,7 @@ ghost use Rattle.record_layouts.specs.Sequence.{sequence_log_of};
 ghost use Rattle.rmgr_desc.specs.Pieces.{or_short};
 ghost use Rattle.rmgr_desc.specs.Standby.{sequence_log_text, sequence_text};
 
-use crate::pieces::{Rel, add_short};
+use crate::pieces::add_short;
 use record_layouts::{SequenceLog, SequenceOp};
 use std::alloc::AllocError;
 
@@ -27,6 +27,6 @@ fn add_log(text: &mut String, main: &[u8]) -> Result<(), AllocError>
     let Some(log) = SequenceLog::read(main) else {
         return add_short(text);
     };
-    let rel = Rel(log.rel);
+    let rel = log.rel;
     write!(text, "rel {rel}")
 }

@@ -5,7 +5,7 @@ ghost use Rattle.rmgr_desc.specs.Pieces.{or_short};
 ghost use Rattle.rmgr_desc.specs.Storage.{create_text, cut_text, storage_text};
 ghost use Rattle.record_layouts.specs.Storage.{storage_create_of, storage_truncate_of};
 
-use crate::pieces::{Rel, add_short, fork_name};
+use crate::pieces::add_short;
 use record_layouts::{StorageCreate, StorageOp, StorageTruncate};
 use std::alloc::AllocError;
 
@@ -28,8 +28,8 @@ fn add_create(text: &mut String, main: &[u8]) -> Result<(), AllocError>
     let Some(create) = StorageCreate::read(main) else {
         return add_short(text);
     };
-    let rel = Rel(create.rel);
-    let fork = fork_name(create.fork);
+    let rel = create.rel;
+    let fork = create.fork.name();
     write!(text, "rel {rel} fork {fork}")
 }
 
@@ -40,7 +40,7 @@ fn add_cut(text: &mut String, main: &[u8]) -> Result<(), AllocError>
     let Some(cut) = StorageTruncate::read(main) else {
         return add_short(text);
     };
-    let rel = Rel(cut.rel);
+    let rel = cut.rel;
     let blocks = cut.blocks;
     let flags = cut.flags;
     write!(text, "rel {rel} to {blocks} blocks flags {flags}")

@@ -1,12 +1,13 @@
 //! Texts of the manager Transaction.
 
 ghost use Rattle.std.specs.Prelude.{◌≡◌, ◌++◌, IfOk, decimal, option_to_list, slice_get, string_bytes};
+ghost use Rattle.block_refs.specs.Names.{rel_text};
 ghost use Rattle.record_layouts.specs.End.{end_of};
 ghost use Rattle.record_layouts.specs.Transaction.{assignment_of};
-ghost use Rattle.rmgr_desc.specs.Pieces.{or_short, rel_text};
+ghost use Rattle.rmgr_desc.specs.Pieces.{or_short};
 ghost use Rattle.rmgr_desc.specs.Transaction.{assignment_text, end_text, listed, spaced, time_text, transaction_text};
 
-use crate::pieces::{Rel, add_short};
+use crate::pieces::add_short;
 use block_refs::RelName;
 use record_layouts::{Assignment, Items, Outcome, TransactionEnd, TransactionOp};
 use std::alloc::AllocError;
@@ -60,10 +61,7 @@ fn add_rel(text: &mut String, rels: &Items<RelName>, at: usize) -> Result<(), Al
         ≡ string_bytes text.old ++ spaced rel_text (option_to_list (slice_get rels.now at))) }
 {
     match rels.get(at) {
-        Some(rel) => {
-            let rel = Rel(rel);
-            write!(text, " {rel}")
-        }
+        Some(rel) => write!(text, " {rel}"),
         None => Ok(()),
     }
 }

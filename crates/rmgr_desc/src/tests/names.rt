@@ -1,6 +1,6 @@
 //! Names of managers, and of operations that are in no table.
 use super::*;
-use crate::{add_manager_name, add_operation_name};
+use crate::{add_manager_name, add_operation_name, manager_named};
 use std::test::*;
 
 #[test]
@@ -89,6 +89,35 @@ fn other_operations_have_no_text(rt: HostRuntime) -> Result<(), Fail> {
     for (manager, info) in [(0, 0xC0), (1, 0x70), (12, 0x00), (21, 0x00), (128, 0x20)] {
         let text = text_of(rt.alloc(), manager, info, &[0; 40])?;
         assert_eq!(rt; text.as_str(), "", "{manager}");
+    }
+    Ok(())
+}
+
+/// The names are those of `src/include/access/rmgrlist.h`, in other cases too.
+#[test]
+fn managers_are_named(rt: HostRuntime) -> Result<(), Fail> {
+    let rows = [
+        ("XLOG", Some(0)),
+        ("xlog", Some(0)),
+        ("Heap2", Some(9)),
+        ("HEAP", Some(10)),
+        ("logicalmessage", Some(21)),
+        ("custom128", Some(128)),
+        ("CusTom209", Some(209)),
+        ("custom255", Some(255)),
+        ("", None),
+        ("list", None),
+        ("Heap3", None),
+        ("Heap ", None),
+        ("UNKNOWN", None),
+        ("custom", None),
+        ("custom127", None),
+        ("custom256", None),
+        ("custom0128", None),
+        ("custom1280", None),
+    ];
+    for (name, manager) in rows {
+        assert_eq!(rt; manager_named(name), manager);
     }
     Ok(())
 }

@@ -1,5 +1,5 @@
 use Rattle.std.proofs.Common.{◌≡◌, ◌++◌, string_bytes, take}
-use Rattle.rmgr_desc.specs.Pieces.{rel_text}
+use Rattle.block_refs.specs.Names.{rel_text}
 use Rattle.rmgr_desc.specs.Transaction.{spaced}
 use Rattle.rmgr_desc.proofs.transaction.add_rels.Given as goal
 
