@@ -4,3 +4,4 @@ pub mod PlaceLemmas
 pub mod SelectedLemmas
 pub mod ShownLemmas
 pub mod StepLemmas
+pub mod ToldLemmas

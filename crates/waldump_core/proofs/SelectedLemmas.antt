@@ -1,5 +1,5 @@
 -- A dump, record by record, shows what is selected of all.
-use Rattle.std.proofs.Common.{◌≡◌, ℕ, zero, suc, ◌+◌, ◌-◌, ◌<◌, ◌==◌, ◌⊎◌, Bool, true, false, not, cond, is_ok, nat_lt, List, [], ◌∷◌, ◌++◌, take, Option, Some, None, Result, Ok, Err, refl, ap, sym, ◌∙◌, arith, inl, inr, append-nil}
+use Rattle.std.proofs.Common.{◌≡◌, ℕ, zero, suc, ◌+◌, ◌-◌, ◌<◌, ◌==◌, ◌⊎◌, Bool, true, false, cond, is_ok, nat_lt, List, [], ◌∷◌, ◌++◌, take, Option, Some, None, Result, Ok, Err, refl, ap, sym, ◌∙◌, arith, inl, inr}
 use Rattle.std.specs.Prelude.{filter, if◌then◌else◌}
 use Rattle.std.specs.List.{flat_map}
 use Rattle.std.proofs.lemmas.Bool.Decides.{nat_tests}
@@ -10,19 +10,18 @@ use Rattle.wal_base.specs.declared.lsn.Lsn.{Lsn}
 use Rattle.block_refs.specs.declared.fault.PartsFault.{PartsFault}
 use Rattle.block_refs.specs.Outcomes.{record_parts}
 use Rattle.block_refs.specs.Parts.{PartsView}
-use Rattle.waldump_core.specs.declared.dumped.Dumped.{Dumped}
 use Rattle.waldump_core.specs.declared.fault.DumpFault.{DumpFault}
 use Rattle.waldump_core.specs.declared.progress.Progress.{Progress}
 use Rattle.waldump_core.specs.declared.progress.Turn.{Turn}
 use Rattle.waldump_core.specs.declared.progress.Turn.TheVariants.{Goes, Stops}
 use Rattle.waldump_core.specs.declared.selection.Selection.{Selection}
-use Rattle.waldump_core.specs.Dump.{Dump, Shown, answered, at_lsn, at_stop, after, after_turn, behind_shown, is_before, nothing_shown, read_turn, selected_turn, shown_text, shows_nothing, turn_at, dump_of_records, dump_behind}
+use Rattle.waldump_core.specs.Dump.{Dump, at_lsn, at_stop, after, after_turn, behind_shown, is_before, nothing_shown, read_turn, selected_turn, shown_text, turn_at, dump_of_records}
 use Rattle.waldump_core.specs.Line.{line_text}
 use Rattle.waldump_core.specs.Selecting.{meets}
-use Rattle.waldump_core.specs.Selected.{front, is_from, has_parts, readable, is_met, is_selected, line_with, line_of, within, ShowsSelected}
+use Rattle.waldump_core.specs.Selected.{readable, is_met, is_selected, line_with, line_of, within, ShowsSelected}
 
 -- those still to be shown, behind so many
-abbrev rest_within : ℕ → ℕ → List LogRecord → List LogRecord
+abbrev pub rest_within : ℕ → ℕ → List LogRecord → List LogRecord
 rest_within limit shown records = if limit == 0 then records else take (limit - shown) records
 
 abbrev lines_in : Selection → ℕ → List LogRecord → List ℕ
@@ -41,10 +40,10 @@ none_at_stop start shown None rest = refl
 none_at_stop start shown (Some end) rest = refl
 
 -- a limit that isn't reached yet
-abbrev Room : ℕ → ℕ → Type 0
+abbrev pub Room : ℕ → ℕ → Type 0
 Room limit shown = (limit ≡ 0) ⊎ (shown < limit)
 
-one_more : (limit shown : ℕ) (r : LogRecord) (records : List LogRecord) → Room limit shown → rest_within limit shown (r ∷ records) ≡ r ∷ rest_within limit (shown + 1) records
+pub one_more : (limit shown : ℕ) (r : LogRecord) (records : List LogRecord) → Room limit shown → rest_within limit shown (r ∷ records) ≡ r ∷ rest_within limit (shown + 1) records
 one_more limit shown r records (inl none) = rw none refl
 one_more limit shown r records (inr room) =
     let some : (limit == 0) ≡ false = grind (arith, nat_tests) in
@@ -52,11 +51,11 @@ one_more limit shown r records (inr room) =
     rw (some, less) refl
 
 -- what is left behind a record that was shown: nothing at the limit
-room_more : (limit shown : ℕ) → Room limit shown → (shown + 1 == limit) ≡ false → Room limit (shown + 1)
+pub room_more : (limit shown : ℕ) → Room limit shown → (shown + 1 == limit) ≡ false → Room limit (shown + 1)
 room_more limit shown (inl none) other = inl none
 room_more limit shown (inr room) other = let differs : (shown + 1 ≡ limit) → ⊥ = λ same. absurd (grind (arith, nat_tests)) in inr (grind (arith, nat_tests))
 
-at_limit : (limit shown : ℕ) (records : List LogRecord) → (shown + 1 == limit) ≡ true → rest_within limit (shown + 1) records ≡ []
+pub at_limit : (limit shown : ℕ) (records : List LogRecord) → (shown + 1 == limit) ≡ true → rest_within limit (shown + 1) records ≡ []
 at_limit limit shown records full =
     let some : (limit == 0) ≡ false = grind (arith, nat_tests) in
     let none : limit - (shown + 1) ≡ 0 = grind (arith, nat_tests) in
@@ -68,7 +67,7 @@ text_behind : (sel : Selection) (shown : ℕ) (end : Lsn) (records : List LogRec
 text_behind sel shown end records rest true full room follows = rw full (sym (ap (flat_map (line_of sel)) (at_limit sel.limit shown (filter (is_selected sel) records) full)))
 text_behind sel shown end records rest false more room follows = rw more (follows (record { shown = shown + 1; end = Some end }) (room_more sel.limit shown room more))
 
-picked : (sel : Selection) (r : LogRecord) (records : List LogRecord) (b : Bool) → is_selected sel r ≡ b → filter (is_selected sel) (r ∷ records) ≡ cond b (r ∷ filter (is_selected sel) records) (filter (is_selected sel) records)
+pub picked : (sel : Selection) (r : LogRecord) (records : List LogRecord) (b : Bool) → is_selected sel r ≡ b → filter (is_selected sel) (r ∷ records) ≡ cond b (r ∷ filter (is_selected sel) records) (filter (is_selected sel) records)
 picked sel r records b is = ap (λ (c : Bool). cond c (r ∷ filter (is_selected sel) records) (filter (is_selected sel) records)) is
 
 lines_more : (sel : Selection) (shown : ℕ) (r : LogRecord) (records : List LogRecord) → is_selected sel r ≡ true → Room sel.limit shown → lines_in sel shown (r ∷ records) ≡ line_of sel r ++ lines_in sel (shown + 1) records
@@ -149,11 +148,11 @@ quiet_is size sel place why (r ∷ records) quiet p =
     (quiet_at size sel p r (nat_lt r.start sel.start.0) (is_before size sel.stop r) refl refl quiet)
     (quiet_rest (turn_at size sel p r).outcome (dump_of_records size sel place why records) (quiet_is size sel place why records quiet))
 
-start_room : (limit : ℕ) → Room limit 0
+pub start_room : (limit : ℕ) → Room limit 0
 start_room zero = inl refl
 start_room (suc n) = inr (omega arith)
 
-all_within : (limit : ℕ) (records : List LogRecord) → rest_within limit 0 records ≡ within limit records
+pub all_within : (limit : ℕ) (records : List LogRecord) → rest_within limit 0 records ≡ within limit records
 all_within limit records = let same : limit - 0 ≡ limit = omega arith in rw same refl
 
 pub shows_selected : (size : ℕ) (sel : Selection) (log : Log) → ShowsSelected size sel log

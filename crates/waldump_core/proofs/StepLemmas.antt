@@ -10,7 +10,6 @@ use Rattle.wal_records.specs.declared.cursor.Step.TheVariants as steps
 use Rattle.wal_records.specs.declared.why.Why.{Why}
 use Rattle.wal_records.specs.Log.{Log, ended, with_first}
 use Rattle.wal_records.specs.Reading.{LogRecord}
-use Rattle.waldump_core.specs.declared.dumped.Dumped.{Dumped}
 use Rattle.waldump_core.specs.declared.fault.DumpFault.{DumpFault}
 use Rattle.waldump_core.specs.declared.fault.DumpFault.TheVariants as fault
 use Rattle.waldump_core.specs.declared.progress.Progress.{Progress}

@@ -1,13 +1,13 @@
 -- Block references as pg_waldump shows them: PostgreSQL 16, src/backend/access/rmgrdesc/xlogdesc.c,
 -- XLogRecGetBlockRefInfo.
-use Rattle.std.specs.Prelude.{ℕ, Bool, true, false, List, [], ◌∷◌, ◌++◌, Option, None, Some, codes, decimal, if◌then◌else◌}
+use Rattle.std.specs.Prelude.{ℕ, Bool, true, false, List, [], ◌++◌, Option, None, Some, codes, decimal, if◌then◌else◌}
 use Rattle.std.specs.List.{flat_map}
 use Rattle.block_refs.specs.declared.block_ref.BlockRef.{BlockRef}
 use Rattle.block_refs.specs.declared.block_ref.ImageRef.{ImageRef}
 use Rattle.block_refs.specs.declared.fragment.Placed.{Placed}
+use Rattle.block_refs.specs.Names.{fork_name, rel_text}
 use Rattle.block_refs.specs.declared.names.Fork.{Fork}
 use Rattle.block_refs.specs.declared.names.Fork.TheVariants.{Main, FreeSpace, Visibility, Init}
-use Rattle.rmgr_desc.specs.Pieces.{fork_name, rel_text}
 
 -- the fork of a block, which isn't named where it is the main one
 abbrev pub fork_mark : Fork → List ℕ

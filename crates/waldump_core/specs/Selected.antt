@@ -1,13 +1,15 @@
 -- What a dump shows, said of the whole list of a log's records.
-use Rattle.std.specs.Prelude.{ℕ, ◌==◌, ◌≡◌, Bool, true, false, not, is_ok, List, [], ◌∷◌, filter, take, nat_lt, if◌then◌else◌, Result, Ok, Err}
+use Rattle.std.specs.Prelude.{ℕ, ◌-◌, ◌==◌, ◌≡◌, Bool, true, false, not, is_ok, List, [], ◌∷◌, filter, length, take, nat_lt, if◌then◌else◌, Option, None, Some, Result, Ok, Err}
 use Rattle.std.specs.List.{flat_map}
 use Rattle.wal_records.specs.Log.{Log}
 use Rattle.wal_records.specs.Reading.{LogRecord}
 use Rattle.block_refs.specs.declared.fault.PartsFault.{PartsFault}
 use Rattle.block_refs.specs.Outcomes.{record_parts}
 use Rattle.block_refs.specs.Parts.{PartsView}
+use Rattle.wal_base.specs.declared.lsn.Lsn.{Lsn}
+use Rattle.waldump_core.specs.declared.dumped.Dumped.{Dumped}
 use Rattle.waldump_core.specs.declared.selection.Selection.{Selection}
-use Rattle.waldump_core.specs.Dump.{is_before, dump_behind, nothing_shown}
+use Rattle.waldump_core.specs.Dump.{at_lsn, is_before, dump_behind, nothing_shown}
 use Rattle.waldump_core.specs.Line.{line_text}
 use Rattle.waldump_core.specs.Selecting.{meets}
 
@@ -47,8 +49,32 @@ line_of sel r = line_with sel r (record_parts r)
 abbrev pub within : ℕ → List LogRecord → List LogRecord
 within limit records = if limit == 0 then records else take limit records
 
--- The text of a dump that isn't quiet: the lines, in the order of the log, of the first records, up to the limit, that are
--- selected among those that may be shown. That of a quiet dump is empty.
+-- The records that a dump shows: of those that it may show, the first that are selected, up to the limit.
+abbrev pub selected : ℕ → Selection → List LogRecord → List LogRecord
+selected size sel records = within sel.limit (filter (is_selected sel) (readable size sel records))
+
+-- The text of a dump that isn't quiet: the lines of the records that it shows, in the order of the log. That of a quiet dump is
+-- empty.
 pub record ShowsSelected (size : ℕ) (sel : Selection) (log : Log) : Type 0 where
-  pub lines : sel.quiet ≡ false → (dump_behind size sel nothing_shown log).text ≡ flat_map (line_of sel) (within sel.limit (filter (is_selected sel) (readable size sel log.records)))
+  pub lines : sel.quiet ≡ false → (dump_behind size sel nothing_shown log).text ≡ flat_map (line_of sel) (selected size sel log.records)
   pub quiet : sel.quiet ≡ true → (dump_behind size sel nothing_shown log).text ≡ []
+
+-- those from the front on, up to the last of so many that pass a test; all of them where fewer pass, or where 0 are asked for
+abbrev pub up_to : {X : Type 0} → ℕ → (X → Bool) → List X → List X
+up_to n test [] = []
+up_to n test (x ∷ xs) = if test x then (if n == 1 then x ∷ [] else x ∷ up_to (n - 1) test xs) else x ∷ up_to n test xs
+
+-- The records that a dump walks over from the start on: those that it may show, up to the one that fills the limit.
+abbrev pub walked : ℕ → Selection → List LogRecord → List LogRecord
+walked size sel records = up_to sel.limit (is_selected sel) (readable size sel records)
+
+-- where the last of some records ends; without one, where it was before
+abbrev pub end_behind : Option Lsn → List LogRecord → Option Lsn
+end_behind before [] = before
+end_behind before (r ∷ rest) = end_behind (Some (at_lsn r.end)) rest
+
+-- What a dump that isn't refused answers: how many records it shows, or would if it weren't quiet, and where the last one
+-- ends that it walked over.
+pub record TellsSelected (size : ℕ) (sel : Selection) (log : Log) : Type 0 where
+  pub shown : (dumped : Dumped) → (dump_behind size sel nothing_shown log).answer ≡ Ok dumped → dumped.shown ≡ length (selected size sel log.records)
+  pub end : (dumped : Dumped) → (dump_behind size sel nothing_shown log).answer ≡ Ok dumped → end_behind None (walked size sel log.records) ≡ Some dumped.end

@@ -1,5 +1,5 @@
 -- What one step of a dump gives of what is still to be shown.
-use Rattle.std.specs.Prelude.{ℕ, ◌≡◌, ◌+◌, ◌<◌, ◌≤◌, ◌^◌, List, ◌++◌, None, Ok, Err}
+use Rattle.std.specs.Prelude.{ℕ, ◌≡◌, ◌+◌, ◌<◌, ◌≤◌, ◌^◌, List, None, Ok}
 use Rattle.cluster_tree.specs.Contents.{Contents}
 use Rattle.wal_base.specs.Segment.{bytes_of}
 use Rattle.wal_records.specs.Cursor.{CursorView, to_come}

@@ -9,6 +9,7 @@ mod last_byte;
 mod laws;
 mod line;
 mod lines;
+mod position;
 mod progress;
 mod refs;
 mod selection;
@@ -17,7 +18,7 @@ mod walk;
 
 pub use dumped::Dumped;
 pub use fault::DumpFault;
-pub use laws::dump_shows_what_is_selected;
+pub use laws::{dump_shows_what_is_selected, dump_tells_what_is_selected};
 pub use selection::Selection;
 pub use walk::dump;
 

@@ -1,11 +1,11 @@
 //! The line of a record.
 
-ghost use Rattle.std.specs.Prelude.{◌≡◌, ◌++◌, IfOk, replicate, string_bytes};
-ghost use Rattle.wal_base.specs.Lsn.{lsn_padded};
+ghost use Rattle.std.specs.Prelude.{◌≡◌, ◌≤◌, ◌++◌, IfOk, replicate, string_bytes};
 ghost use Rattle.block_refs.specs.Parts.{ArePartsOf};
 ghost use Rattle.rmgr_desc.specs.Managers.{manager_name_of};
 ghost use Rattle.waldump_core.specs.Line.{head_text, left_in, line_text, places_text, sizes_text};
 
+use crate::position::add_lsn;
 use crate::refs::add_refs;
 use block_refs::Parts;
 use rmgr_desc::{add_description, add_manager_name, add_operation_name};
@@ -16,23 +16,25 @@ use wal_records::{Record, RecordHeader};
 /// How wide the column of the managers' names is.
 const NAMES: usize = 11;
 
-/// Adds a position, with eight digits behind the slash.
-fn add_lsn(text: &mut String, at: Lsn) -> Result<(), AllocError>
-    ensures { IfOk result (λ _. string_bytes text.new ≡ string_bytes text.old ++ lsn_padded at.0) }
+/// So many spaces.
+fn spaces(count: usize) -> &'static str
+    requires { count ≤ 11 }
+    ensures { result.now ≡ replicate count 32 }
 {
-    let high = at.0 >> 32;
-    let low = at.0 % 0x1_0000_0000;
-    write!(text, "{high:X}/{low:08X}")
-}
-
-/// Adds so many spaces.
-fn add_spaces(text: &mut String, count: usize) -> Result<(), AllocError>
-    ensures { IfOk result (λ _. string_bytes text.new ≡ string_bytes text.old ++ replicate count 32) }
-{
-    for _space in 0..count {
-        text.push(' ')?;
+    match count {
+        0 => "",
+        1 => " ",
+        2 => "  ",
+        3 => "   ",
+        4 => "    ",
+        5 => "     ",
+        6 => "      ",
+        7 => "       ",
+        8 => "        ",
+        9 => "         ",
+        10 => "          ",
+        _ => "           ",
     }
-    Ok(())
 }
 
 /// Adds the name of a manager, and spaces up to the end of its column.
@@ -44,7 +46,7 @@ fn add_name(text: &mut String, manager: u8) -> Result<(), OutOfMemory>
     let from = text.len();
     add_manager_name(text, manager)?;
     let used = text.len().saturating_sub(from);
-    add_spaces(text, NAMES.saturating_sub(used))?;
+    text.push_str(spaces(NAMES.saturating_sub(used)))?;
     Ok(())
 }
 

@@ -1,23 +1,11 @@
 //! Block references as lines show them.
 
-ghost use Rattle.std.specs.Prelude.{◌≡◌, ◌++◌, IfOk, codes, option_to_list, string_bytes};
+ghost use Rattle.std.specs.Prelude.{◌≡◌, ◌++◌, IfOk, option_to_list, string_bytes};
 ghost use Rattle.std.specs.List.{flat_map, slice_get};
-ghost use Rattle.rmgr_desc.specs.Pieces.{fork_name, rel_text};
 ghost use Rattle.waldump_core.specs.Refs.{fork_mark, image_mark, image_text, image_word, long_ref, long_text, refs_text, short_ref, short_text};
 
-use block_refs::{BlockRef, Fork, ImageRef, Parts, RelName};
+use block_refs::{BlockName, BlockRef, Fork, ImageRef, Parts};
 use std::alloc::AllocError;
-
-fn fork_name(fork: Fork) -> &'static str
-    ensures { result.now ≡ fork_name fork }
-{
-    match fork {
-        Fork::Main => "main",
-        Fork::FreeSpace => "fsm",
-        Fork::Visibility => "vm",
-        Fork::Init => "init",
-    }
-}
 
 /// What names a fork within a line.
 fn fork_mark(fork: Fork) -> &'static str
@@ -57,30 +45,20 @@ fn image_word(image: ImageRef) -> &'static str
     }
 }
 
-/// Adds a relation: tablespace, database, number.
-fn add_rel(text: &mut String, rel: RelName) -> Result<(), AllocError>
-    ensures { IfOk result (λ _. string_bytes text.new ≡ string_bytes text.old ++ rel_text rel) }
-{
-    let RelName {
-        space,
-        database,
-        relation,
-    } = rel;
-    write!(text, "{space}/{database}/{relation}")
-}
-
 /// Adds a block reference within the line of its record.
 #[tactic(auto, unfolding(crate::specs::Refs::short_ref))]
 fn add_short_ref(text: &mut String, block: BlockRef) -> Result<(), AllocError>
     ensures { IfOk result (λ _. string_bytes text.new ≡ string_bytes text.old ++ short_ref block) }
 {
     let id = block.id;
-    write!(text, ", blkref #{id}: rel ")?;
-    add_rel(text, block.name.rel)?;
-    let mark = fork_mark(block.name.fork);
-    let number = block.name.block;
-    write!(text, "{mark} blk {number}")?;
-    text.push_str(image_mark(block.image))
+    let BlockName {
+        rel,
+        fork,
+        block: number,
+    } = block.name;
+    let mark = fork_mark(fork);
+    let image = image_mark(block.image);
+    write!(text, ", blkref #{id}: rel {rel}{mark} blk {number}{image}")
 }
 
 /// Adds an image with its hole, if there is one.
@@ -102,11 +80,13 @@ fn add_long_ref(text: &mut String, block: BlockRef) -> Result<(), AllocError>
     ensures { IfOk result (λ _. string_bytes text.new ≡ string_bytes text.old ++ long_ref block) }
 {
     let id = block.id;
-    write!(text, "\tblkref #{id}: rel ")?;
-    add_rel(text, block.name.rel)?;
-    let fork = fork_name(block.name.fork);
-    let number = block.name.block;
-    write!(text, " fork {fork} blk {number}")?;
+    let BlockName {
+        rel,
+        fork,
+        block: number,
+    } = block.name;
+    let fork = fork.name();
+    write!(text, "\tblkref #{id}: rel {rel} fork {fork} blk {number}")?;
     add_image(text, block.image)?;
     text.push_str("\n")
 }

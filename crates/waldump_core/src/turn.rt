@@ -4,7 +4,7 @@ ghost use Rattle.std.specs.Prelude.{◌≡◌, ◌≢◌, ◌⊎◌, ◌+◌, �
 ghost use Rattle.cluster_tree.specs.Causes.{Rose};
 ghost use Rattle.wal_base.specs.Segment.{bytes_of};
 ghost use Rattle.block_refs.specs.Parts.{ArePartsOf};
-ghost use Rattle.waldump_core.specs.Dump.{at_lsn, read_turn, selected_turn, shown_text, turn_at};
+ghost use Rattle.waldump_core.specs.Dump.{selected_turn, shown_text, turn_at};
 ghost use Rattle.waldump_core.specs.Selecting.{meets};
 ghost use Rattle.waldump_core.specs.Steps.{CountsOn};
 ghost use Rattle.waldump_core.specs.Texts.{Extends, Shows, is_read};
@@ -15,9 +15,8 @@ use crate::last_byte::is_before;
 use crate::lines::Lines;
 use crate::progress::{Progress, Turn};
 use crate::selection::Selection;
-use block_refs::{Parts, split_record};
+use block_refs::{Parts, split_into};
 use cluster_tree::Sink;
-use std::alloc::Global;
 use wal_base::SegSize;
 use wal_records::Record;
 
@@ -90,14 +89,15 @@ fn show_parts<O: Sink>(
 
 /// Shows a record if it is selected, and says how the dump goes on behind it. Answers the flaw of a
 /// record between the start and the stop that has no parts, and `NoRecordAt` where the first
-/// record from the start on doesn't lie before the stop.
+/// record from the start on doesn't lie before the stop. The parts are read into `parts`, whatever
+/// it held.
 #[tactic(auto, using(crate::proofs::ShownLemmas::turn_steps), unfolding(crate::specs::Dump::turn_at))]
 pub fn take_turn<O: Sink>(
-    alloc: Global,
     size: SegSize,
     sel: &Selection,
     progress: Progress,
     rec: &Record,
+    parts: &mut Parts,
     out: &mut O,
     lines: &mut Lines,
 ) -> Result<Turn, DumpFault>
@@ -126,6 +126,6 @@ pub fn take_turn<O: Sink>(
     if !is_before(size, sel.stop, rec) {
         return progress.at_stop(sel.start);
     }
-    let parts = split_record(alloc, rec)?;
-    show_parts(sel, progress, rec, &parts, out, lines)
+    split_into(rec, parts)?;
+    show_parts(sel, progress, rec, parts, out, lines)
 }

@@ -3,6 +3,7 @@
 ghost use Rattle.std.specs.Prelude.{◌≡◌, ◌≢◌, ◌⊎◌, ◌≤◌, ◌++◌, [], Err, IfErr, IfOk, IsErrOf, IsTrue, MatchResult, None, Ok, OnOk, Some, length};
 ghost use Rattle.cluster_tree.specs.Causes.{Meets, OnlyReads, Rose};
 ghost use Rattle.wal_base.specs.Segment.{bytes_of};
+ghost use Rattle.wal_records.specs.Cursor.{Knows};
 ghost use Rattle.wal_records.specs.Further.{pages_of};
 ghost use Rattle.waldump_core.specs.Dump.{dump_from, dump_of, nothing_shown};
 ghost use Rattle.waldump_core.specs.Steps.{GoesUp, left, left_behind};
@@ -15,6 +16,7 @@ use crate::lines::Lines;
 use crate::progress::{Progress, Turn};
 use crate::selection::Selection;
 use crate::turn::take_turn;
+use block_refs::Parts;
 use cluster_tree::{Sink, Tree};
 use std::alloc::Global;
 use wal_base::{Lsn, SegSize};
@@ -28,12 +30,12 @@ pub struct Asked {
     size: SegSize,
 }
 
-/// Goes one record on.
+/// Goes one record on. The tree is as it was at the cursor's last call.
 #[tactic(auto, using(crate::proofs::ShownLemmas::shown_steps), unfolding(crate::specs::Dump::dump_of_records))]
 fn advance<F: Tree, O: Sink>(
-    alloc: Global,
     cursor: &mut RecordCursor,
     tree: &mut F,
+    parts: &mut Parts,
     out: &mut O,
     lines: &mut Lines,
     asked: &Asked,
@@ -42,6 +44,8 @@ fn advance<F: Tree, O: Sink>(
     requires opened { cursor.old.ended ≡ None }
     requires size { asked.now.size ≡ cursor.old.log.size }
     requires few { progress.shown ≤ cursor.old.place }
+    requires knows { IsTrue F.tells → Knows cursor.old (F.contents tree.old) }
+    ensures knows { IsTrue F.tells → Knows cursor.new (F.contents tree.new) }
     ensures answer { IsTrue F.tells → MatchResult result
         (λ turn. (left_behind asked.now.sel turn cursor.new (F.contents tree.old)).answer
         ≡ (left asked.now.sel progress cursor.old (F.contents tree.old)).answer)
@@ -66,12 +70,12 @@ fn advance<F: Tree, O: Sink>(
     ensures sink_fault { IsErrOf result DumpFault.SinkFault →
         Rose (O.failed_writes out.old) (O.failed_writes out.new) }
 {
-    match cursor.next(tree)? {
+    match cursor.next_unchanged(tree)? {
         Step::Record => {}
         Step::End(place, why) => return Err(progress.at_end(asked.sel.start, place, why)),
     }
     let rec = cursor.current().unwrap();
-    match take_turn(alloc, asked.size, &asked.sel, progress, rec, out, lines) {
+    match take_turn(asked.size, &asked.sel, progress, rec, parts, out, lines) {
         Ok(turn) => Ok(turn),
         Err(e) => Err(e),
     }
@@ -80,15 +84,16 @@ fn advance<F: Tree, O: Sink>(
 /// Walks over the log that a cursor has still to give, up to the end of the dump.
 #[tactic(auto, using(crate::proofs::ShownLemmas::shown_steps))]
 fn walk<F: Tree, O: Sink>(
-    alloc: Global,
     cursor: &mut RecordCursor,
     tree: &mut F,
+    parts: &mut Parts,
     out: &mut O,
     lines: &mut Lines,
     asked: &Asked,
 ) -> Result<Dumped, DumpFault>
     requires opened { cursor.old.ended ≡ None }
     requires size { asked.now.size ≡ cursor.old.log.size }
+    requires knows { IsTrue F.tells → Knows cursor.old (F.contents tree.old) }
     ensures answer { IsTrue F.tells → Meets IsFree
         (left asked.now.sel nothing_shown cursor.old (F.contents tree.old)).answer result }
     ensures text { IsTrue F.tells → IsTrue O.tells → MatchResult result
@@ -109,7 +114,7 @@ fn walk<F: Tree, O: Sink>(
 {
     let mut progress = Progress::new();
     'records: loop {
-        match advance(alloc, cursor, tree, out, lines, asked, progress)? {
+        match advance(cursor, tree, parts, out, lines, asked, progress)? {
             Turn::Goes(next) => progress = next,
             Turn::Stops(dumped) => return Ok(dumped),
         }
@@ -149,8 +154,9 @@ fn dump_at<F: Tree, O: Sink>(
         size: log.size,
     };
     let mut cursor = RecordCursor::at(alloc, log, Lsn(place))?;
+    let mut parts = Parts::new(alloc);
     let mut lines = Lines::new(alloc);
-    let walked = walk(alloc, &mut cursor, tree, out, &mut lines, &asked);
+    let walked = walk(&mut cursor, tree, &mut parts, out, &mut lines, &asked);
     match lines.flush(out) {
         Ok(()) => walked,
         Err(_) => Err(DumpFault::SinkFault),

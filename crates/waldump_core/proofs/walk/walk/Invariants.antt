@@ -1,5 +1,6 @@
 use Rattle.std.proofs.Common.{◌≡◌, ◌++◌, ◌-◌, ◌^◌, ◌≤◌, None, IsTrue}
 use Rattle.cluster_tree.specs.Causes.{OnlyReads}
+use Rattle.wal_records.specs.Cursor.{Knows}
 use Rattle.waldump_core.specs.Dump.{nothing_shown}
 use Rattle.waldump_core.specs.Steps.{left}
 use Rattle.waldump_core.specs.Texts.{Extends}
@@ -14,6 +15,7 @@ invariant-records g l =
       log : l.cursor.log ≡ l.fn.cursor.log;
       few : l.progress.shown ≤ l.cursor.place;
       reads : OnlyReads g.F.Tree.contents g.F.Tree.calls g.F.Tree.failed_reads g.F.Tree.failed_changes l.fn.tree l.tree;
+      knows : IsTrue g.F.Tree.tells → Knows l.cursor (g.F.Tree.contents l.tree);
       answer : IsTrue g.F.Tree.tells → (left sel l.progress l.cursor contents).answer ≡ (left sel nothing_shown l.fn.cursor contents).answer;
       text : IsTrue g.F.Tree.tells → IsTrue g.O.Sink.tells → g.O.Sink.written l.out ++ (l.lines ++ (left sel l.progress l.cursor contents).text)
           ≡ g.O.Sink.written l.fn.out ++ (l.fn.lines ++ (left sel nothing_shown l.fn.cursor contents).text);
