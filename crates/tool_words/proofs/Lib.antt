@@ -1,2 +1,5 @@
+mod DumpLemmas
 mod GrammarLemmas
+mod NumberLemmas
+mod SlashLemmas
 mod TableLemmas

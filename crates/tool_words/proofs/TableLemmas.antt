@@ -5,6 +5,7 @@ use Rattle.clap.proofs.OnLiterals.{clap_on_literals}
 use Rattle.command_words.specs.Table.{command_with}
 use Rattle.tool_words.specs.Controldata.{controldata_table}
 use Rattle.tool_words.specs.Rewind.{rewind_table}
+use Rattle.tool_words.specs.Waldump.{waldump_table}
 
 pub controldata_is_simple : is_simple_and_free (command_with controldata_table) ≡ true
 unfolding controldata_table clap_on_literals
@@ -13,3 +14,7 @@ controldata_is_simple = refl
 pub rewind_is_simple : is_simple_and_free (command_with rewind_table) ≡ true
 unfolding rewind_table clap_on_literals
 rewind_is_simple = refl
+
+pub waldump_is_simple : is_simple_and_free (command_with waldump_table) ≡ true
+unfolding waldump_table clap_on_literals
+waldump_is_simple = refl

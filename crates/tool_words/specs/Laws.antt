@@ -1,9 +1,17 @@
 -- What the grammar comes to at the words that are usual, for every value.
-use Rattle.std.specs.Prelude.{ℕ, Bool, true, false, ◌≡◌, ◌≢◌, ◌++◌, List, [], ◌∷◌, Option, None, codes, slice_index}
+use Rattle.std.specs.Prelude.{ℕ, Bool, true, false, ◌≡◌, ◌≢◌, ◌++◌, List, [], ◌∷◌, Option, None, Some, codes, slice_index}
+use Rattle.wal_base.specs.declared.lsn.Lsn.{Lsn}
+use Rattle.wal_base.specs.Lsn.{lsn_of}
 use Rattle.tool_words.specs.Controldata.{controldata_of}
 use Rattle.tool_words.specs.Rewind.{rewind_from, rewind_of}
 use Rattle.tool_words.specs.Roots.{root_of}
+use Rattle.tool_words.specs.Forms.{segment_word, with_value}
+use Rattle.tool_words.specs.Waldump.{waldump_of}
 use Rattle.tool_words.specs.declared.rewind.RewindWords.{RewindWords}
+use Rattle.tool_words.specs.declared.waldump.Filters.{Filters}
+use Rattle.tool_words.specs.declared.waldump.SegmentWord.{SegmentWord}
+use Rattle.tool_words.specs.declared.waldump.WaldumpWords.{WaldumpWords}
+use Rattle.tool_words.specs.declared.waldump.WaldumpWords.TheVariants.{Managers, Dump}
 
 -- a text that no option looks like: it does not begin with a hyphen (45)
 abbrev pub IsPlainText : List ℕ → Type 0
@@ -33,3 +41,40 @@ pub record ReadsRoots (name target source : List ℕ) : Type 0 where
   pub no_target : rewind_of (name ∷ codes "--source-pgdata" ∷ source ∷ []) ≡ None
   pub further : rewind_of (name ∷ codes "-D" ∷ target ∷ codes "--source-pgdata" ∷ source ∷ target ∷ []) ≡ None
   pub help : rewind_of (name ∷ codes "--help" ∷ []) ≡ None
+
+-- ---- pg_waldump
+
+-- every record is shown, in a line each
+abbrev pub no_filters : Filters
+no_filters = record {
+  limit = 0;
+  details = false;
+  quiet = false;
+  images_only = false;
+  manager = None;
+  rel = None;
+  block = None;
+  fork = None;
+  xid = None;
+}
+
+-- a dump that begins with a segment, or in a folder at a position
+abbrev pub dump_at : Option (List ℕ) → Option SegmentWord → Option Lsn → Option WaldumpWords
+dump_at path first start = Some (Dump (record {
+  path = path;
+  first = first;
+  last = None;
+  start = start;
+  stop = None;
+  timeline = None;
+  filters = no_filters;
+}))
+
+-- a dump needs a start, which is a segment's file or a position; the list of the managers needs none
+pub record ReadsStart (name word dir at : List ℕ) : Type 0 where
+  pub segment : waldump_of (name ∷ word ∷ []) ≡ with_value (segment_word word) (λ first. dump_at None (Some first) None)
+  pub by_letter : waldump_of (name ∷ codes "-s" ∷ at ∷ []) ≡ with_value (lsn_of at) (λ start. dump_at None None (Some start))
+  pub attached : waldump_of (name ∷ (codes "--path=" ++ dir) ∷ (codes "--start=" ++ at) ∷ []) ≡ with_value (root_of dir) (λ path. with_value (lsn_of at) (λ start. dump_at (Some path) None (Some start)))
+  pub list : waldump_of (name ∷ codes "-r" ∷ codes "list" ∷ []) ≡ Some Managers
+  pub neither : waldump_of (name ∷ []) ≡ None
+  pub help : waldump_of (name ∷ codes "--help" ∷ []) ≡ None

@@ -5,6 +5,7 @@ ghost use Rattle.tool_words.specs.Command.{command_named, command_of};
 
 use crate::controldata::controldata_words;
 use crate::rewind::{RewindWords, rewind_words};
+use crate::waldump::{WaldumpWords, waldump_words};
 use command_words::WordsFault;
 use std::alloc::Global;
 use wal_base::Text;
@@ -16,6 +17,8 @@ pub enum Command {
     Controldata(Text),
     /// A rewind.
     Rewind(RewindWords),
+    /// A dump of a log.
+    Waldump(WaldumpWords),
 }
 
 #[tactic(auto, unfolding(crate::specs::Command::command_named))]
@@ -26,6 +29,8 @@ fn named(alloc: Global, name: &str, words: &[String]) -> Result<Command, WordsFa
         Ok(Command::Controldata(controldata_words(alloc, words)?))
     } else if name == "pg_rewind" {
         Ok(Command::Rewind(rewind_words(alloc, words)?))
+    } else if name == "pg_waldump" {
+        Ok(Command::Waldump(waldump_words(alloc, words)?))
     } else {
         Err(WordsFault::Usage)
     }

@@ -1,5 +1,5 @@
 // Laws of the grammar: what it comes to at the words that are usual, for every value.
-ghost use Rattle.tool_words.specs.Laws.{IsPlainText, ReadsRoot, ReadsRoots};
+ghost use Rattle.tool_words.specs.Laws.{IsPlainText, ReadsRoot, ReadsRoots, ReadsStart};
 
 /// Each usual way to give the root of `pg_controldata` gives it, given twice or not at all it is
 /// refused, and so is a call for help.
@@ -14,4 +14,12 @@ pub fn two_roots_are_read(name: &str, target: &str, source: &str)
     requires target { IsPlainText target.now }
     requires source { IsPlainText source.now }
     ensures { ReadsRoots name.now target.now source.now }
+{}
+
+/// `pg_waldump` begins with a segment's file, or in a folder at a position; with neither of them it is
+/// refused, unless the names of the resource managers are asked for.
+pub fn a_start_is_read(name: &str, word: &str, dir: &str, at: &str)
+    requires word { IsPlainText word.now }
+    requires at { IsPlainText at.now }
+    ensures { ReadsStart name.now word.now dir.now at.now }
 {}
