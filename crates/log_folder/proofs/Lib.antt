@@ -1,0 +1,11 @@
+pub mod SizeLemmas
+pub mod PieceLemmas
+pub mod FrontLemmas
+pub mod ReadLemmas
+pub mod PartLemmas
+pub mod NamesLemmas
+pub mod FindLemmas
+pub mod ListLemmas
+pub mod FoundLemmas
+pub mod LeastLemmas
+pub mod LawLemmas

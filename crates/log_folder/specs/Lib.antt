@@ -1,0 +1,10 @@
+pub mod Faults
+pub mod Front
+pub mod FolderText
+pub mod Listing
+pub mod Folder
+pub mod SegmentSize
+pub mod Segment
+pub mod Bounds
+pub mod Found
+pub mod Laws

@@ -1,0 +1,21 @@
+//! Where the log of a dump lies, and from where to where it is shown.
+#![tactic(auto)]
+
+mod bounds;
+mod fault;
+mod find;
+mod folder;
+mod front;
+mod laws;
+mod listing;
+mod part;
+mod segment;
+mod taken;
+
+pub use fault::FolderFault;
+pub use find::{FoundLog, find_log};
+pub use front::first_parts;
+pub use laws::{a_segment_is_found, pg_wal_is_taken, the_least_segment_is_told};
+
+#[cfg(test)]
+mod tests;
