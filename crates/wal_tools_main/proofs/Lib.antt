@@ -1,6 +1,3 @@
 pub mod RootLemmas
-pub mod FrontLemmas
-pub mod SizeLemmas
-pub mod SlashLemmas
-pub mod DumpLemmas
-pub mod PlaceLemmas
+pub mod ShownLemmas
+pub mod ManagerLemmas

@@ -13,7 +13,7 @@ use Rattle.wal_tools_main.specs.declared.cause.Cause.TheVariants as cause
 use Rattle.wal_tools_main.specs.declared.command.Command.{Command}
 use Rattle.wal_tools_main.specs.declared.command.Command.TheVariants as command
 use Rattle.wal_tools_main.specs.Causes.{rewind_cause}
-use Rattle.wal_tools_main.specs.Dump.{Dump, waldump_of}
+use Rattle.wal_tools_main.specs.Waldump.{Dump, waldump_of}
 use Rattle.wal_tools_main.specs.Words.{command_of}
 
 -- Why the command is refused, None where it is carried out; its text on standard output and its report on standard error where it is;
@@ -58,7 +58,7 @@ control_shown (Err fault) = []
 abbrev pub controldata_answer : Contents → Result Control RewindFault → Answer
 controldata_answer c read = record { refusal = control_refusal read; out = control_shown read; report = []; calls = []; after = c }
 
--- pg_waldump shows the records of a segment on standard output, and only reads
+-- pg_waldump shows the records of a log, or the names of the resource managers, on standard output, and only reads
 abbrev pub waldump_answer : Contents → Dump → Answer
 waldump_answer c dump = record { refusal = dump.refusal; out = dump.text; report = []; calls = []; after = c }
 
@@ -66,7 +66,7 @@ waldump_answer c dump = record { refusal = dump.refusal; out = dump.text; report
 abbrev pub answer_to : Contents → Command → Answer
 answer_to c (command.PgRewind target source) = rewind_answer c (rewind_of c target source)
 answer_to c (command.PgControldata root) = controldata_answer c (control_at c root)
-answer_to c (command.PgWaldump folder file) = waldump_answer c (waldump_of c folder file)
+answer_to c (command.PgWaldump words) = waldump_answer c (waldump_of c words)
 
 -- words that ask for no command change nothing
 abbrev pub answer_of : Contents → Result Command Cause → Answer

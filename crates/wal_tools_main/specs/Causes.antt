@@ -6,8 +6,12 @@ use Rattle.wal_tools_main.specs.declared.cause.Cause.{Cause}
 use Rattle.wal_tools_main.specs.declared.cause.Cause.TheVariants as cause
 use Rattle.wal_tools_main.specs.declared.cause.ControlCause.TheVariants as control
 use Rattle.wal_tools_main.specs.declared.cause.RewindCause.TheVariants as rewind
-use Rattle.wal_records.specs.declared.fault.LogFault.{LogFault}
-use Rattle.wal_records.specs.declared.fault.LogFault.TheVariants as log_fault
+use Rattle.wal_tools_main.specs.declared.cause.PathCause.TheVariants as paths
+use Rattle.wal_tools_main.specs.declared.cause.LogCause.TheVariants as logs
+use Rattle.waldump_core.specs.declared.fault.DumpFault.{DumpFault}
+use Rattle.waldump_core.specs.declared.fault.DumpFault.TheVariants as dump_fault
+use Rattle.log_folder.specs.declared.fault.FolderFault.{FolderFault}
+use Rattle.log_folder.specs.declared.fault.FolderFault.TheVariants as folder_fault
 
 -- the cause of a fault of a rewind; those that no command answers yet are NotBuilt
 abbrev pub rewind_cause : RewindFault → Cause
@@ -26,36 +30,32 @@ rewind_cause fault.ReadFault = cause.ReadFault
 rewind_cause (fault.Changed path) = cause.Changed path
 rewind_cause fault.OutOfMemory = cause.OutOfMemory
 
--- the cause of what keeps a log from being read
-abbrev pub log_cause : LogFault → Cause
-log_cause log_fault.ReadFault = cause.ReadFault
-log_cause log_fault.OutOfMemory = cause.OutOfMemory
+-- the cause of why a log isn't found
+abbrev pub folder_cause : FolderFault → Cause
+folder_cause folder_fault.DotDot = cause.Paths paths.DotDot
+folder_cause (folder_fault.TooDeep path) = cause.Paths (paths.TooDeep path)
+folder_cause (folder_fault.NotFolder path) = cause.Paths (paths.NotFolder path)
+folder_cause (folder_fault.Link path) = cause.Paths (paths.Link path)
+folder_cause (folder_fault.NameNotText path) = cause.Paths (paths.NameNotText path)
+folder_cause (folder_fault.NoWal folder) = cause.Log (logs.NoWal folder)
+folder_cause (folder_fault.BadSegment file) = cause.Log (logs.BadSegment file)
+folder_cause folder_fault.Usage = cause.Usage
+folder_cause folder_fault.ReadFault = cause.ReadFault
+folder_cause folder_fault.OutOfMemory = cause.OutOfMemory
+
+-- the cause of why a dump is refused
+abbrev pub dump_cause : DumpFault → Cause
+dump_cause (dump_fault.NoRecordAt start) = cause.Log (logs.NoRecordAt start)
+dump_cause (dump_fault.LogEnds place why) = cause.Log (logs.LogEnds place why)
+dump_cause (dump_fault.BadParts start offset) = cause.Log (logs.BadParts start offset)
+dump_cause (dump_fault.Compressed start id) = cause.Log (logs.Compressed start id)
+dump_cause dump_fault.ReadFault = cause.ReadFault
+dump_cause dump_fault.SinkFault = cause.SinkFault
+dump_cause dump_fault.OutOfMemory = cause.OutOfMemory
 
 -- a fault of a device or want of memory, which may come at any point
 abbrev pub IsFree : Cause → Type 0
 IsFree e = (e ≡ cause.ReadFault) ⊎ (e ≡ cause.WriteFault) ⊎ (e ≡ cause.SinkFault) ⊎ (e ≡ cause.OutOfMemory)
-
--- what a call that only reads may answer at any point
-abbrev pub IsOfReads : Cause → Type 0
-IsOfReads e = (e ≡ cause.ReadFault) ⊎ (e ≡ cause.OutOfMemory)
-
--- what a dump may answer
-abbrev pub is_of_dump : Cause → Bool
-is_of_dump cause.Done = false
-is_of_dump cause.Usage = false
-is_of_dump cause.NotBuilt = true
-is_of_dump cause.ReadFault = true
-is_of_dump cause.WriteFault = false
-is_of_dump cause.SinkFault = true
-is_of_dump cause.OutOfMemory = true
-is_of_dump (cause.Changed path) = false
-is_of_dump (cause.Paths p) = false
-is_of_dump (cause.Control c) = false
-is_of_dump (cause.Rewind c) = false
-is_of_dump (cause.Log c) = true
-
-abbrev pub IsOfDump : Cause → Type 0
-IsOfDump e = is_of_dump e ≡ true
 
 -- what words may answer
 abbrev pub is_of_words : Cause → Bool

@@ -1,11 +1,7 @@
 pub mod Causes
 pub mod Command
+pub mod Waldump
 pub mod Words
-pub mod SegmentWords
-pub mod Lines
-pub mod RecordLine
-pub mod SegmentSize
-pub mod Dump
-pub mod DumpSteps
 pub mod Answers
+pub mod Lines
 pub mod Texts

@@ -79,6 +79,10 @@ why_name why.Crc = codes "Crc"
 abbrev pub end_pieces : Lsn → Why → List (List ℕ)
 end_pieces at why = codes "LogEnds " ∷ lsn_text at.0 ∷ codes " " ∷ why_name why ∷ []
 
+-- a cause with a position and a number
+abbrev pub record_pieces : List ℕ → Lsn → ℕ → List (List ℕ)
+record_pieces what at n = what ∷ codes " " ∷ lsn_text at.0 ∷ codes " " ∷ decimal n ∷ []
+
 abbrev pub place_pieces : Lsn → List (List ℕ)
 place_pieces at = codes "NoRecordAt " ∷ lsn_text at.0 ∷ []
 
@@ -95,6 +99,9 @@ line_of name (cause.Changed path) = line_with name (path_pieces (codes "Changed"
 line_of name (cause.Paths paths.DotDot) = fixed_line name fixed.DotDot
 line_of name (cause.Paths (paths.TooDeep path)) = line_with name (path_pieces (codes "TooDeep") path)
 line_of name (cause.Paths paths.PathsOverlap) = fixed_line name fixed.PathsOverlap
+line_of name (cause.Paths (paths.NotFolder path)) = line_with name (path_pieces (codes "NotFolder") path)
+line_of name (cause.Paths (paths.Link path)) = line_with name (path_pieces (codes "Link") path)
+line_of name (cause.Paths (paths.NameNotText path)) = line_with name (path_pieces (codes "NameNotText") path)
 line_of name (cause.Control (control.ControlMissing root)) = line_with name (path_pieces (codes "ControlMissing") root)
 line_of name (cause.Control (control.Size root n)) = line_with name (number_pieces (codes "Size") root n)
 line_of name (cause.Control (control.Crc root stored computed)) = line_with name (crc_pieces root stored computed)
@@ -103,7 +110,10 @@ line_of name (cause.Control (control.Catalog root n)) = line_with name (number_p
 line_of name (cause.Control (control.Shape root field n)) = line_with name (shape_pieces root field n)
 line_of name (cause.Rewind (rewind.SystemsDiffer target source)) = line_with name (systems_pieces target source)
 line_of name (cause.Log (logs.LogEnds at why)) = line_with name (end_pieces at why)
+line_of name (cause.Log (logs.BadParts at offset)) = line_with name (record_pieces (codes "BadParts") at offset)
+line_of name (cause.Log (logs.Compressed at id)) = line_with name (record_pieces (codes "Compressed") at id)
 line_of name (cause.Log (logs.NoRecordAt at)) = line_with name (place_pieces at)
+line_of name (cause.Log (logs.NoWal path)) = line_with name (path_pieces (codes "NoWal") path)
 line_of name (cause.Log (logs.BadSegment path)) = line_with name (path_pieces (codes "BadSegment") path)
 
 -- the text of a line on its way
@@ -125,6 +135,9 @@ has_values (cause.Changed path) = true
 has_values (cause.Paths paths.DotDot) = false
 has_values (cause.Paths (paths.TooDeep path)) = true
 has_values (cause.Paths paths.PathsOverlap) = false
+has_values (cause.Paths (paths.NotFolder path)) = true
+has_values (cause.Paths (paths.Link path)) = true
+has_values (cause.Paths (paths.NameNotText path)) = true
 has_values (cause.Control c) = true
 has_values (cause.Rewind c) = true
 has_values (cause.Log c) = true

@@ -1,11 +1,14 @@
 -- What stands on standard output and standard error after a run, and what the tree has gone through, over every tree and sink.
-use Rattle.std.specs.Prelude.{ℕ, ◌≡◌, ◌⊎◌, ◌++◌, List, take, length, Result, Ok, Err}
+use Rattle.std.specs.Prelude.{ℕ, ◌≡◌, ◌⊎◌, ◌++◌, List, Result, Ok, Err}
 use Rattle.cluster_tree.specs.Sink.{AddsPart, Adds}
 use Rattle.cluster_tree.specs.Causes.{Rose}
 use Rattle.cluster_tree.specs.Contents.{Contents}
 use Rattle.cluster_tree.specs.declared.tree.ChangeCall.{ChangeCall}
+use Rattle.waldump_core.specs.Texts.{Extends}
+use Rattle.tool_words.specs.declared.waldump.WaldumpWords.TheVariants as asked
 use Rattle.wal_tools_main.specs.Answers.{Answer, same_report, cause_in}
 use Rattle.wal_tools_main.specs.Causes.{IsFree}
+use Rattle.wal_tools_main.specs.Waldump.{manager_list}
 use Rattle.wal_tools_main.specs.declared.cause.Cause.{Cause}
 use Rattle.wal_tools_main.specs.declared.cause.Cause.TheVariants as cause
 use Rattle.wal_tools_main.specs.declared.command.Command.{Command}
@@ -24,22 +27,19 @@ pub record Shows (text : List ℕ) (ended : Cause) (old new : List ℕ) : Type 0
   pub whole : IsFree ended ⊎ (new ≡ old ++ text)
   pub part : AddsPart text old new
 
--- what stood on a sink stays, and nothing stands before it
-abbrev pub Extends : List ℕ → List ℕ → Type 0
-Extends old new = take (length old) new ≡ old
-
 -- what a command puts on standard output, whatever the tree tells
 abbrev pub Prints : Result Command Cause → Cause → List ℕ → List ℕ → Type 0
 Prints (Ok (command.PgRewind target source)) ended old new = new ≡ old
 Prints (Ok (command.PgControldata root)) ended old new = (ended ≡ cause.Done) ⊎ (ended ≡ cause.SinkFault) ⊎ (new ≡ old)
-Prints (Ok (command.PgWaldump folder file)) ended old new = Extends old new
+Prints (Ok (command.PgWaldump asked.Managers)) ended old new = Shows manager_list ended old new
+Prints (Ok (command.PgWaldump (asked.Dump words))) ended old new = Extends old new
 Prints (Err e) ended old new = new ≡ old
 
 -- what a command reports on standard error before the line of its cause
 abbrev pub Reports : Result Command Cause → Cause → List ℕ → List ℕ → ℕ → ℕ → Type 0
 Reports (Ok (command.PgRewind target source)) ended old new before after = Puts same_report ended old new before after
 Reports (Ok (command.PgControldata root)) ended old new before after = (new ≡ old) × (after ≡ before)
-Reports (Ok (command.PgWaldump folder file)) ended old new before after = (new ≡ old) × (after ≡ before)
+Reports (Ok (command.PgWaldump words)) ended old new before after = (new ≡ old) × (after ≡ before)
 Reports (Err e) ended old new before after = (new ≡ old) × (after ≡ before)
 
 -- Standard error after a run: first the report of the command, after which it held `told` and its count of failed writes was `between`;
@@ -60,5 +60,13 @@ pub record Changes (answer : Answer) (ended : Cause) (calls calls' : List Change
 abbrev pub MayChange : Result Command Cause → Type 0
 MayChange (Ok (command.PgRewind target source)) = ⊥
 MayChange (Ok (command.PgControldata root)) = ⊥
-MayChange (Ok (command.PgWaldump folder file)) = ⊥
+MayChange (Ok (command.PgWaldump words)) = ⊥
 MayChange (Err e) = ⊥
+
+-- what is asked for needs no tree: the list of resource managers, and words that are refused
+abbrev pub NeedsNoTree : Result Command Cause → Type 0
+NeedsNoTree (Ok (command.PgRewind target source)) = ⊥
+NeedsNoTree (Ok (command.PgControldata root)) = ⊥
+NeedsNoTree (Ok (command.PgWaldump asked.Managers)) = Unit {0}
+NeedsNoTree (Ok (command.PgWaldump (asked.Dump words))) = ⊥
+NeedsNoTree (Err e) = Unit {0}

@@ -1,14 +1,17 @@
 -- What the words of a command ask for: PostgreSQL 16 manual, reference pages of pg_rewind, pg_controldata and pg_waldump. Own: "Roots of at most 61 parts", "The order of what is wrong with roots".
-use Rattle.std.specs.Prelude.{ℕ, ◌≤◌, Bool, true, false, ◌||◌, nat_lt, if◌then◌else◌, List, length, take, Option, None, Some, Result, Ok, Err}
-use Rattle.cluster_tree.specs.PathValue.{PathValue, path_of, parsed, kept_parts, is_rooted}
+use Rattle.std.specs.Prelude.{ℕ, ◌≡◌, ◌≤◌, Bool, true, false, ◌||◌, nat_lt, if◌then◌else◌, List, length, Option, None, Some, Result, Ok, Err}
+use Rattle.cluster_tree.specs.PathValue.{PathValue, parsed, kept_parts}
 use Rattle.cluster_tree.specs.Paths.{checked}
 use Rattle.cluster_tree.specs.Causes.{given}
 use Rattle.cluster_tree.specs.declared.path_fault.PathFault.{PathFault}
 use Rattle.cluster_tree.specs.declared.path_fault.PathFault.TheVariants as fault
 use Rattle.rewind_core.specs.Roots.{AreApart, overlap}
+use Rattle.log_folder.specs.Found.{IsMisused}
+use Rattle.log_folder.specs.Front.{front_of}
 use Rattle.tool_words.specs.Command.{command_of as asked_for}
 use Rattle.tool_words.specs.declared.command.Command.{Command as Asked}
 use Rattle.tool_words.specs.declared.command.Command.TheVariants as asked
+use Rattle.tool_words.specs.declared.waldump.WaldumpWords.TheVariants as waldump
 use Rattle.wal_tools_main.specs.declared.cause.Cause.{Cause}
 use Rattle.wal_tools_main.specs.declared.cause.Cause.TheVariants as cause
 use Rattle.wal_tools_main.specs.declared.cause.PathCause.TheVariants as paths
@@ -17,7 +20,6 @@ use Rattle.wal_tools_main.specs.declared.command.CommandName.TheVariants as name
 use Rattle.wal_tools_main.specs.declared.command.Command.{Command}
 use Rattle.wal_tools_main.specs.declared.command.Command.TheVariants as command
 use Rattle.wal_tools_main.specs.Command.{name_of}
-use Rattle.wal_tools_main.specs.SegmentWords.{IsFitFolder, segment_words}
 
 -- a cluster's root leaves room for the files below it
 abbrev pub IsFitRoot : PathValue → Type 0
@@ -32,11 +34,7 @@ pub record AreFitRoots (target source : PathValue) : Type 0 where
 abbrev pub IsFit : Command → Type 0
 IsFit (command.PgRewind target source) = AreFitRoots target source
 IsFit (command.PgControldata root) = IsFitRoot root
-IsFit (command.PgWaldump folder file) = IsFitFolder folder
-
--- the path of a text's first 64 parts
-unfoldable pub front_of : List ℕ → PathValue
-front_of text = path_of (is_rooted text) (take 64 (kept_parts text))
+IsFit (command.PgWaldump words) = Unit {0}
 
 -- a root, where the text names one of at most 61 parts
 abbrev pub root_in : List ℕ → Result (Unit {0}) PathFault → Result PathValue Cause
@@ -70,20 +68,30 @@ two_roots dry_run target source =
     if climbs (checked 0 target) || climbs (checked 0 source) then Err (cause.Paths paths.DotDot)
     else given (root_of target) (λ t. given (root_of source) (λ s. rewind_roots dry_run t s))
 
--- what is asked for, on paths
+-- what is asked for, on paths; pg_waldump looks for its folder once it runs
 abbrev pub on_paths : Option Asked → Result Command Cause
 on_paths None = Err cause.Usage
 on_paths (Some (asked.Controldata root)) = given (root_of root) (λ r. Ok (command.PgControldata r))
 on_paths (Some (asked.Rewind words)) = two_roots words.dry_run words.target words.source
+on_paths (Some (asked.Waldump words)) = Ok (command.PgWaldump words)
 
 -- the words of the command of this name; of the other commands none are built yet
 abbrev pub words_of : Option CommandName → List (List ℕ) → Result Command Cause
 words_of None words = Err cause.Usage
 words_of (Some name.PgRewind) words = on_paths (asked_for words)
 words_of (Some name.PgControldata) words = on_paths (asked_for words)
-words_of (Some name.PgWaldump) words = segment_words words
+words_of (Some name.PgWaldump) words = on_paths (asked_for words)
 words_of (Some _) words = Err cause.NotBuilt
 
 -- the command that the words ask for, or what is wrong with them
 unfoldable pub command_of : List (List ℕ) → Result Command Cause
 command_of words = words_of (name_of words) words
+
+-- Words are faulty: they are in no command's grammar, or they are pg_waldump's and break a rule on its folder, or, where segments
+-- have some size, on its start and its end.
+abbrev pub AreFaulty : Result Command Cause → Type 0
+AreFaulty (Ok (command.PgRewind target source)) = ⊥
+AreFaulty (Ok (command.PgControldata root)) = ⊥
+AreFaulty (Ok (command.PgWaldump waldump.Managers)) = ⊥
+AreFaulty (Ok (command.PgWaldump (waldump.Dump words))) = IsMisused words
+AreFaulty (Err e) = e ≡ cause.Usage

@@ -1,9 +1,11 @@
 // Why a run ended.
 use cluster_tree::{Path, SinkFailed};
 use control_file::Field;
+use log_folder::FolderFault;
 use rewind_core::RewindFault;
 use wal_base::{Lsn, OutOfMemory};
-use wal_records::{LogFault, Why};
+use wal_records::Why;
+use waldump_core::DumpFault;
 
 /// Why a run ended. Each later command adds the causes of what it builds.
 #[derive(Drop)]
@@ -37,12 +39,19 @@ pub enum Cause {
 /// What is wrong with a path.
 #[derive(Drop)]
 pub enum PathCause {
-    /// A root has a part `..`.
+    /// A root or the folder of a log has a part `..`.
     DotDot,
-    /// A root has more than 61 parts; of one with more than 64 parts the first 64.
+    /// A root has more than 61 parts, or the folder of a log more than 62; of one with more than 64
+    /// parts the first 64.
     TooDeep(Path),
     /// One of two roots is the other or lies in it.
     PathsOverlap,
+    /// What has to be a folder isn't there, or is a file.
+    NotFolder(Path),
+    /// What has to be a folder is a link or a special file.
+    Link(Path),
+    /// A folder holds a name that isn't text.
+    NameNotText(Path),
 }
 
 /// What is wrong with a control file. Its root comes first.
@@ -74,8 +83,15 @@ pub enum RewindCause {
 pub enum LogCause {
     /// The place at which the log ends before the stop, and why.
     LogEnds(Lsn, Why),
+    /// A record without parts: its start, and the offset in its body of the first fragment at which
+    /// no rule fits.
+    BadParts(Lsn, u32),
+    /// A compressed image: the start of its record, and the id of its block reference.
+    Compressed(Lsn, u8),
     /// The start, from which no record lies before the stop.
     NoRecordAt(Lsn),
+    /// The folder, where the log isn't found.
+    NoWal(Path),
     /// The file, whose first 40 bytes aren't the header of a segment.
     BadSegment(Path),
 }
@@ -128,16 +144,44 @@ impl From<OutOfMemory> for Cause {
     }
 }
 
-impl From<LogFault> for Cause {
+impl From<FolderFault> for Cause {
     ghost use Rattle.std.specs.Prelude.{◌≡◌};
-    ghost use Rattle.wal_tools_main.specs.Causes.{log_cause};
+    ghost use Rattle.wal_tools_main.specs.Causes.{folder_cause};
 
-    ghost from_gives = { λ f e. e ≡ log_cause f };
+    ghost from_gives = { λ f e. e ≡ folder_cause f };
 
-    fn from(fault: LogFault) -> Cause {
+    fn from(fault: FolderFault) -> Cause {
         match fault {
-            LogFault::ReadFault => Cause::ReadFault,
-            LogFault::OutOfMemory => Cause::OutOfMemory,
+            FolderFault::DotDot => Cause::Paths(PathCause::DotDot),
+            FolderFault::TooDeep(path) => Cause::Paths(PathCause::TooDeep(path)),
+            FolderFault::NotFolder(path) => Cause::Paths(PathCause::NotFolder(path)),
+            FolderFault::Link(path) => Cause::Paths(PathCause::Link(path)),
+            FolderFault::NameNotText(path) => Cause::Paths(PathCause::NameNotText(path)),
+            FolderFault::NoWal(folder) => Cause::Log(LogCause::NoWal(folder)),
+            FolderFault::BadSegment(file) => Cause::Log(LogCause::BadSegment(file)),
+            FolderFault::Usage => Cause::Usage,
+            FolderFault::ReadFault => Cause::ReadFault,
+            FolderFault::OutOfMemory => Cause::OutOfMemory,
         }
+    }
+}
+
+impl From<DumpFault> for Cause {
+    ghost use Rattle.std.specs.Prelude.{◌≡◌};
+    ghost use Rattle.wal_tools_main.specs.Causes.{dump_cause};
+
+    ghost from_gives = { λ f e. e ≡ dump_cause f };
+
+    fn from(fault: DumpFault) -> Cause {
+        let log = match fault {
+            DumpFault::NoRecordAt(start) => LogCause::NoRecordAt(start),
+            DumpFault::LogEnds(place, why) => LogCause::LogEnds(place, why),
+            DumpFault::BadParts(start, offset) => LogCause::BadParts(start, offset),
+            DumpFault::Compressed(start, id) => LogCause::Compressed(start, id),
+            DumpFault::ReadFault => return Cause::ReadFault,
+            DumpFault::SinkFault => return Cause::SinkFault,
+            DumpFault::OutOfMemory => return Cause::OutOfMemory,
+        };
+        Cause::Log(log)
     }
 }

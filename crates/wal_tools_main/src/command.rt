@@ -3,7 +3,7 @@ ghost use Rattle.std.specs.Prelude.{◌≡◌, map, string_bytes};
 ghost use Rattle.wal_tools_main.specs.Command.{named, name_of, name_text};
 
 use cluster_tree::Path;
-use wal_base::Text;
+use tool_words::WaldumpWords;
 
 /// A command's name.
 #[derive(Clone, Copy, Debug, PartialEq, Eq)]
@@ -25,8 +25,8 @@ pub enum Command {
     PgRewind { target: Path, source: Path },
     /// The root of the cluster whose control file is shown.
     PgControldata { root: Path },
-    /// The folder of the segment whose records are printed, and the name of its file.
-    PgWaldump { folder: Path, file: Text },
+    /// What is to be shown of which log.
+    PgWaldump(WaldumpWords),
 }
 
 // The command that a word names.

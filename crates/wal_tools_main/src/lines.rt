@@ -1,6 +1,6 @@
 // The line of a cause.
 ghost use Rattle.std.specs.Prelude.{◌≡◌, string_bytes, false, IfOk, IsOk};
-ghost use Rattle.wal_tools_main.specs.Lines.{line_with, path_pieces, number_pieces, crc_pieces, shape_pieces, systems_pieces, end_pieces, place_pieces, why_name, line_of, made_text, has_values};
+ghost use Rattle.wal_tools_main.specs.Lines.{line_with, path_pieces, number_pieces, crc_pieces, shape_pieces, systems_pieces, end_pieces, record_pieces, place_pieces, why_name, line_of, made_text, has_values};
 
 use crate::command::name_text;
 use crate::fixed::Fixed;
@@ -149,13 +149,31 @@ fn place_line(alloc: Global, name: Option<CommandName>, at: Lsn) -> Result<Strin
     format!(in alloc; "{name}: error: NoRecordAt {at}\n")
 }
 
+// The line of a record that can't be read, with a number.
+fn record_line(
+    alloc: Global,
+    name: Option<CommandName>,
+    what: &str,
+    at: Lsn,
+    number: u32,
+) -> Result<String, AllocError>
+    ensures { IfOk result (λ line. string_bytes line ≡ line_with name
+        (record_pieces what.now at number)) }
+{
+    let name = name_text(name);
+    format!(in alloc; "{name}: error: {what} {at} {number}\n")
+}
+
 // The line of what is wrong with a log.
 fn log_line(alloc: Global, name: Option<CommandName>, log: &LogCause) -> Result<String, AllocError>
     ensures { IfOk result (λ line. string_bytes line ≡ line_of name (Cause.Log log.now)) }
 {
     match log {
         LogCause::LogEnds(at, why) => end_line(alloc, name, *at, *why),
+        LogCause::BadParts(at, offset) => record_line(alloc, name, "BadParts", *at, *offset),
+        LogCause::Compressed(at, id) => record_line(alloc, name, "Compressed", *at, u32::from(*id)),
         LogCause::NoRecordAt(at) => place_line(alloc, name, *at),
+        LogCause::NoWal(path) => path_line(alloc, name, "NoWal", path),
         LogCause::BadSegment(path) => path_line(alloc, name, "BadSegment", path),
     }
 }
@@ -182,6 +200,9 @@ fn path_cause_line(
         PathCause::DotDot => Line::Known(Fixed::DotDot),
         PathCause::TooDeep(path) => Line::Made(path_line(alloc, name, "TooDeep", path)?),
         PathCause::PathsOverlap => Line::Known(Fixed::PathsOverlap),
+        PathCause::NotFolder(path) => Line::Made(path_line(alloc, name, "NotFolder", path)?),
+        PathCause::Link(path) => Line::Made(path_line(alloc, name, "Link", path)?),
+        PathCause::NameNotText(path) => Line::Made(path_line(alloc, name, "NameNotText", path)?),
     })
 }
 

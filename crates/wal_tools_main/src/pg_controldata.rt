@@ -15,7 +15,7 @@ use rewind_core::control_at;
 use std::alloc::Global;
 
 /// Shows the control file of a cluster on `out`.
-#[tactic(auto, using(cluster_tree::proofs::SinkLemmas::part_steps, crate::proofs::DumpLemmas::shown_steps))]
+#[tactic(auto, using(cluster_tree::proofs::SinkLemmas::part_steps, crate::proofs::ShownLemmas::shown_steps))]
 pub(crate) fn pg_controldata<F: Tree, O: Sink>(
     alloc: Global,
     tree: &mut F,

@@ -2,12 +2,13 @@
 ghost use Rattle.std.specs.Prelude.{◌≡◌, ◌≢◌, ◌≤◌, ◌⊎◌, IsTrue, Ok, Err, None, IsErrOf, map, string_bytes};
 ghost use Rattle.cluster_tree.specs.PathValue.{PathValue};
 ghost use Rattle.cluster_tree.specs.Causes.{OnlyReads, Passes, Rose};
+ghost use Rattle.tool_words.specs.declared.waldump.WaldumpWords.TheVariants as WaldumpWords;
 ghost use Rattle.wal_tools_main.specs.Causes.{IsFree, cause_of, status_of};
 ghost use Rattle.wal_tools_main.specs.Command.{name_of};
-ghost use Rattle.wal_tools_main.specs.Words.{IsFit, command_of};
+ghost use Rattle.wal_tools_main.specs.Words.{AreFaulty, IsFit, command_of};
 ghost use Rattle.wal_tools_main.specs.Lines.{line_of};
 ghost use Rattle.wal_tools_main.specs.Answers.{answered, answer_to, cause_in};
-ghost use Rattle.wal_tools_main.specs.Texts.{Prints, Shows, Reports, ErrAfter, Changes, MayChange};
+ghost use Rattle.wal_tools_main.specs.Texts.{Prints, Shows, Reports, ErrAfter, Changes, MayChange, NeedsNoTree};
 
 use crate::command::name_of;
 use crate::finish::finish;
@@ -20,7 +21,7 @@ use cluster_tree::{Sink, Tree};
 use std::alloc::Global;
 
 // Carries out a command.
-#[tactic(auto, using(crate::proofs::DumpLemmas::shown_steps))]
+#[tactic(auto, using(crate::proofs::ShownLemmas::shown_steps))]
 fn carry_out<F: Tree, O: Sink, E: Sink>(
     alloc: Global,
     command: Command,
@@ -54,7 +55,10 @@ fn carry_out<F: Tree, O: Sink, E: Sink>(
         Rose (E.failed_writes err.old) (E.failed_writes err.new) }
     ensures changed { IsTrue F.tells → (p : PathValue) → result ≢ Err (Cause.Changed p) }
     ensures undone { result ≢ Err Cause.Done }
-    ensures usage { result ≢ Err Cause.Usage }
+    ensures usage { result ≡ Err Cause.Usage → AreFaulty (Ok command) }
+    ensures listed { command ≡ Command.PgWaldump WaldumpWords.Managers →
+        Passes IsFree None result }
+    ensures apart { NeedsNoTree (Ok command) → tree.new ≡ tree.old }
     ensures later { E.failed_writes err.old ≤ E.failed_writes err.new }
 {
     match command {
@@ -62,14 +66,12 @@ fn carry_out<F: Tree, O: Sink, E: Sink>(
             pg_rewind(alloc, tree, err, &target, &source, now)
         }
         Command::PgControldata { root } => pg_controldata(alloc, tree, out, &root),
-        Command::PgWaldump { folder, file } => {
-            pg_waldump(alloc, tree, out, &folder, file.as_str())
-        }
+        Command::PgWaldump(words) => pg_waldump(alloc, tree, out, &words),
     }
 }
 
 // Answers the words, but for the line of the cause.
-#[tactic(auto, using(crate::proofs::DumpLemmas::shown_steps))]
+#[tactic(auto, using(crate::proofs::ShownLemmas::shown_steps))]
 fn answer<F: Tree, O: Sink, E: Sink>(
     alloc: Global,
     words: &[String],
@@ -104,8 +106,10 @@ fn answer<F: Tree, O: Sink, E: Sink>(
         Rose (E.failed_writes err.old) (E.failed_writes err.new) }
     ensures changed { IsTrue F.tells → (p : PathValue) → result ≢ Err (Cause.Changed p) }
     ensures undone { result ≢ Err Cause.Done }
-    ensures usage { result ≡ Err Cause.Usage →
-        command_of (map string_bytes words.now) ≡ Err Cause.Usage }
+    ensures usage { result ≡ Err Cause.Usage → AreFaulty (command_of (map string_bytes words.now)) }
+    ensures listed { command_of (map string_bytes words.now)
+        ≡ Ok (Command.PgWaldump WaldumpWords.Managers) → Passes IsFree None result }
+    ensures apart { NeedsNoTree (command_of (map string_bytes words.now)) → tree.new ≡ tree.old }
     ensures nameless { name_of (map string_bytes words.now) ≡ None → result ≡ Err Cause.Usage }
     ensures unfit { (e : Cause) → command_of (map string_bytes words.now) ≡ Err e →
         (result ≡ Err e) ⊎ (result ≡ Err Cause.OutOfMemory) }
@@ -129,7 +133,7 @@ fn cause_of(outcome: Result<(), Cause>) -> Cause
 /// `words` are the command and its words, `tree` holds the files, `out` and `err` are standard
 /// output and standard error, and `now` is in seconds since 1970. Where the run ends in another
 /// cause than `Done`, one line on `err` names it.
-#[tactic(auto, using(crate::proofs::DumpLemmas::shown_steps))]
+#[tactic(auto, using(crate::proofs::ShownLemmas::shown_steps))]
 pub fn run<F: Tree, O: Sink, E: Sink>(
     alloc: Global,
     words: &[String],
@@ -151,10 +155,16 @@ pub fn run<F: Tree, O: Sink, E: Sink>(
 
     // what the words alone decide, over every tree
     ensures usage { result.cause ≡ Cause.Usage →
-        command_of (map string_bytes words.now) ≡ Err Cause.Usage }
+        AreFaulty (command_of (map string_bytes words.now)) }
     ensures nameless { name_of (map string_bytes words.now) ≡ None → result.cause ≡ Cause.Usage }
     ensures unfit { (e : Cause) → command_of (map string_bytes words.now) ≡ Err e →
         (result.cause ≡ e) ⊎ (result.cause ≡ Cause.OutOfMemory) }
+
+    // the list of resource managers, and words that are refused, need no tree
+    ensures listed { command_of (map string_bytes words.now)
+        ≡ Ok (Command.PgWaldump WaldumpWords.Managers) →
+        IsFree result.cause ⊎ (result.cause ≡ Cause.Done) }
+    ensures apart { NeedsNoTree (command_of (map string_bytes words.now)) → tree.new ≡ tree.old }
 
     // the texts, over every tree
     ensures out { IsTrue O.tells → Prints (command_of (map string_bytes words.now)) result.cause

@@ -1,63 +1,27 @@
 // The roots of clusters, as the words name them.
-ghost use Rattle.std.specs.Prelude.{◌≡◌, ◌⊎◌, [], IfOk, IfErr, IsFalse};
+ghost use Rattle.std.specs.Prelude.{◌≡◌, ◌⊎◌, Err, IfOk, IfErr};
 ghost use Rattle.cluster_tree.specs.Causes.{Meets};
-ghost use Rattle.cluster_tree.specs.PathValue.{parsed, is_kept, is_rooted, path_of};
+ghost use Rattle.cluster_tree.specs.PathValue.{parsed};
 ghost use Rattle.cluster_tree.specs.Paths.{checked, Refuses};
 ghost use Rattle.rewind_core.specs.Roots.{overlap};
+ghost use Rattle.log_folder.specs.Front.{front_of};
 ghost use Rattle.wal_tools_main.specs.Causes.{IsFree, IsOfWords};
-ghost use Rattle.wal_tools_main.specs.Words.{IsFit, IsFitRoot, root_of, front_of, climbs, rewind_roots, two_roots};
+ghost use Rattle.wal_tools_main.specs.Words.{IsFit, IsFitRoot, root_of, climbs, rewind_roots, two_roots};
 
 use crate::{Cause, Command, PathCause};
 use cluster_tree::{Path, PathFault};
+use log_folder::first_parts;
 use std::alloc::Global;
 
 // A root leaves room for the files below it, up to the 64 parts of a path.
 const MOST_PARTS: usize = 61;
 
-const MOST_IN_PATH: usize = 64;
-
-fn is_kept(piece: &str) -> bool
-    ensures { result ≡ is_kept piece.now }
-{
-    !piece.is_empty() && piece != "."
-}
-
-// The path with no part, absolute where the text is. The only error is `OutOfMemory`.
-fn start(alloc: Global, text: &str) -> Result<Path, PathFault>
-    ensures path { IfOk result (λ path. path ≡ path_of (is_rooted text.now) []) }
-    ensures memory { IfErr result (λ fault. fault ≡ PathFault.OutOfMemory) }
-{
-    if text.starts_with('/') {
-        Path::parse(alloc, "/")
-    } else {
-        Path::parse(alloc, ".")
-    }
-}
-
-// The path of the first 64 parts of a text that has no part `..`. The only error is `OutOfMemory`.
-#[tactic(auto, unfolding(crate::specs::Words::front_of))]
-fn front_of(alloc: Global, text: &str) -> Result<Path, PathFault>
-    requires { IsFalse (climbs (checked 0 text.now)) }
-    ensures path { IfOk result (λ path. path ≡ front_of text.now) }
-    ensures memory { IfErr result (λ fault. fault ≡ PathFault.OutOfMemory) }
-{
-    let mut front = start(alloc, text)?;
-    for part in text
-        .split('/')
-        .filter(|piece| is_kept(piece))
-        .take(MOST_IN_PATH)
-    {
-        front = front.join(alloc, part)?;
-    }
-    Ok(front)
-}
-
 // The cause of a text with too many parts.
 fn too_deep(alloc: Global, text: &str) -> Cause
-    requires { IsFalse (climbs (checked 0 text.now)) }
+    requires { checked 0 text.now ≡ Err PathFault.TooDeep }
     ensures { (result ≡ Cause.Paths (PathCause.TooDeep (front_of text.now))) ⊎ (result ≡ Cause.OutOfMemory) }
 {
-    match front_of(alloc, text) {
+    match first_parts(alloc, text) {
         Ok(front) => Cause::Paths(PathCause::TooDeep(front)),
         Err(_) => Cause::OutOfMemory,
     }

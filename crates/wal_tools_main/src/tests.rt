@@ -2,6 +2,9 @@
 //! control files come from a script of its own (tests/pg_control.py).
 mod adapters;
 mod clusters;
+mod dumps;
+mod folders;
+mod logs;
+mod options;
 mod runs;
-mod segments;
 mod words;

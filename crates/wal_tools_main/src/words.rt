@@ -8,7 +8,6 @@ ghost use Rattle.wal_tools_main.specs.Words.{IsFit, on_paths, command_of};
 
 use crate::command::name_of;
 use crate::roots::{root_of, two_roots};
-use crate::segment_words::segment_words;
 use crate::{Cause, Command, CommandName};
 use command_words::WordsFault;
 use std::alloc::Global;
@@ -30,6 +29,7 @@ fn on_paths(alloc: Global, words: &[String]) -> Result<Command, Cause>
             let source = words.source.as_str();
             two_roots(alloc, words.dry_run, target, source)
         }
+        Ok(Asked::Waldump(words)) => Ok(Command::PgWaldump(words)),
         Err(WordsFault::Usage) => Err(Cause::Usage),
         Err(WordsFault::OutOfMemory) => Err(Cause::OutOfMemory),
     }
@@ -45,8 +45,9 @@ pub(crate) fn command_of(alloc: Global, words: &[String]) -> Result<Command, Cau
 {
     match name_of(words) {
         None => Err(Cause::Usage),
-        Some(CommandName::PgRewind | CommandName::PgControldata) => on_paths(alloc, words),
-        Some(CommandName::PgWaldump) => segment_words(alloc, words),
+        Some(CommandName::PgRewind | CommandName::PgControldata | CommandName::PgWaldump) => {
+            on_paths(alloc, words)
+        }
         Some(_) => Err(Cause::NotBuilt),
     }
 }

@@ -51,7 +51,7 @@ fn words_are_refused(rt: HostRuntime) -> Result<(), Fail> {
             &["pg_controldata", "t/.."],
             "pg_controldata: error: DotDot\n",
         ),
-        (&["pg_waldump", "--help"], "pg_waldump: error: NotBuilt\n"),
+        (&["pg_waldump", "--help"], "pg_waldump: error: Usage\n"),
         (&["pg_resetwal", "t"], "pg_resetwal: error: NotBuilt\n"),
         (
             &["pg_archivecleanup"],
