@@ -3,7 +3,7 @@
 
 A control file has 8192 bytes. Its fields stand at fixed offsets, numbers with the lowest byte
 first, and at 288 stands the CRC-32C of the 288 bytes before it (PostgreSQL 16,
-src/include/catalog/pg_control.h). The CRC is computed bit by bit.
+src/include/catalog/pg_control.h). The CRC is computed here too.
 
     pg_control.py FILE..   writes the example cluster's control file to each FILE, and makes its folder
 """
@@ -54,13 +54,21 @@ EXAMPLE = {
 }
 
 
+def crc_step(state):
+    """What eight bits do to the state of the CRC-32C: reflected polynomial 82F63B78."""
+    for _ in range(8):
+        state = (state >> 1) ^ 0x82F63B78 if state & 1 else state >> 1
+    return state
+
+
+CRC_STEPS = [crc_step(byte) for byte in range(256)]
+
+
 def crc32c(data):
-    """The CRC-32C, bit by bit: reflected polynomial 82F63B78, start and end turned over."""
+    """The CRC-32C, byte by byte, start and end turned over."""
     crc = 0xFFFFFFFF
     for byte in data:
-        crc ^= byte
-        for _ in range(8):
-            crc = (crc >> 1) ^ 0x82F63B78 if crc & 1 else crc >> 1
+        crc = CRC_STEPS[(crc ^ byte) & 0xFF] ^ (crc >> 8)
     return crc ^ 0xFFFFFFFF
 
 
