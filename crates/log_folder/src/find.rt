@@ -1,5 +1,5 @@
 // The log of a dump.
-ghost use Rattle.std.specs.Prelude.{◌≡◌, ◌≤◌, Err, length, IfOk, IfErr, IsTrue, IsErrOf};
+ghost use Rattle.std.specs.Prelude.{◌≡◌, ◌≤◌, ◌⊎◌, Err, length, IfOk, IfErr, IsTrue, IsErrOf};
 ghost use Rattle.cluster_tree.specs.Causes.{Meets, OnlyReads, Rose};
 ghost use Rattle.cluster_tree.specs.PathValue.{PathValue};
 ghost use Rattle.log_folder.specs.Faults.{IsFree, IsOfTree};
@@ -119,6 +119,9 @@ pub fn find_log<F: Tree>(
     ensures room { IfOk result (λ found. length found.log.folder.parts ≤ 63) }
 
     // over every tree: what the words alone decide
+    ensures unfit { (e : FolderFault) → folder_of words.now ≡ Err e →
+        (result ≡ Err e) ⊎ (result ≡ Err FolderFault.OutOfMemory) }
+    ensures apart { (e : FolderFault) → folder_of words.now ≡ Err e → tree.new ≡ tree.old }
     ensures usage { IsErrOf result FolderFault.Usage → IsMisused words.now }
     ensures dot_dot { IsErrOf result FolderFault.DotDot →
         folder_of words.now ≡ Err FolderFault.DotDot }
