@@ -1,3 +1,4 @@
 pub mod RootLemmas
 pub mod ShownLemmas
 pub mod ManagerLemmas
+pub mod FolderLemmas

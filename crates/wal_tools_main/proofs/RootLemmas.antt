@@ -1,5 +1,5 @@
 -- Roots by what their texts were read as.
-use Rattle.std.proofs.Common.{◌≡◌, ◌≢◌, nat_lt, if◌then◌else◌, length, Bool, true, false, ℕ, zero, suc, List, [], Result, Ok, Err, refl, ap, sym, subst}
+use Rattle.std.proofs.Common.{◌≡◌, ◌≢◌, nat_lt, if◌then◌else◌, length, false, ℕ, List, Result, Ok, Err, refl, ap, sym, subst}
 use Rattle.cluster_tree.specs.PathValue.{PathValue, parsed, kept_parts}
 use Rattle.cluster_tree.specs.Paths.{Refuses}
 use Rattle.cluster_tree.specs.declared.path_fault.PathFault.{PathFault}

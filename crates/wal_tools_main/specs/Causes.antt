@@ -6,6 +6,7 @@ use Rattle.wal_tools_main.specs.declared.cause.Cause.{Cause}
 use Rattle.wal_tools_main.specs.declared.cause.Cause.TheVariants as cause
 use Rattle.wal_tools_main.specs.declared.cause.ControlCause.TheVariants as control
 use Rattle.wal_tools_main.specs.declared.cause.RewindCause.TheVariants as rewind
+use Rattle.wal_tools_main.specs.declared.cause.PathCause.{PathCause}
 use Rattle.wal_tools_main.specs.declared.cause.PathCause.TheVariants as paths
 use Rattle.wal_tools_main.specs.declared.cause.LogCause.TheVariants as logs
 use Rattle.waldump_core.specs.declared.fault.DumpFault.{DumpFault}
@@ -74,6 +75,15 @@ is_of_words (cause.Log c) = false
 
 abbrev pub IsOfWords : Cause → Type 0
 IsOfWords e = is_of_words e ≡ true
+
+-- what is told of the text of a path alone
+abbrev pub is_of_text : PathCause → Bool
+is_of_text paths.DotDot = true
+is_of_text (paths.TooDeep path) = true
+is_of_text paths.PathsOverlap = true
+is_of_text (paths.NotFolder path) = false
+is_of_text (paths.Link path) = false
+is_of_text (paths.NameNotText path) = false
 
 -- the cause of an outcome
 abbrev pub cause_of : Result (Unit {0}) Cause → Cause

@@ -6,6 +6,8 @@ use Rattle.cluster_tree.specs.Contents.{Contents}
 use Rattle.cluster_tree.specs.declared.tree.ChangeCall.{ChangeCall}
 use Rattle.waldump_core.specs.Texts.{Extends}
 use Rattle.tool_words.specs.declared.waldump.WaldumpWords.TheVariants as asked
+use Rattle.log_folder.specs.declared.fault.FolderFault.{FolderFault}
+use Rattle.log_folder.specs.FolderText.{folder_of}
 use Rattle.wal_tools_main.specs.Answers.{Answer, same_report, cause_in}
 use Rattle.wal_tools_main.specs.Causes.{IsFree}
 use Rattle.wal_tools_main.specs.Waldump.{manager_list}
@@ -63,10 +65,10 @@ MayChange (Ok (command.PgControldata root)) = ⊥
 MayChange (Ok (command.PgWaldump words)) = ⊥
 MayChange (Err e) = ⊥
 
--- what is asked for needs no tree: the list of resource managers, and words that are refused
+-- what is asked for needs no tree: the list of resource managers, words that are refused, and a dump whose words name no folder
 abbrev pub NeedsNoTree : Result Command Cause → Type 0
 NeedsNoTree (Ok (command.PgRewind target source)) = ⊥
 NeedsNoTree (Ok (command.PgControldata root)) = ⊥
 NeedsNoTree (Ok (command.PgWaldump asked.Managers)) = Unit {0}
-NeedsNoTree (Ok (command.PgWaldump (asked.Dump words))) = ⊥
+NeedsNoTree (Ok (command.PgWaldump (asked.Dump words))) = (e : FolderFault) × (folder_of words ≡ Err e)
 NeedsNoTree (Err e) = Unit {0}

@@ -6,6 +6,8 @@ use Rattle.cluster_tree.specs.Causes.{given}
 use Rattle.cluster_tree.specs.declared.path_fault.PathFault.{PathFault}
 use Rattle.cluster_tree.specs.declared.path_fault.PathFault.TheVariants as fault
 use Rattle.rewind_core.specs.Roots.{AreApart, overlap}
+use Rattle.log_folder.specs.declared.fault.FolderFault.{FolderFault}
+use Rattle.log_folder.specs.FolderText.{folder_of}
 use Rattle.log_folder.specs.Found.{IsMisused}
 use Rattle.log_folder.specs.Front.{front_of}
 use Rattle.tool_words.specs.Command.{command_of as asked_for}
@@ -19,6 +21,7 @@ use Rattle.wal_tools_main.specs.declared.command.CommandName.{CommandName}
 use Rattle.wal_tools_main.specs.declared.command.CommandName.TheVariants as name
 use Rattle.wal_tools_main.specs.declared.command.Command.{Command}
 use Rattle.wal_tools_main.specs.declared.command.Command.TheVariants as command
+use Rattle.wal_tools_main.specs.Causes.{folder_cause}
 use Rattle.wal_tools_main.specs.Command.{name_of}
 
 -- a cluster's root leaves room for the files below it
@@ -86,6 +89,19 @@ words_of (Some _) words = Err cause.NotBuilt
 -- the command that the words ask for, or what is wrong with them
 unfoldable pub command_of : List (List ℕ) → Result Command Cause
 command_of words = words_of (name_of words) words
+
+-- why a text names no folder of a log, if so
+abbrev pub folder_refusal : Result PathValue FolderFault → Option Cause
+folder_refusal (Ok folder) = None
+folder_refusal (Err e) = Some (folder_cause e)
+
+-- why the words alone refuse, whatever files there are: they are unfit, or they are pg_waldump's and name no folder
+abbrev pub refused_by_words : Result Command Cause → Option Cause
+refused_by_words (Ok (command.PgRewind target source)) = None
+refused_by_words (Ok (command.PgControldata root)) = None
+refused_by_words (Ok (command.PgWaldump waldump.Managers)) = None
+refused_by_words (Ok (command.PgWaldump (waldump.Dump words))) = folder_refusal (folder_of words)
+refused_by_words (Err e) = Some e
 
 -- Words are faulty: they are in no command's grammar, or they are pg_waldump's and break a rule on its folder, or, where segments
 -- have some size, on its start and its end.

@@ -8,7 +8,7 @@ ghost use Rattle.wal_tools_main.specs.Words.{IsFitRoot};
 ghost use Rattle.wal_tools_main.specs.Answers.{control_refusal, control_shown};
 ghost use Rattle.wal_tools_main.specs.Texts.{Shows};
 
-use crate::Cause;
+use crate::{Cause, PathCause};
 use cluster_tree::{Path, Sink, Tree};
 use control_file::control_text;
 use rewind_core::control_at;
@@ -40,6 +40,7 @@ pub(crate) fn pg_controldata<F: Tree, O: Sink>(
     ensures changed { IsTrue F.tells → (p : PathValue) → result ≢ Err (Cause.Changed p) }
     ensures undone { result ≢ Err Cause.Done }
     ensures usage { result ≢ Err Cause.Usage }
+    ensures paths { (p : PathCause) → result ≢ Err (Cause.Paths p) }
 {
     let control = control_at(alloc, tree, root)?;
     let text = control_text(alloc, &control)?;

@@ -8,7 +8,7 @@ ghost use Rattle.wal_tools_main.specs.Words.{AreFitRoots};
 ghost use Rattle.wal_tools_main.specs.Answers.{rewind_refusal, same_timeline, no_rewind, same_report};
 ghost use Rattle.wal_tools_main.specs.Texts.{Puts};
 
-use crate::Cause;
+use crate::{Cause, PathCause};
 use cluster_tree::{Path, Sink, Tree};
 use rewind_core::rewind;
 use std::alloc::Global;
@@ -67,6 +67,7 @@ pub(crate) fn pg_rewind<F: Tree, E: Sink>(
     ensures changed { IsTrue F.tells → (p : PathValue) → result ≢ Err (Cause.Changed p) }
     ensures undone { result ≢ Err Cause.Done }
     ensures usage { result ≢ Err Cause.Usage }
+    ensures paths { (p : PathCause) → result ≢ Err (Cause.Paths p) }
     ensures later { E.failed_writes err.old ≤ E.failed_writes err.new }
 {
     rewind(alloc, tree, target, source, now)?;

@@ -1,16 +1,18 @@
 // pg_waldump.
-ghost use Rattle.std.specs.Prelude.{◌≡◌, ◌≢◌, ◌⊎◌, IsTrue, Ok, Err, None, IfErr, IsErrOf};
+ghost use Rattle.std.specs.Prelude.{◌≡◌, ◌≢◌, ◌⊎◌, IsTrue, Ok, Err, None, Some, IfErr, IsErrOf};
 ghost use Rattle.cluster_tree.specs.PathValue.{PathValue};
 ghost use Rattle.cluster_tree.specs.Causes.{OnlyReads, Passes, Rose};
 ghost use Rattle.waldump_core.specs.Texts.{Extends};
 ghost use Rattle.log_folder.specs.Found.{found_in, IsMisused};
-ghost use Rattle.wal_tools_main.specs.Causes.{IsFree, cause_of};
+ghost use Rattle.log_folder.specs.FolderText.{folder_of};
+ghost use Rattle.log_folder.specs.declared.fault.FolderFault.{FolderFault};
+ghost use Rattle.wal_tools_main.specs.Causes.{IsFree, cause_of, folder_cause, is_of_text};
 ghost use Rattle.wal_tools_main.specs.Waldump.{found_dump, manager_list, waldump_of};
-ghost use Rattle.wal_tools_main.specs.Words.{AreFaulty};
+ghost use Rattle.wal_tools_main.specs.Words.{AreFaulty, folder_refusal, refused_by_words};
 ghost use Rattle.wal_tools_main.specs.Texts.{NeedsNoTree, Prints, Shows};
 
 use crate::managers::manager_list;
-use crate::{Cause, Command};
+use crate::{Cause, Command, PathCause};
 use cluster_tree::{Sink, Tree};
 use log_folder::find_log;
 use std::alloc::Global;
@@ -55,6 +57,11 @@ fn show_log<F: Tree, O: Sink>(
     ensures changed { (p : PathValue) → result ≢ Err (Cause.Changed p) }
     ensures undone { result ≢ Err Cause.Done }
     ensures usage { result ≡ Err Cause.Usage → IsMisused words.now }
+    ensures texts { (p : PathCause) → IsTrue (is_of_text p) → result ≡ Err (Cause.Paths p) →
+        folder_refusal (folder_of words.now) ≡ Some (Cause.Paths p) }
+    ensures unfit { (e : FolderFault) → folder_of words.now ≡ Err e →
+        (result ≡ Err (folder_cause e)) ⊎ (result ≡ Err Cause.OutOfMemory) }
+    ensures apart { (e : FolderFault) → folder_of words.now ≡ Err e → tree.new ≡ tree.old }
 {
     let found = find_log(alloc, tree, words)?;
     dump(alloc, tree, out, found.log, &found.sel)?;
@@ -78,6 +85,10 @@ pub(crate) fn pg_waldump<F: Tree, O: Sink>(
         (O.written out.old) (O.written out.new) }
     ensures reads { OnlyReads F.contents F.calls F.failed_reads F.failed_changes tree.old tree.new }
     ensures listed { words.now ≡ WaldumpWords.Managers → Passes IsFree None result }
+    ensures texts { (p : PathCause) → IsTrue (is_of_text p) → result ≡ Err (Cause.Paths p) →
+        refused_by_words (Ok (Command.PgWaldump words.now)) ≡ Some (Cause.Paths p) }
+    ensures unfit { (e : Cause) → refused_by_words (Ok (Command.PgWaldump words.now)) ≡ Some e →
+        (result ≡ Err e) ⊎ (result ≡ Err Cause.OutOfMemory) }
     ensures apart { NeedsNoTree (Ok (Command.PgWaldump words.now)) → tree.new ≡ tree.old }
 
     ensures read_fault { IsErrOf result Cause.ReadFault →

@@ -1,11 +1,11 @@
 // The top call.
-ghost use Rattle.std.specs.Prelude.{◌≡◌, ◌≢◌, ◌≤◌, ◌⊎◌, IsTrue, Ok, Err, None, IsErrOf, map, string_bytes};
+ghost use Rattle.std.specs.Prelude.{◌≡◌, ◌≢◌, ◌≤◌, ◌⊎◌, IsTrue, Ok, Err, None, Some, IsErrOf, map, string_bytes};
 ghost use Rattle.cluster_tree.specs.PathValue.{PathValue};
 ghost use Rattle.cluster_tree.specs.Causes.{OnlyReads, Passes, Rose};
 ghost use Rattle.tool_words.specs.declared.waldump.WaldumpWords.TheVariants as WaldumpWords;
-ghost use Rattle.wal_tools_main.specs.Causes.{IsFree, cause_of, status_of};
+ghost use Rattle.wal_tools_main.specs.Causes.{IsFree, cause_of, is_of_text, status_of};
 ghost use Rattle.wal_tools_main.specs.Command.{name_of};
-ghost use Rattle.wal_tools_main.specs.Words.{AreFaulty, IsFit, command_of};
+ghost use Rattle.wal_tools_main.specs.Words.{AreFaulty, IsFit, command_of, refused_by_words};
 ghost use Rattle.wal_tools_main.specs.Lines.{line_of};
 ghost use Rattle.wal_tools_main.specs.Answers.{answered, answer_to, cause_in};
 ghost use Rattle.wal_tools_main.specs.Texts.{Prints, Shows, Reports, ErrAfter, Changes, MayChange, NeedsNoTree};
@@ -16,7 +16,7 @@ use crate::pg_controldata::pg_controldata;
 use crate::pg_rewind::pg_rewind;
 use crate::pg_waldump::pg_waldump;
 use crate::words::command_of;
-use crate::{Cause, Command, Exit};
+use crate::{Cause, Command, Exit, PathCause};
 use cluster_tree::{Sink, Tree};
 use std::alloc::Global;
 
@@ -58,6 +58,10 @@ fn carry_out<F: Tree, O: Sink, E: Sink>(
     ensures usage { result ≡ Err Cause.Usage → AreFaulty (Ok command) }
     ensures listed { command ≡ Command.PgWaldump WaldumpWords.Managers →
         Passes IsFree None result }
+    ensures texts { (p : PathCause) → IsTrue (is_of_text p) → result ≡ Err (Cause.Paths p) →
+        refused_by_words (Ok command) ≡ Some (Cause.Paths p) }
+    ensures unfit { (e : Cause) → refused_by_words (Ok command) ≡ Some e →
+        (result ≡ Err e) ⊎ (result ≡ Err Cause.OutOfMemory) }
     ensures apart { NeedsNoTree (Ok command) → tree.new ≡ tree.old }
     ensures later { E.failed_writes err.old ≤ E.failed_writes err.new }
 {
@@ -111,8 +115,10 @@ fn answer<F: Tree, O: Sink, E: Sink>(
         ≡ Ok (Command.PgWaldump WaldumpWords.Managers) → Passes IsFree None result }
     ensures apart { NeedsNoTree (command_of (map string_bytes words.now)) → tree.new ≡ tree.old }
     ensures nameless { name_of (map string_bytes words.now) ≡ None → result ≡ Err Cause.Usage }
-    ensures unfit { (e : Cause) → command_of (map string_bytes words.now) ≡ Err e →
-        (result ≡ Err e) ⊎ (result ≡ Err Cause.OutOfMemory) }
+    ensures unfit { (e : Cause) → refused_by_words (command_of (map string_bytes words.now))
+        ≡ Some e → (result ≡ Err e) ⊎ (result ≡ Err Cause.OutOfMemory) }
+    ensures texts { (p : PathCause) → IsTrue (is_of_text p) → result ≡ Err (Cause.Paths p) →
+        refused_by_words (command_of (map string_bytes words.now)) ≡ Some (Cause.Paths p) }
     ensures later { E.failed_writes err.old ≤ E.failed_writes err.new }
 {
     let command = command_of(alloc, words)?;
@@ -157,8 +163,10 @@ pub fn run<F: Tree, O: Sink, E: Sink>(
     ensures usage { result.cause ≡ Cause.Usage →
         AreFaulty (command_of (map string_bytes words.now)) }
     ensures nameless { name_of (map string_bytes words.now) ≡ None → result.cause ≡ Cause.Usage }
-    ensures unfit { (e : Cause) → command_of (map string_bytes words.now) ≡ Err e →
-        (result.cause ≡ e) ⊎ (result.cause ≡ Cause.OutOfMemory) }
+    ensures unfit { (e : Cause) → refused_by_words (command_of (map string_bytes words.now))
+        ≡ Some e → (result.cause ≡ e) ⊎ (result.cause ≡ Cause.OutOfMemory) }
+    ensures texts { (p : PathCause) → IsTrue (is_of_text p) → result.cause ≡ Cause.Paths p →
+        refused_by_words (command_of (map string_bytes words.now)) ≡ Some (Cause.Paths p) }
 
     // the list of resource managers, and words that are refused, need no tree
     ensures listed { command_of (map string_bytes words.now)

@@ -7,4 +7,5 @@ mod folders;
 mod logs;
 mod options;
 mod runs;
+mod segments;
 mod words;

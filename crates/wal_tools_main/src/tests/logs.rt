@@ -192,7 +192,7 @@ pub(crate) fn check_case(
     let said = said_of(alloc, cause)?;
     assert_eq!(rt; err.bytes(), said.as_bytes());
     assert_eq!(rt; out.bytes(), shown.as_bytes());
-    assert_eq!(rt; exit.status == 0, cause.is_empty(), "{said}");
+    assert_eq!(rt; exit.status, if cause.is_empty() { 0 } else { 1 }, "{said}");
     assert_eq!(rt; tree.changes(), before, "{said}");
     Ok(())
 }
