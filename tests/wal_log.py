@@ -11,11 +11,11 @@ the name of the operation, and the names of Hash and custom managers, are those 
 
 makes the folder DIR and writes into it the segments to the folder pg_wal, the lines to the file
 lines, the lines with a line for each block reference to the file details, and where the log ends to
-the file end. It makes two more folders of segments, malformed and compressed: behind a few records
-stands one that a dump refuses. What is shown before it stands in malformed.lines and
-compressed.lines, and where it starts in malformed.at and compressed.at. MAGIC is that of the pages,
-else PostgreSQL 16's; with D110, which is PostgreSQL 15's, its pg_waldump can be held against the
-lines.
+the file end. The folder s has the log of the example pair's source in its pg_wal. Two more folders
+of segments are malformed and compressed: behind a few records stands one that a dump refuses. What
+is shown before it stands in malformed.lines and compressed.lines, and where it starts in
+malformed.at and compressed.at. MAGIC is that of the pages, else PostgreSQL 16's; with D110, which is
+PostgreSQL 15's, its pg_waldump can be held against the lines.
 """
 import os
 import struct
@@ -219,11 +219,11 @@ class Log:
                    f"desc: {record.name} {record.text}{refs}")
 
 
-def checkpoint(log, online):
+def checkpoint(log, online, next_xid=701):
     at, word = log.place(), "online" if online else "shutdown"
-    values = dict(EXAMPLE, **{"cp.redo": at})
+    values = dict(EXAMPLE, **{"cp.redo": at, "cp.nextXid": next_xid})
     return Record("XLOG", 0x10 if online else 0x00, 0, f"CHECKPOINT_{word.upper()}",
-                  f"redo {position(at)}; tli 1; prev tli 1; fpw on; xid 0:701; oid 16385; multi 1; "
+                  f"redo {position(at)}; tli 1; prev tli 1; fpw on; xid 0:{next_xid}; oid 16385; multi 1; "
                   "offset 0; oldest xid 700 in DB 1; oldest multi 1 in DB 1; oldest/newest commit "
                   f"timestamp xid: 0/0; oldest running xid 0; {word}", front(values)[40:128])
 
@@ -330,6 +330,13 @@ def example(magic):
     return log
 
 
+def source(magic):
+    """A log of one record: that of the source of the example pair."""
+    log = Log(magic)
+    log.add(checkpoint(log, False, 700))
+    return log
+
+
 def refused(magic, body):
     """A log whose last record has this body."""
     log = Log(magic)
@@ -370,6 +377,7 @@ def main(folder, version="D113"):
     write(os.path.join(folder, "lines"), log.lines(False))
     write(os.path.join(folder, "details"), log.lines(True))
     write(os.path.join(folder, "end"), [position(log.place())])
+    write_segments(os.path.join(folder, "s", "pg_wal"), source(magic))
     for name, body in [("malformed", malformed()), ("compressed", compressed())]:
         log = refused(magic, body)
         at = os.path.join(folder, name)
