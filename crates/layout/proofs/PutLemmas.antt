@@ -1,47 +1,17 @@
--- What is written at an offset is read again, and what stands before it is kept.
-use Rattle.std.proofs.Common.{append_assoc, ◌≡◌, ℕ, zero, suc, ◌+◌, ◌^◌, ◌<◌, ◌≤◌, List, [], ◌++◌, length, take, drop, get_or, refl, sym, ap, ◌∙◌, arith, length-append, length-take, length-drop, length-take-le}
+-- Values are read again where their bytes stand.
+use Rattle.std.proofs.Common.{◌≡◌, ℕ, zero, suc, ◌+◌, ◌^◌, ◌<◌, ◌≤◌, List, [], length, take, drop, get_or, refl, sym, ap, ◌∙◌, arith}
 use Rattle.std.specs.Int.{w64, cast_signed, cast_unsigned}
 use Rattle.std.proofs.lemmas.Int.{to_z-of_z, ints}
-use Rattle.std.proofs.lemmas.List.{append-nil, get_or-drop, get_or-take, get_or_append_left, get_or-append_right, take_at}
+use Rattle.std.proofs.lemmas.List.{append-nil, get_or-drop, take_at}
 use Rattle.std.proofs.lemmas.List.Prefix.{at_from_reads}
 use Rattle.byteorder.specs.Endian.{little_bytes, little_from, little_number}
 use Rattle.byteorder.specs.Numbers.{little_number-reads_back, length-bytes_low_first}
-use Rattle.layout.specs.Readers.{byte_at, half_at, word_at, long_at, signed_at, value_at}
+use Rattle.layout.specs.Readers.{u8_at, u16_at, u32_at, u64_at, i64_at, value_at}
 use Rattle.layout.specs.Values.{width, ValueFits}
-use Rattle.layout.specs.Writing.{value_bytes, put}
+use Rattle.layout.specs.Writing.{value_bytes}
 use Rattle.layout.specs.declared.value.Value.{Value}
 use Rattle.layout.specs.declared.value.Value.TheVariants.{Byte, Half, Word, Long, Signed, Raw}
-
--- these bytes stand at this offset
-abbrev pub Stands : ℕ → List ℕ → List ℕ → Type 0
-Stands at new bytes = (i : ℕ) → i < length new → get_or bytes (at + i) 0 ≡ get_or new i 0
-
-pub length-put : (at : ℕ) (new old : List ℕ) → at + length new ≤ length old → length (put at new old) ≡ length old
-unfolding put
-length-put at new old room = simp (length-append, length-take, length-drop) (omega arith)
-
-pub put-stands : (at : ℕ) (new old : List ℕ) → at + length new ≤ length old → Stands at new (put at new old)
-unfolding put
-put-stands at new old room i lt =
-    let front = length-take-le at old (omega arith) in
-    get_or_append_left (take at old ++ new) (drop (at + length new) old) 0 (at + i) (omega (arith, length-append (take at old) new))
-    ∙ get_or-append_right (take at old) new at (at + i) 0 front (omega arith)
-    ∙ ap (λ (k : ℕ). get_or new k 0) (omega arith)
-
--- what stands before the place is kept
-pub put-keeps : (at : ℕ) (new : List ℕ) (to : ℕ) (more old : List ℕ) → at + length new ≤ to → to ≤ length old → Stands at new old → Stands at new (put to more old)
-unfolding put
-put-keeps at new to more old before room stands i lt =
-    let front = length-take-le to old room in
-    get_or_append_left (take to old ++ more) (drop (to + length more) old) 0 (at + i) (omega (arith, length-append (take to old) more))
-    ∙ get_or_append_left (take to old) more 0 (at + i) (omega arith)
-    ∙ get_or-take to old (at + i) 0 (omega arith)
-    ∙ stands i lt
-
-pub take-put : (at : ℕ) (new old : List ℕ) → at ≤ length old → take at (put at new old) ≡ take at old
-unfolding put
-take-put at new old le =
-    ap (take at) (append_assoc (take at old) new (drop (at + length new) old)) ∙ take_at (take at old) (new ++ drop (at + length new) old) at (length-take-le at old le)
+use Rattle.layout.proofs.SpliceLemmas.{Stands}
 
 -- a value has as many bytes as its form says
 pub length-value_bytes : (v : Value) → ValueFits v → length (value_bytes v) ≡ width v
@@ -68,7 +38,7 @@ number_again n x at bytes fits stands =
 
 -- where a value's bytes stand, the value is read
 pub value_again : (v : Value) (at : ℕ) (bytes : List ℕ) → ValueFits v → at + width v ≤ length bytes → Stands at (value_bytes v) bytes → value_at v at bytes ≡ v
-unfolding value_bytes byte_at half_at word_at long_at signed_at
+unfolding value_bytes u8_at u16_at u32_at u64_at i64_at
 value_again (Byte n) at bytes fits room stands = ap Byte (ap (λ (k : ℕ). get_or bytes k 0) (omega arith) ∙ stands 0 (omega arith))
 value_again (Half n) at bytes fits room stands = ap Half (number_again 2 n at bytes (omega arith) stands)
 value_again (Word n) at bytes fits room stands = ap Word (number_again 4 n at bytes (omega arith) stands)

@@ -1,5 +1,6 @@
 pub mod Readers
 pub mod Rows
 pub mod Rules
+pub mod Splice
 pub mod Values
 pub mod Writing

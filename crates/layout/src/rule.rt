@@ -1,7 +1,7 @@
 //! What a field may hold.
 
 ghost use Rattle.std.specs.Prelude.{◌≡◌};
-ghost use Rattle.layout.specs.Rules.{allows, is_segment_size};
+ghost use Rattle.layout.specs.Rules.{allows};
 
 /// What a field may hold.
 #[derive(Clone, Copy, Debug)]
@@ -14,8 +14,8 @@ pub enum Rule {
     Only(u64),
     /// A number from the first to the second, both of them allowed.
     Between(u64, u64),
-    /// The size of a segment of the log in bytes: a power of two from 2^20 to 2^30.
-    SegmentSize,
+    /// A power of two from the first to the second, both of them allowed.
+    PowerOfTwo(u64, u64),
 }
 
 impl Rule {
@@ -28,15 +28,9 @@ impl Rule {
             Rule::AtMost(most) => n <= most,
             Rule::Only(one) => n == one,
             Rule::Between(least, most) => least <= n && n <= most,
-            Rule::SegmentSize => is_segment_size(n),
+            Rule::PowerOfTwo(least, greatest) => {
+                n.is_power_of_two() && least <= n && n <= greatest
+            }
         }
     }
-}
-
-/// Whether a segment of the log may have this many bytes: a power of two from 2^20 to 2^30.
-#[tactic(auto, unfolding(crate::specs::Rules::is_segment_size))]
-pub fn is_segment_size(n: u64) -> bool
-    ensures { result ≡ is_segment_size n }
-{
-    n.is_power_of_two() && 0x10_0000 <= n && n <= 0x4000_0000
 }

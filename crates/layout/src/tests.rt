@@ -1,8 +1,6 @@
 //! Values by hand from the layout of numbers with the lowest byte first.
 
-use crate::{
-    Row, Rule, Value, first_broken, i64_at, is_segment_size, raw_at, u8_at, u16_at, u32_at, u64_at,
-};
+use crate::{Row, Rule, Value, first_broken, i64_at, raw_at, u8_at, u16_at, u32_at, u64_at};
 
 /// The byte at place k is k + 1, but the last eight are FE and seven FF: -2 in two's complement.
 const BYTES: [u8; 40] = [
@@ -48,30 +46,16 @@ fn rules_allow(rt: HostRuntime) {
         (Rule::Between(1, 3), 1, true),
         (Rule::Between(1, 3), 3, true),
         (Rule::Between(1, 3), 4, false),
-        (Rule::SegmentSize, 0x100_0000, true),
-        (Rule::SegmentSize, 0x180_0000, false),
+        (Rule::PowerOfTwo(8, 32), 0, false),
+        (Rule::PowerOfTwo(8, 32), 4, false),
+        (Rule::PowerOfTwo(8, 32), 8, true),
+        (Rule::PowerOfTwo(8, 32), 16, true),
+        (Rule::PowerOfTwo(8, 32), 24, false),
+        (Rule::PowerOfTwo(8, 32), 32, true),
+        (Rule::PowerOfTwo(8, 32), 64, false),
     ];
     for (rule, number, allowed) in rows {
         assert_eq!(rt; rule.allows(number), allowed, "{rule:?} at {number}");
-    }
-}
-
-#[test]
-fn a_segment_has_a_power_of_two(rt: HostRuntime) {
-    for n in [0x10_0000, 0x20_0000, 0x100_0000, 0x2000_0000, 0x4000_0000] {
-        assert!(rt; is_segment_size(n), "{n}");
-    }
-    for n in [
-        0,
-        1,
-        0x8_0000,
-        0xF_FFFF,
-        0x10_0001,
-        0x30_0000,
-        0x6000_0000,
-        0x8000_0000,
-    ] {
-        assert!(rt; !is_segment_size(n), "{n}");
     }
 }
 

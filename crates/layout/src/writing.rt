@@ -3,17 +3,18 @@
 ghost use Rattle.std.specs.Prelude.{true, ◌≡◌, ◌≤◌, ◌+◌, length, replicate};
 ghost use Rattle.std.specs.List.{All, AllByRecursion};
 ghost use Rattle.layout.specs.Rows.{RowFits, Says, ascends, end_of};
+ghost use Rattle.layout.specs.Splice.{splice};
 ghost use Rattle.layout.specs.Values.{width};
-ghost use Rattle.layout.specs.Writing.{laid, put, value_bytes};
+ghost use Rattle.layout.specs.Writing.{laid, value_bytes};
 
 use crate::row::Row;
 use crate::value::Value;
 
 /// Writes a value at an offset, over what stood there.
-#[tactic(auto, unfolding(crate::specs::Writing::value_bytes, crate::specs::Writing::put))]
+#[tactic(auto, unfolding(crate::specs::Writing::value_bytes, crate::specs::Splice::splice))]
 pub fn put(into: &mut [u8], at: usize, value: Value)
     requires { at + width value ≤ length into.old }
-    ensures { into.new ≡ put at (value_bytes value) into.old }
+    ensures { into.new ≡ splice into.old at (value_bytes value) }
 {
     match value {
         Value::Byte(n) => into[at] = n,
