@@ -1,6 +1,6 @@
 -- Four bytes and sixteen bytes at a time.
 use Rattle.std.proofs.Common.{◌≡◌, ℕ, zero, suc, ◌+◌, ◌*◌, ◌/◌, ◌%◌, ◌^◌, ◌<◌, List, bit_xor, bit_and, get_or, drop, length, sym, ap, ◌∙◌, arith}
-use Rattle.std.proofs.lemmas.Nat.{xor_shr, xor_mod, and_mask}
+use Rattle.std.proofs.lemmas.Nat.{xor_shr, xor_mod, xor_comm, and_mask}
 use Rattle.std.proofs.lemmas.List.{length-drop}
 use lib.Bits.{xor_assoc, xor_zero_l, xor_zero_r}
 use Rattle.wal_base.specs.Crc.{crc_steps, crc_byte, crc_fold}
@@ -43,6 +43,22 @@ split_fresh : (bytes : List ℕ) (i after : ℕ) → i + 1 + after ≡ length by
 split_fresh bytes i after e h =
     split_off 0 bytes i after e h
     ∙ ap (λ x. bit_xor (crc_steps (8 * (after + 1)) x) (crc_fold 0 (drop (i + 1) bytes))) (xor_zero_l (get_or bytes i 0))
+
+-- four bytes alone, and those after them
+pub fresh_four : (bytes : List ℕ) (i after : ℕ) → i + 4 + after ≡ length bytes → ((k : ℕ) → get_or bytes k 0 < 256)
+    → crc_fold 0 (drop i bytes)
+    ≡ bit_xor (crc_steps (8 * (after + 3 + 1)) (get_or bytes i 0))
+    (bit_xor (crc_steps (8 * (after + 2 + 1)) (get_or bytes (i + 1) 0))
+    (bit_xor (crc_steps (8 * (after + 1 + 1)) (get_or bytes (i + 1 + 1) 0))
+    (bit_xor (crc_steps (8 * (after + 1)) (get_or bytes (i + 1 + 1 + 1) 0)) (crc_fold 0 (drop (i + 1 + 1 + 1 + 1) bytes)))))
+fresh_four bytes i after e h =
+    let t0 : ℕ = crc_steps (8 * (after + 3 + 1)) (get_or bytes i 0) in
+    let t1 : ℕ = crc_steps (8 * (after + 2 + 1)) (get_or bytes (i + 1) 0) in
+    let t2 : ℕ = crc_steps (8 * (after + 1 + 1)) (get_or bytes (i + 1 + 1) 0) in
+    split_fresh bytes i (after + 3) (omega (arith, e)) (h i)
+    ∙ ap (bit_xor t0) (split_fresh bytes (i + 1) (after + 2) (omega (arith, e)) (h (i + 1))
+    ∙ ap (bit_xor t1) (split_fresh bytes (i + 1 + 1) (after + 1) (omega (arith, e)) (h (i + 1 + 1))
+    ∙ ap (bit_xor t2) (split_fresh bytes (i + 1 + 1 + 1) after (omega (arith, e)) (h (i + 1 + 1 + 1)))))
 
 -- what the bytes from i on add, each by itself
 unfoldable pub fresh_sum : List ℕ → ℕ → ℕ → ℕ
@@ -107,6 +123,48 @@ four_is a b c d = simp xor_assoc
 pub four_and : (a b c d rest : ℕ) → bit_xor (four a b c d) rest ≡ bit_xor a (bit_xor b (bit_xor c (bit_xor d rest)))
 four_and a b c d rest = simp xor_assoc
 
-pub twelve : (a b c d e f g h i j k l : ℕ) → bit_xor (bit_xor (four a b c d) (four e f g h)) (four i j k l)
-    ≡ bit_xor a (bit_xor b (bit_xor c (bit_xor d (bit_xor e (bit_xor f (bit_xor g (bit_xor h (bit_xor i (bit_xor j (bit_xor k l))))))))))
-twelve a b c d e f g h i j k l = simp xor_assoc
+pub eight : (a b c d e f g h : ℕ) → bit_xor (four a b c d) (four e f g h)
+    ≡ bit_xor a (bit_xor b (bit_xor c (bit_xor d (bit_xor e (bit_xor f (bit_xor g h))))))
+eight a b c d e f g h = simp xor_assoc
+
+-- the lowest byte of a word with the state mixed in
+mixed_low : (low c b : ℕ) → low % 256 ≡ b → bit_and (bit_xor low c) 255 ≡ bit_xor (bit_and c 255) b
+mixed_low low c b e =
+    and_mask (bit_xor low c) 8
+    ∙ xor_mod low c 8
+    ∙ ap (λ x. bit_xor x (c % 256)) e
+    ∙ xor_comm b (c % 256)
+    ∙ ap (λ x. bit_xor x b) (sym (and_mask c 8))
+
+-- another one
+mixed_byte : (low c k b : ℕ) → low / 2 ^ k % 256 ≡ b → bit_and (bit_xor low c / 2 ^ k) 255 ≡ bit_xor (bit_and (c / 2 ^ k) 255) b
+mixed_byte low c k b e =
+    and_mask (bit_xor low c / 2 ^ k) 8
+    ∙ ap (λ x. x % 256) (xor_shr low c k)
+    ∙ xor_mod (low / 2 ^ k) (c / 2 ^ k) 8
+    ∙ ap (λ x. bit_xor x (c / 2 ^ k % 256)) e
+    ∙ xor_comm b (c / 2 ^ k % 256)
+    ∙ ap (λ x. bit_xor x b) (sym (and_mask (c / 2 ^ k) 8))
+
+-- and the highest, above which nothing is left
+mixed_top : (low c b : ℕ) → low / 16777216 ≡ b → bit_xor low c / 16777216 ≡ bit_xor (c / 16777216) b
+mixed_top low c b e =
+    xor_shr low c 24 ∙ ap (λ x. bit_xor x (c / 16777216)) e ∙ xor_comm b (c / 16777216)
+
+-- and so all four
+pub mixed : (w s : ℕ) (bytes : List ℕ) → ((k : ℕ) → get_or bytes k 0 < 256)
+    → w ≡ get_or bytes 0 0 + get_or bytes 1 0 * 256 + get_or bytes 2 0 * 65536 + get_or bytes 3 0 * 16777216
+    → (bit_and (bit_xor w s) 255 ≡ bit_xor (bit_and s 255) (get_or bytes 0 0))
+    × (bit_and (bit_xor w s / 256) 255 ≡ bit_xor (bit_and (s / 256) 255) (get_or bytes 1 0))
+    × (bit_and (bit_xor w s / 65536) 255 ≡ bit_xor (bit_and (s / 65536) 255) (get_or bytes 2 0))
+    × (bit_xor w s / 16777216 ≡ bit_xor (s / 16777216) (get_or bytes 3 0))
+mixed w s bytes small is =
+    let w0 : w % 256 ≡ get_or bytes 0 0 = omega (arith, is, small 0, small 1, small 2, small 3) in
+    let w1 : w / 256 % 256 ≡ get_or bytes 1 0 = omega (arith, is, small 0, small 1, small 2, small 3) in
+    let w2 : w / 65536 % 256 ≡ get_or bytes 2 0 = omega (arith, is, small 0, small 1, small 2, small 3) in
+    let w3 : w / 16777216 ≡ get_or bytes 3 0 = omega (arith, is, small 0, small 1, small 2, small 3) in (
+      mixed_low w s (get_or bytes 0 0) w0,
+      mixed_byte w s 8 (get_or bytes 1 0) w1,
+      mixed_byte w s 16 (get_or bytes 2 0) w2,
+      mixed_top w s (get_or bytes 3 0) w3,
+    )

@@ -9,7 +9,7 @@ use Rattle.std.specs.Char.{is_ascii_hexdigit}
 use Rattle.std.specs.Fmt.{digits, digits_onto, digit_glyph, padded_integral, format_spec, char_count, ◌++?◌}
 use Rattle.std.specs.List.{list_all}
 use Rattle.std.specs.Str.Parse.{digits_value}
-use Rattle.wal_base.specs.Hex.{hex_text, hex_digits, hex8, hex_word, is_hex_word, is_upper_hex}
+use Rattle.wal_base.specs.Hex.{hex_text, hex_digits, upper_hex, hex8, hex_word, is_hex_word, is_upper_hex}
 use Rattle.wal_base.proofs.HexDigits.{and_both, upper_glyph, all_hex_from_upper, length-hex_digits, upper-hex_digits, value-hex_digits, hex_digits-value}
 
 cond_upper : (b : Bool) (xs ys : List ℕ) → list_all is_upper_hex xs ≡ true → list_all is_upper_hex ys ≡ true → list_all is_upper_hex (cond b xs ys) ≡ true
@@ -47,9 +47,13 @@ onto_short (suc k) (suc w) n acc h =
     let rest = onto_short k w (n / 16) (g ∷ acc) fewer in
     cond_short (n / 16 == 0) (g ∷ acc) (digits_onto k 16 true (n / 16) (g ∷ acc)) (suc (suc w) + length acc) (omega arith) (omega (arith, rest))
 
-short-hex_text : (n : ℕ) → n < 2 ^ 32 → length (hex_text n) ≤ 8
+pub short_digits : (w n : ℕ) → 0 < w → n < 16 ^ w → length (hex_text n) ≤ w
 unfolding digits
-short-hex_text n h = omega (arith, onto_short 64 7 n [] h)
+short_digits zero n some h = absurd (omega (arith, some))
+short_digits (suc w) n some h = omega (arith, onto_short 64 w n [] h)
+
+short-hex_text : (n : ℕ) → n < 2 ^ 32 → length (hex_text n) ≤ 8
+short-hex_text n h = short_digits 8 n (omega arith) (omega (arith, h))
 
 upper_zeros : (k : ℕ) → list_all is_upper_hex (replicate k 48) ≡ true
 upper_zeros zero = refl
@@ -59,24 +63,27 @@ value_zeros : (k : ℕ) (text : List ℕ) → digits_value 16 (replicate k 48 ++
 value_zeros zero text = refl
 value_zeros (suc k) text = value_zeros k text
 
-numeral : (n : ℕ) → n < 2 ^ 32 → digits_value 16 (hex_text n) ≡ n
+numeral : (n : ℕ) → n < 2 ^ 64 → digits_value 16 (hex_text n) ≡ n
 numeral n h = (digits_is_IsNumeral 16 true (omega arith) (omega arith) n (omega arith)).1
 
 some_digit : (n : ℕ) → n < 2 ^ 32 → 0 < length (hex_text n)
 some_digit n h = (digits_is_IsNumeral 16 true (omega arith) (omega arith) n (omega arith)).0.0
 
--- zeros before the digits make eight of them
-pub padded-hex_text : (n : ℕ) → n < 2 ^ 32 → replicate (8 - length (hex_text n)) 48 ++ hex_text n ≡ hex8 n
-padded-hex_text n h =
-    let zeros : List ℕ = replicate (8 - length (hex_text n)) 48 in
-    let short = short-hex_text n h in
-    let size : length (zeros ++ hex_text n) ≡ 8 =
-    length-append zeros (hex_text n) ∙ ap (λ k. k + length (hex_text n)) (length-replicate (8 - length (hex_text n)) 48) ∙ omega arith in
+-- zeros before the digits make as many as are asked for
+pub padded_digits : (w n : ℕ) → 0 < w → n < 16 ^ w → n < 2 ^ 64 → upper_hex w n ≡ hex_digits w n
+padded_digits w n some h low =
+    let zeros : List ℕ = replicate (w - length (hex_text n)) 48 in
+    let short = short_digits w n some h in
+    let size : length (zeros ++ hex_text n) ≡ w =
+    length-append zeros (hex_text n) ∙ ap (λ k. k + length (hex_text n)) (length-replicate (w - length (hex_text n)) 48) ∙ omega (arith, short) in
     let upper : list_all is_upper_hex (zeros ++ hex_text n) ≡ true =
     list_all-append is_upper_hex zeros (hex_text n)
-    ∙ and_both (list_all is_upper_hex zeros) (list_all is_upper_hex (hex_text n)) (upper_zeros (8 - length (hex_text n))) (upper-hex_text n) in
-    let value : digits_value 16 (zeros ++ hex_text n) ≡ n = value_zeros (8 - length (hex_text n)) (hex_text n) ∙ numeral n h in
-    sym (hex_digits-value (zeros ++ hex_text n) upper) ∙ ap (λ k. hex_digits k (digits_value 16 (zeros ++ hex_text n))) size ∙ ap (hex_digits 8) value
+    ∙ and_both (list_all is_upper_hex zeros) (list_all is_upper_hex (hex_text n)) (upper_zeros (w - length (hex_text n))) (upper-hex_text n) in
+    let value : digits_value 16 (zeros ++ hex_text n) ≡ n = value_zeros (w - length (hex_text n)) (hex_text n) ∙ numeral n low in
+    sym (hex_digits-value (zeros ++ hex_text n) upper) ∙ ap (λ k. hex_digits k (digits_value 16 (zeros ++ hex_text n))) size ∙ ap (hex_digits w) value
+
+pub padded-hex_text : (n : ℕ) → n < 2 ^ 32 → replicate (8 - length (hex_text n)) 48 ++ hex_text n ≡ hex8 n
+padded-hex_text n h = padded_digits 8 n (omega arith) (omega (arith, h)) (omega (arith, h))
 
 word_of : (text : List ℕ) → 0 < length text → length text ≤ 8 → list_all is_ascii_hexdigit text ≡ true → is_hex_word text ≡ true
 word_of text some few hex = grind (arith, nat_tests)
@@ -93,19 +100,24 @@ is_hex_word-hex8 n =
     word_of (hex8 n) (omega (arith, size)) (omega (arith, size)) (all_hex_from_upper (hex8 n) (upper-hex_digits 8 n))
 
 pub hex_word-hex_text : (n : ℕ) → n < 2 ^ 32 → hex_word (hex_text n) ≡ Some n
-hex_word-hex_text n h = read_word (hex_text n) (is_hex_word-hex_text n h) ∙ ap Some (numeral n h)
+hex_word-hex_text n h = read_word (hex_text n) (is_hex_word-hex_text n h) ∙ ap Some (numeral n (omega (arith, h)))
 
 pub hex_word-hex8 : (n : ℕ) → n < 2 ^ 32 → hex_word (hex8 n) ≡ Some n
 hex_word-hex8 n h = read_word (hex8 n) (is_hex_word-hex8 n) ∙ ap Some (value-hex_digits 8 n h)
 
--- what `{:08X}` writes
-pub hex8_shown : (n : ℕ) → n < 2 ^ 32 → padded_integral (format_spec 32 0 4 8 (2 ^ 64 - 1)) false [] (hex_text n) ≡ hex8 n
+-- what `{:0width$X}` writes
+upper_shown : (w n : ℕ) → padded_integral (format_spec 32 0 4 w (2 ^ 64 - 1)) false [] (hex_text n) ≡ upper_hex w n
 unfolding padded_integral char_count
-hex8_shown n h =
-    let zeros : 8 - length (hex_text n) - 0 - 0 ≡ 8 - length (hex_text n) = omega arith in
+upper_shown w n =
+    let zeros : w - length (hex_text n) - 0 - 0 ≡ w - length (hex_text n) = omega arith in
     ap (λ k. replicate k 48 ++ (hex_text n ++ [])) zeros
-    ∙ ap (λ text. replicate (8 - length (hex_text n)) 48 ++ text) (append-nil (hex_text n))
-    ∙ padded-hex_text n h
+    ∙ ap (λ text. replicate (w - length (hex_text n)) 48 ++ text) (append-nil (hex_text n))
+
+pub upper_hole : (o : Option (List ℕ)) (w n : ℕ) → o ≡ Some (hex_text n) → option_map (padded_integral (format_spec 32 0 4 w (2 ^ 64 - 1)) false []) o ≡ Some (upper_hex w n)
+upper_hole o w n e = rw e (ap Some (upper_shown w n))
+
+pub hex8_shown : (n : ℕ) → n < 2 ^ 32 → padded_integral (format_spec 32 0 4 8 (2 ^ 64 - 1)) false [] (hex_text n) ≡ hex8 n
+hex8_shown n h = upper_shown 8 n ∙ padded-hex_text n h
 
 -- a hole `{:08X}`
 pub hex8_hole : (o : Option (List ℕ)) (n : ℕ) → o ≡ Some (hex_text n) → n < 2 ^ 32 → option_map (padded_integral (format_spec 32 0 4 8 (2 ^ 64 - 1)) false []) o ≡ Some (hex8 n)

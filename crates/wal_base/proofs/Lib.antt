@@ -7,7 +7,10 @@ pub mod CrcChunks
 pub mod CrcVectors
 pub mod HexDigits
 pub mod HexText
+pub mod GlyphLemmas
+pub mod DecimalLemmas
 pub mod LsnLemmas
+pub mod SizeMade
 pub mod SizeLemmas
 pub mod HexLoop
 pub mod SpanLemmas

@@ -1,5 +1,5 @@
 -- Hexadecimal numbers in positions and file names, as C's %X and %08X write them.
-use Rattle.std.specs.Prelude.{◌==◌, ℕ, zero, suc, ◌/◌, ◌%◌, ◌^◌, ◌||◌, ◌&&◌, Bool, true, List, [], ◌∷◌, Option, Some, None, length, nat_lt, nat_le, if◌then◌else◌}
+use Rattle.std.specs.Prelude.{◌==◌, ℕ, zero, suc, ◌/◌, ◌-◌, ◌%◌, ◌^◌, ◌||◌, ◌&&◌, Bool, true, List, [], ◌∷◌, ◌++◌, replicate, Option, Some, None, length, nat_lt, nat_le, if◌then◌else◌}
 use Rattle.std.specs.Char.{is_ascii_hexdigit}
 use Rattle.std.specs.Int.{is_in_range}
 use Rattle.std.specs.Fmt.{digits, digit_glyph}
@@ -18,6 +18,14 @@ hex_digits (suc width) n = digit_glyph true (n / 16 ^ width % 16) ∷ hex_digits
 -- %08X, of a number below 2 ^ 32
 abbrev pub hex8 : ℕ → List ℕ
 hex8 n = hex_digits 8 n
+
+-- %02X, of a byte
+abbrev pub hex2 : ℕ → List ℕ
+hex2 n = hex_digits 2 n
+
+-- %0wX for a width w: the digits of a number, and zeros (48) before them where they are fewer
+abbrev pub upper_hex : ℕ → ℕ → List ℕ
+upper_hex width n = replicate (width - length (hex_text n)) 48 ++ hex_text n
 
 -- the number that digits of either case write
 abbrev pub hex_value : List ℕ → ℕ

@@ -1,7 +1,9 @@
 pub mod Memory
 pub mod Crc
+pub mod Decimal
 pub mod Hex
 pub mod Lsn
 pub mod SegSize
 pub mod Segment
+pub mod SizeOfBytes
 pub mod Spans

@@ -1,6 +1,7 @@
 -- Segment files and their names: PostgreSQL 16, src/include/access/xlog_internal.h, XLByteToSeg, XLogFileName and
 -- XLogFromFileName.
 use Rattle.std.specs.Prelude.{◌≡◌, ℕ, ◌+◌, ◌*◌, ◌/◌, ◌%◌, ◌^◌, ◌<◌, ◌&&◌, Bool, List, ◌++◌, Option, Some, None, take, drop, nat_lt, if◌then◌else◌}
+use Rattle.wal_base.specs.declared.lsn.Lsn.{Lsn}
 use Rattle.wal_base.specs.declared.seg_size.SegSize.{SegSize}
 use Rattle.wal_base.specs.declared.segment.Segment.{Segment}
 use Rattle.wal_base.specs.Hex.{hex8, hex_value, is_long_name}
@@ -17,6 +18,10 @@ segments_per_high bytes = 2 ^ 32 / bytes
 abbrev pub segment_name : ℕ → ℕ → ℕ → List ℕ
 segment_name bytes tli number =
     hex8 tli ++ hex8 (number / segments_per_high bytes) ++ hex8 (number % segments_per_high bytes)
+
+-- the position of a segment's first byte
+abbrev pub start_of : Segment → Lsn
+start_of segment = record { 0 = segment.number * bytes_of segment.size }
 
 -- the name of a segment
 abbrev pub name_of : Segment → List ℕ

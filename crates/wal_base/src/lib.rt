@@ -2,6 +2,8 @@
 #![tactic(auto)]
 
 mod crc;
+mod decimal;
+mod digits;
 mod hex;
 mod laws;
 mod lsn;
@@ -15,7 +17,11 @@ mod tables;
 mod text;
 
 pub use crc::Crc32c;
-pub use laws::{positions_are_named, segments_are_named};
+pub use decimal::{decimal_u32, decimal_u64};
+pub use digits::{HexByte, HexWord, eight_digits, hex_digit};
+pub use laws::{
+    decimals_are_named, padded_digits_are_digits, positions_are_named, segments_are_named,
+};
 pub use lsn::Lsn;
 pub use memory::OutOfMemory;
 pub use plain::plain_crc32c;

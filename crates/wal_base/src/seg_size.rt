@@ -12,9 +12,18 @@ pub struct SegSize {
 
 impl SegSize {
     ghost use Rattle.wal_base.specs.Segment.{bytes_of, segments_per_high};
+    ghost use Rattle.wal_base.specs.SizeOfBytes.{size_of_bytes};
 
     /// The size of so many bytes, or `None` where that isn't a power of two from 2^20 to 2^30.
     pub fn new(bytes: u32) -> Option<SegSize>
+        ensures exact { result ≡ size_of_bytes bytes }
+        ensures valid { IsSome result ↔ IsSegSize bytes }
+        ensures value { IfSome result (λ size. bytes_of size ≡ bytes) }
+    {
+        SegSize::tested(bytes)
+    }
+
+    fn tested(bytes: u32) -> Option<SegSize>
         ensures valid { IsSome result ↔ IsSegSize bytes }
         ensures value { IfSome result (λ size. bytes_of size ≡ bytes) }
     {

@@ -22,7 +22,7 @@ pub struct Segment {
 }
 
 impl Segment {
-    ghost use Rattle.wal_base.specs.Segment.{bytes_of, name_of, segment_named};
+    ghost use Rattle.wal_base.specs.Segment.{bytes_of, name_of, segment_named, start_of};
 
     /// The segment of a timeline that holds a position.
     pub fn of(tli: u32, at: Lsn, size: SegSize) -> Segment
@@ -34,6 +34,14 @@ impl Segment {
             number: at.0 / u64::from(size.bytes()),
             size,
         }
+    }
+
+    /// The position of its first byte.
+    pub fn start(self) -> Lsn
+        requires fits { self.number * bytes_of self.size < 2 ^ 64 }
+        ensures value { result ≡ start_of self }
+    {
+        Lsn(self.number * u64::from(self.size.bytes()))
     }
 
     /// The name of its file: `%08X%08X%08X` of the timeline, the high half of its positions, and its number among

@@ -134,6 +134,56 @@ fn names_of_segments_have_one_form(rt: HostRuntime) {
     }
 }
 
+/// As `XLogSegNoOffsetToRecPtr` gives it.
+#[test]
+fn a_segment_begins_at_its_number_times_its_size(rt: HostRuntime) -> Result<(), Fail> {
+    let size = SegSize::new(0x10_0000).ok_or("no size")?;
+    let segment = Segment::of(2, Lsn(0x5_3A01_2345), size);
+    assert_eq!(rt; segment.start(), Lsn(0x5_3A00_0000));
+    Ok(())
+}
+
+#[test]
+fn decimals_have_no_sign_and_no_leading_zero(rt: HostRuntime) {
+    for (text, number) in [
+        ("0", Some(0)),
+        ("10", Some(10)),
+        ("4294967295", Some(u32::MAX)),
+        ("4294967296", None),
+        ("99999999999999999999999", None),
+        ("01", None),
+        ("00", None),
+        ("+1", None),
+        ("-1", None),
+        (" 1", None),
+        ("1 ", None),
+        ("1A", None),
+        ("", None),
+    ] {
+        assert_eq!(rt; decimal_u32(text.as_bytes()), number, "{text}");
+    }
+    assert_eq!(rt; decimal_u64(b"18446744073709551615"), Some(u64::MAX));
+    assert_eq!(rt; decimal_u64(b"18446744073709551616"), None);
+}
+
+/// As C's printf writes them.
+#[test]
+fn hexadecimals_are_written_in_capitals(rt: HostRuntime) -> Result<(), Fail> {
+    for (width, number, text) in [
+        (4, 0x1F, "001F"),
+        (4, 0xABCDE, "ABCDE"),
+        (0, 0, "0"),
+        (16, u64::MAX, "FFFFFFFFFFFFFFFF"),
+    ] {
+        let word = HexWord { width, number };
+        assert_eq!(rt; word.to_string(rt.alloc())?.as_str(), text);
+    }
+    assert_eq!(rt; HexByte(0xA).to_string(rt.alloc())?.as_str(), "0A");
+    assert_eq!(rt; hex_digit(15), "F");
+    assert_eq!(rt; eight_digits(0x16B_3748), *b"016B3748");
+    Ok(())
+}
+
 #[test]
 fn sizes_are_powers_of_two(rt: HostRuntime) {
     for (bytes, valid) in [

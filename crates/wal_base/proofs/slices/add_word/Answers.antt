@@ -1,9 +1,11 @@
-use Rattle.std.proofs.Common.{rules, arith, sym, ◌∙◌}
-use Rattle.wal_base.proofs.CrcWords.{word_only, four_is}
+use Rattle.std.proofs.Common.{ℕ, ◌<◌, get_or, rules, arith, sym, ◌∙◌}
+use Rattle.wal_base.proofs.CrcWords.{word_only, four_is, mixed}
 use Rattle.wal_base.proofs.slices.add_word.Goals as goal
 
 pub returns : goal.returns
 returns c =
+    let small : (k : ℕ) → get_or c.args.word.now k 0 < 256 = search rules in
+    let near = mixed c.from_le_bytes.result c.args.state c.args.word.now small c.from_le_bytes.ensures in
     four_is c.passed.result c.passed-2.result c.passed-3.result c.passed-4.result
-    ∙ rw (c.passed.ensures, c.passed-2.ensures, c.passed-3.ensures, c.passed-4.ensures)
-    (sym (word_only c.args.state c.args.word.now (omega arith) (omega arith) (search rules)))
+    ∙ rw (c.passed.ensures, c.passed-2.ensures, c.passed-3.ensures, c.passed-4.ensures, near.0, near.1, near.2, near.3)
+    (sym (word_only c.args.state c.args.word.now (omega arith) (omega arith) small))
