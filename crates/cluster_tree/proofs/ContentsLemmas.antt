@@ -3,10 +3,12 @@ use Rattle.std.proofs.Common.{◌≡◌, ◌≢◌, ◌≤◌, ℕ, Bool, true, 
 use Rattle.std.proofs.lemmas.Grind.{common_steps}
 use Rattle.std.specs.FinMap.{get, insert, remove, get-insert, get-remove, same_map}
 use Rattle.cluster_tree.specs.PathValue.{PathValue}
-use Rattle.cluster_tree.specs.Contents.{Entry, or_root, FileEntry, Contents, spliced, entry_at}
+use Rattle.cluster_tree.specs.Contents.{Entry, or_root, FileEntry, Contents, entry_at}
+use Rattle.layout.specs.Splice.{splice}
 use Rattle.cluster_tree.specs.Tree.{written, write_refusal, shortened, cut_refusal, refusal_past, file_of, bytes_in}
 use Rattle.cluster_tree.specs.declared.tree.TreeFault.TheVariants as fault
-use Rattle.cluster_tree.specs.PathOrder.{path_cmp_total, path_cmp-IsAntisymmetric, path_eq, path_eq-own, path_eq-other}
+use Rattle.cluster_tree.specs.PathOrder.{path_eq}
+use Rattle.cluster_tree.proofs.OrderLemmas.{path_cmp_total, path_cmp-IsAntisymmetric, path_eq-own, path_eq-other}
 
 insert-at : (c : Contents) (p q : PathValue) (v : Entry) → get (insert c p v) q ≡ cond (path_eq q p) (Some v) (get c q)
 unfolding path_eq
@@ -46,9 +48,9 @@ pub removed-put : (c : Contents) (p : PathValue) (v : Entry) → remove (insert 
 removed-put c p v = same-contents _ _ (λ q. remove-at (insert c p v) p q ∙ ap (cond (path_eq q p) None) (insert-at c p q v) ∙ twice (path_eq q p) None (Some v) (get c q) ∙ sym (remove-at c p q))
 
 -- a write to a file that was put there
-pub written-put : (c : Contents) (p : PathValue) (old bytes : List ℕ) (at : ℕ) → written (insert c p (FileEntry old)) p at bytes ≡ insert c p (FileEntry (spliced old at bytes))
+pub written-put : (c : Contents) (p : PathValue) (old bytes : List ℕ) (at : ℕ) → written (insert c p (FileEntry old)) p at bytes ≡ insert c p (FileEntry (splice old at bytes))
 written-put c p old bytes at =
-    put-put c p (FileEntry old) _ ∙ ap (λ o. insert c p (FileEntry (spliced (bytes_in (or_root p.parts o)) at bytes))) (get-put c p (FileEntry old))
+    put-put c p (FileEntry old) _ ∙ ap (λ o. insert c p (FileEntry (splice (bytes_in (or_root p.parts o)) at bytes))) (get-put c p (FileEntry old))
 
 -- a cut of a file that was put there
 pub shortened-put : (c : Contents) (p : PathValue) (old : List ℕ) (size : ℕ) → shortened (insert c p (FileEntry old)) p size ≡ insert c p (FileEntry (take size old))
@@ -64,7 +66,8 @@ write_refusal-put c p old at l = ap (λ o. refusal_past (file_of (or_root p.part
 pub cut_refusal-put : (c : Contents) (p : PathValue) (old : List ℕ) (size : ℕ) → size ≤ length old → cut_refusal (insert c p (FileEntry old)) p size ≡ None
 cut_refusal-put c p old size l = write_refusal-put c p old size l
 
-pub spliced-into_none : (bytes : List ℕ) → spliced [] 0 bytes ≡ bytes
+pub spliced-into_none : (bytes : List ℕ) → splice [] 0 bytes ≡ bytes
+unfolding splice
 spliced-into_none bytes = grind (arith, common_steps)
 
 -- the first write to a new file

@@ -9,11 +9,12 @@ use Rattle.std.specs.String.{string_cmp}
 use Rattle.std.specs.List.Sorted.{IsStrictlySortedBy}
 use Rattle.std.specs.FinMap.{find, nat_cmp-IsAntisymmetric, slice_cmp-IsAntisymmetric, get, keys, entries, empty, entries-insert, contains_key-keys, len-entries, len-empty}
 use Rattle.std.specs.FinMap.Entries.{put, by_order}
-use Rattle.std.specs.List.{list_any, AllByRecursion}
+use Rattle.std.specs.List.{list_all, list_any, AllByRecursion}
 use Rattle.std.specs.Cmp.Lexicographic.{bytes_decides}
 use Rattle.std.proofs.lemmas.Grind.{common_steps}
 use Rattle.cluster_tree.specs.PathValue.{PathValue, path_cmp, path_of, below}
-use Rattle.cluster_tree.specs.PathOrder.{path_cmp_total, path_cmp-IsAntisymmetric, path_eq, path_eq-own, path_eq-same, path_eq-other}
+use Rattle.cluster_tree.specs.PathOrder.{path_eq}
+use Rattle.cluster_tree.proofs.OrderLemmas.{path_cmp_total, path_cmp-IsAntisymmetric, path_eq-own, path_eq-same, path_eq-other}
 use Rattle.cluster_tree.specs.Contents.{Contents, Entry, parent}
 use Rattle.cluster_tree.specs.Folders.{lies_in, has_child}
 use Rattle.cluster_tree.specs.Memory.{pair_of, entry_of, contents_of}
@@ -135,6 +136,24 @@ any-insert_key n k (x ∷ ks) =
       | Equal ↦ λ same. ap (λ b. bytes_eq n b || list_any (bytes_eq n) (map string_bytes ks)) (sym (same_text k x same)) ∙ again (bytes_eq n (string_bytes k)) _ ∙ ap (λ b. (bytes_eq n b || list_any (bytes_eq n) (map string_bytes ks)) || bytes_eq n (string_bytes k)) (same_text k x same)
       | Greater ↦ λ _. ap (λ b. bytes_eq n (string_bytes x) || b) (any-insert_key n k ks) ∙ sym (or_assoc (bytes_eq n (string_bytes x)) _ _)
     ] refl
+
+and_both : (a b : Bool) → a ≡ true → b ≡ true → (a && b) ≡ true
+and_both a b h k = ap (λ x. x && b) h ∙ k
+
+and_parts : (a b : Bool) → (a && b) ≡ true → (a ≡ true) × (b ≡ true)
+and_parts true b h = (refl, h)
+and_parts false b h = absurd (true≢false (sym h))
+
+-- a test that all names pass, and one more
+pub all-insert_key : {Z : Type 0} (p : List ℕ → Bool) (k : String Z) (ks : List (String Z)) → list_all p (map string_bytes ks) ≡ true → p (string_bytes k) ≡ true → list_all p (map string_bytes (insert_key string_cmp ks k)) ≡ true
+all-insert_key p k [] h t = and_both (p (string_bytes k)) true t refl
+all-insert_key p k (x ∷ ks) h t =
+    let e = and_parts (p (string_bytes x)) (list_all p (map string_bytes ks)) h in
+    elim (string_cmp k x) as (λ r. list_all p (map string_bytes (match_ordering r (k ∷ x ∷ ks) (x ∷ ks) (x ∷ insert_key string_cmp ks k))) ≡ true) [
+      | Less ↦ and_both (p (string_bytes k)) _ t h
+      | Equal ↦ h
+      | Greater ↦ and_both (p (string_bytes x)) _ e.0 (all-insert_key p k ks e.1 t)
+    ]
 
 -- a name in a folder is another path only where it is another name
 path_eq-names : (folder : PathValue) (n m : List ℕ) → path_eq (below folder (n ∷ [])) (below folder (m ∷ [])) ≡ bytes_eq n m

@@ -1,7 +1,8 @@
 -- How calls are joined.
 use Rattle.std.proofs.Common.{◌≡◌, ℕ, ◌+◌, ◌==◌, ◌&&◌, Bool, true, false, cond, List, [], ◌∷◌, ◌++◌, refl, ap, sym, ◌∙◌, add_assoc, eq-eqb}
 use Rattle.cluster_tree.specs.PathValue.{PathValue}
-use Rattle.cluster_tree.specs.PathOrder.{path_eq, path_eq-own}
+use Rattle.cluster_tree.specs.PathOrder.{path_eq}
+use Rattle.cluster_tree.proofs.OrderLemmas.{path_eq-own}
 use Rattle.cluster_tree.specs.Joined.{joined_onto, joined_writes}
 use Rattle.cluster_tree.specs.declared.tree.ChangeCall.{ChangeCall}
 use Rattle.cluster_tree.specs.declared.tree.ChangeCall.TheVariants.{Write, Cut, MakeFile, MakeFolder, Remove, Sync}
@@ -18,7 +19,7 @@ by_test true path next at n m from k calls = joined-own path at n (m + k) calls 
 by_test false path next at n m from k calls = joined-own path at n m _
 
 -- two writes, one after the other, before calls that are joined
-joined-twice : (path : PathValue) (at n m : ℕ) (calls : List ChangeCall) → joined_onto (Write path at n) (joined_onto (Write path (at + n) m) calls) ≡ joined_onto (Write path at (n + m)) calls
+pub joined-twice : (path : PathValue) (at n m : ℕ) (calls : List ChangeCall) → joined_onto (Write path at n) (joined_onto (Write path (at + n) m) calls) ≡ joined_onto (Write path at (n + m)) calls
 joined-twice path at n m [] = joined-own path at n m []
 joined-twice path at n m (Write next from k ∷ calls) =
     by_test (path_eq path next && (from == (at + n) + m)) path next at n m from k calls

@@ -1,5 +1,8 @@
+pub mod OrderLemmas
 pub mod TextLemmas
 pub mod PathLemmas
+pub mod PartLemmas
+pub mod SpliceLemmas
 pub mod NodeLemmas
 pub mod ContentsLemmas
 pub mod FolderLemmas
@@ -9,4 +12,7 @@ pub mod StepLemmas
 pub mod PointLemmas
 pub mod SinkLemmas
 pub mod JoinedLemmas
+pub mod ChangeLemmas
+pub mod MadeLemmas
 pub mod RootLemmas
+pub mod RunLemmas

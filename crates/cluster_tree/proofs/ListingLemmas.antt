@@ -9,7 +9,8 @@ use Rattle.std.specs.Cmp.Lexicographic.{slice_cmp, nat_list_cmp_total}
 use Rattle.std.specs.FinMap.{get, keys, contains_key-keys, slice_cmp-IsAntisymmetric, nat_cmp-IsAntisymmetric}
 use Rattle.std.specs.List.{list_any}
 use Rattle.cluster_tree.specs.PathValue.{PathValue, below}
-use Rattle.cluster_tree.specs.PathOrder.{path_eq, path_eq-own, path_eq-same, same_path}
+use Rattle.cluster_tree.specs.PathOrder.{path_eq}
+use Rattle.cluster_tree.proofs.OrderLemmas.{path_eq-own, path_eq-same, same_path}
 use Rattle.cluster_tree.specs.Contents.{Contents, parent}
 use Rattle.cluster_tree.specs.Folders.{lies_in, has_child, IsListing}
 use Rattle.cluster_tree.proofs.FolderLemmas.{has_child-there, lies_in-below}

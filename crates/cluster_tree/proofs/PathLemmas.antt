@@ -4,7 +4,8 @@ use Rattle.cluster_tree.specs.PathValue.{PathValue}
 use Rattle.cluster_tree.specs.Paths.{checked, Refuses}
 use Rattle.cluster_tree.specs.declared.path_fault.PathFault.{PathFault}
 use Rattle.cluster_tree.specs.declared.path_fault.PathFault.TheVariants.{TooDeep, OutOfMemory}
-use Rattle.cluster_tree.specs.PathOrder.{path_eq, path_eq-own, path_eq-other}
+use Rattle.cluster_tree.specs.PathOrder.{path_eq}
+use Rattle.cluster_tree.proofs.OrderLemmas.{path_eq-own, path_eq-other}
 
 -- a test that is true just where two paths are equal is whether they are
 pub path_eq-decided : (p q : PathValue) (b : Bool) → (b ≡ true → p ≡ q) → (p ≡ q → b ≡ true) → b ≡ path_eq p q

@@ -2,7 +2,7 @@
 use Rattle.std.proofs.Common.{◌≡◌, ℕ, ◌≤◌, ◌⊎◌, true, false, nat_lt, subst, rules, List, ◌++◌, length, take, drop, Some, refl, ap, sym, ◌∙◌, inl, inr, ⊎_elim, arith}
 use Rattle.std.proofs.lemmas.Grind.{common_steps}
 use Rattle.cluster_tree.specs.PathValue.{PathValue, below, Holds}
-use Rattle.cluster_tree.specs.PathOrder.{same_path}
+use Rattle.cluster_tree.proofs.OrderLemmas.{same_path}
 use Rattle.cluster_tree.specs.Contents.{Contents}
 use Rattle.cluster_tree.specs.Step.{Step}
 use Rattle.cluster_tree.specs.Below.{tree_below, SameTree}

@@ -2,7 +2,8 @@
 use Rattle.std.proofs.Common.{◌≡◌, ◌≢◌, ◌≤◌, ap, sym, ◌∙◌, inl, ℕ, List, take, true, false, cond, nat_lt, length, Option, Some, None, refl, subst, arith, rules, inr}
 use Rattle.std.proofs.lemmas.Grind.{common_steps}
 use Rattle.cluster_tree.specs.PathValue.{PathValue}
-use Rattle.cluster_tree.specs.Contents.{Contents, Entry, entry_at, FileEntry, FolderEntry, LinkEntry, spliced}
+use Rattle.cluster_tree.specs.Contents.{Contents, Entry, entry_at, FileEntry, FolderEntry, LinkEntry}
+use Rattle.layout.specs.Splice.{splice}
 use Rattle.cluster_tree.specs.Tree.{written, write_refusal, shortened, cut_refusal, refusal_past, file_of, bytes_in, bytes_at}
 use Rattle.cluster_tree.specs.Step.{TornBytes, MayTear, CutBytes, MayCut, Step}
 use Rattle.cluster_tree.specs.Laws.{changed_path}
@@ -12,7 +13,8 @@ use Rattle.cluster_tree.specs.declared.tree.ChangeCall.TheVariants as call
 use Rattle.cluster_tree.specs.declared.tree.TreeFault.TheVariants as fault
 
 -- bytes that were written whole are torn ones
-spliced-torn : (old bytes : List ℕ) (at : ℕ) → at ≤ length old → TornBytes at (length bytes) old (spliced old at bytes)
+spliced-torn : (old bytes : List ℕ) (at : ℕ) → at ≤ length old → TornBytes at (length bytes) old (splice old at bytes)
+unfolding splice
 spliced-torn old bytes at l = record {
   before = grind (arith, common_steps);
   after = grind (arith, common_steps);
@@ -35,7 +37,7 @@ within (Some LinkEntry) at e = some_none e
 -- a write that was carried out whole
 pub written-step : (c d : Contents) (path : PathValue) (at : ℕ) (bytes : List ℕ) → write_refusal c path at ≡ None → d ≡ written c path at bytes → MayTear path at (length bytes) c d
 written-step c d path at bytes none is = inr (record {
-  torn = spliced (bytes_at c path) at bytes;
+  torn = splice (bytes_at c path) at bytes;
   unrefused = none;
   range = spliced-torn _ bytes at (within (entry_at c path) at none);
   is = is;

@@ -2,7 +2,8 @@
 use Rattle.std.proofs.Common.{◌≡◌, ◌≢◌, ℕ, suc, ◌-◌, ◌==◌, nat_lt, take, Bool, true, false, cond, ◌&&◌, ◌||◌, List, [], ◌∷◌, length, Option, Some, None, Result, Ok, Err, OnOk, OnErr, refl, ap, sym, ◌∙◌, subst, inl, inr, is_some, true≢false, arith, rules}
 use Rattle.std.specs.FinMap.{get, insert, remove, get-insert, get-remove, empty, get-empty}
 use Rattle.cluster_tree.specs.PathValue.{PathValue, path_cmp}
-use Rattle.cluster_tree.specs.PathOrder.{path_cmp_total, path_eq, path_eq-own, path_eq-same, path_eq-other, same_path}
+use Rattle.cluster_tree.specs.PathOrder.{path_eq}
+use Rattle.cluster_tree.proofs.OrderLemmas.{path_cmp_total, path_eq-own, path_eq-same, path_eq-other, same_path}
 use Rattle.cluster_tree.specs.Contents.{Contents, Entry, FileEntry, FolderEntry, LinkEntry, or_root, entry_at, parent, is_folder, IsTree}
 use Rattle.cluster_tree.specs.Tree.{make_refusal, refusal_in, refusal_past, file_of}
 use Rattle.cluster_tree.specs.Folders.{has_child, removal_refusal, remove_refusal}

@@ -32,6 +32,10 @@ given (Err refusal) answer = Err refusal
 abbrev pub Meets : {A E : Type 0} → (E → Type 0) → Result A E → Result A E → Type 0
 Meets IsFree meant result = MatchResult result (λ v. meant ≡ Ok v) (λ e. IsFree e ⊎ (meant ≡ Err e))
 
+-- the same of what a buffer then holds
+abbrev pub MeetsInto : {A B E : Type 0} → (E → Type 0) → Result A E → A → Result B E → Type 0
+MeetsInto IsFree meant into result = MatchResult result (λ _. meant ≡ Ok into) (λ e. IsFree e ⊎ (meant ≡ Err e))
+
 -- a test is passed where nothing is refused, and else refused so, or with an answer that is free
 abbrev pub Passes : {A E : Type 0} → (E → Type 0) → Option E → Result A E → Type 0
 Passes IsFree refusal result = MatchResult result (λ _. refusal ≡ None) (λ e. IsFree e ⊎ (refusal ≡ Some e))

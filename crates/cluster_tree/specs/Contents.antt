@@ -1,5 +1,5 @@
 -- What a tree of files holds: POSIX.1-2017, Base Definitions, "File Hierarchy". Own: "The tree of files".
-use Rattle.std.specs.Prelude.{◌≡◌, ℕ, ◌+◌, ◌-◌, Bool, true, false, List, [], ◌∷◌, ◌++◌, length, take, drop, Option, None, Some, is_some}
+use Rattle.std.specs.Prelude.{◌≡◌, ℕ, ◌-◌, Bool, true, false, List, [], ◌∷◌, length, take, Option, None, Some, is_some}
 use Rattle.std.specs.Coded.{Coded-set, coded_bool, Π_prop}
 use Rattle.std.specs.FinMap.{FinMap, get}
 use Rattle.cluster_tree.specs.PathValue.{PathValue, path_cmp}
@@ -35,6 +35,13 @@ is_folder (Some (FolderEntry _)) = true
 is_folder (Some (FileEntry _)) = false
 is_folder (Some LinkEntry) = false
 
+-- whether a file stands there
+abbrev pub is_file : Option Entry → Bool
+is_file None = false
+is_file (Some (FolderEntry _)) = false
+is_file (Some (FileEntry _)) = true
+is_file (Some LinkEntry) = false
+
 -- whatever is there lies in a folder
 abbrev pub IsTree : Contents → Type 0
 IsTree c = (path : PathValue) → is_some (get c path) ≡ true → is_folder (entry_at c (parent path)) ≡ true
@@ -42,7 +49,3 @@ IsTree c = (path : PathValue) → is_some (get c path) ≡ true → is_folder (e
 -- that is one fact
 pub IsTree-prop : (c : Contents) → IsProp (IsTree c)
 IsTree-prop c = Π_prop (λ path. Π_prop (λ _. Coded-set coded_bool _ _))
-
--- the bytes with these in the place of those from an offset on
-abbrev pub spliced : List ℕ → ℕ → List ℕ → List ℕ
-spliced old at bytes = take at old ++ bytes ++ drop (at + length bytes) old

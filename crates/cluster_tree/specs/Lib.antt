@@ -1,11 +1,13 @@
 pub mod PathValue
 pub mod PathOrder
 pub mod Paths
+pub mod PathLaws
 pub mod Contents
 pub mod Causes
 pub mod Tree
 pub mod Folders
 pub mod Step
+pub mod Run
 pub mod Untold
 pub mod Sink
 pub mod Plan
@@ -14,4 +16,7 @@ pub mod Fakes
 pub mod Marks
 pub mod Joined
 pub mod Below
+pub mod Change
 pub mod Laws
+pub mod ChangeLaws
+pub mod Frame

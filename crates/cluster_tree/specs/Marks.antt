@@ -1,5 +1,5 @@
 -- The mark files that stand at a root while a run isn't finished. Own: "Mark files".
-use Rattle.std.specs.Prelude.{ℕ, Bool, cond, [], ◌∷◌, Option, None, Some, is_some, codes}
+use Rattle.std.specs.Prelude.{ℕ, ◌==◌, Bool, cond, [], ◌∷◌, Option, None, Some, is_some, codes}
 use Rattle.cluster_tree.specs.PathValue.{PathValue, below}
 use Rattle.cluster_tree.specs.Contents.{Contents, entry_at}
 
@@ -24,3 +24,7 @@ is_there c path = is_some (entry_at c path)
 -- the number of the first mark that is there
 abbrev pub first_mark : Contents → MarkPaths → Option ℕ
 first_mark c marks = cond (is_there c marks.rewind) (Some 0) (cond (is_there c marks.replay) (Some 1) (cond (is_there c marks.reset) (Some 2) None))
+
+-- the path of the mark of a number
+abbrev pub mark_at : MarkPaths → ℕ → Option PathValue
+mark_at marks number = cond (number == 0) (Some marks.rewind) (cond (number == 1) (Some marks.replay) (cond (number == 2) (Some marks.reset) None))

@@ -1,6 +1,6 @@
 -- A path, cut at its slashes: POSIX.1-2017, Base Definitions, "Pathname". Own: "Paths".
 use Rattle.std.specs.Prelude.{◌≡◌, ℕ, ◌==◌, Bool, true, false, not, ◌&&◌, List, [], ◌∷◌, ◌++◌, length, filter, take, bytes_eq}
-use Rattle.std.specs.List.{slice_split, join_with_byte}
+use Rattle.std.specs.List.{list_all, slice_split, join_with_byte}
 use Rattle.std.specs.declared.cmp.Ordering.{Ordering}
 use Rattle.std.specs.Ordering.{on, then_cmp, nat_cmp, bool_cmp}
 use Rattle.std.specs.Cmp.Lexicographic.{slice_cmp}
@@ -25,6 +25,14 @@ is_kept piece = not (bytes_eq piece []) && not (bytes_eq piece (46 ∷ []))
 -- the piece `..`, which no path has
 abbrev pub is_dot_dot : List ℕ → Bool
 is_dot_dot piece = bytes_eq piece (46 ∷ 46 ∷ [])
+
+-- no slash
+abbrev pub no_slash : ℕ → Bool
+no_slash b = not (b == 47)
+
+-- a name that can be a part of a path: not empty, neither `.` nor `..`, and without a slash
+abbrev pub is_part : List ℕ → Bool
+is_part name = is_kept name && not (is_dot_dot name) && list_all no_slash name
 
 -- the parts that a text names
 abbrev pub kept_parts : List ℕ → List (List ℕ)

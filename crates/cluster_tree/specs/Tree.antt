@@ -1,14 +1,14 @@
 -- What the calls on a tree answer and leave: POSIX.1-2017, System Interfaces: stat, pread, pwrite, open, mkdir, ftruncate. Own: "The tree of files".
-use Rattle.std.specs.Prelude.{◌≡◌, ℕ, ◌+◌, ◌≤◌, ◌⊎◌, cond, nat_lt, List, [], ◌∷◌, ◌++◌, length, take, drop, Option, None, Some, Result, Ok, Err, IfErr, MatchResult, is_some}
+use Rattle.std.specs.Prelude.{◌≡◌, ℕ, ◌+◌, ◌≤◌, cond, nat_lt, List, [], ◌∷◌, length, take, drop, Option, None, Some, Result, Ok, Err, IfErr, is_some}
 use Rattle.std.specs.FinMap.{insert}
 use Rattle.cluster_tree.specs.PathValue.{PathValue}
-use Rattle.cluster_tree.specs.Contents.{Entry, FolderEntry, FileEntry, LinkEntry, Contents, entry_at, parent, spliced}
+use Rattle.cluster_tree.specs.Contents.{Entry, FolderEntry, FileEntry, LinkEntry, Contents, entry_at, parent}
+use Rattle.layout.specs.Splice.{splice}
 use Rattle.cluster_tree.specs.Causes.{Rose, IsAmong}
 use Rattle.cluster_tree.specs.declared.tree.Kind.{Kind}
 use Rattle.cluster_tree.specs.declared.tree.Kind.TheVariants as kind
 use Rattle.cluster_tree.specs.declared.tree.TreeFault.{TreeFault}
 use Rattle.cluster_tree.specs.declared.tree.TreeFault.TheVariants as fault
-use Rattle.cluster_tree.specs.declared.tree.ChangeCall.{ChangeCall}
 
 -- the kind of an entry
 abbrev pub kind_of : Option Entry → Result Kind TreeFault
@@ -56,7 +56,7 @@ write_refusal c path at = refusal_past (file_of (entry_at c path)) at
 
 -- the contents after a write
 abbrev pub written : Contents → PathValue → ℕ → List ℕ → Contents
-written c path at bytes = insert c path (FileEntry (spliced (bytes_at c path) at bytes))
+written c path at bytes = insert c path (FileEntry (splice (bytes_at c path) at bytes))
 
 -- why a cut is refused, if it is
 abbrev pub cut_refusal : Contents → PathValue → ℕ → Option TreeFault
@@ -77,17 +77,9 @@ refusal_in (Some LinkEntry) = Some fault.Link
 abbrev pub make_refusal : Contents → PathValue → Option TreeFault
 make_refusal c path = cond (is_some (entry_at c path)) (Some fault.Exists) (refusal_in (entry_at c (parent path)))
 
--- the answer is the one that is meant, unless the device failed
-abbrev pub Answers : {A : Type 0} → Result A TreeFault → Result A TreeFault → Type 0
-Answers meant result = MatchResult result (λ v. meant ≡ Ok v) (λ e. (e ≡ fault.Failed) ⊎ (meant ≡ Err e))
-
--- the same of what a buffer then holds
-abbrev pub AnswersInto : {A B : Type 0} → Result A TreeFault → A → Result B TreeFault → Type 0
-AnswersInto meant into result = MatchResult result (λ _. meant ≡ Ok into) (λ e. (e ≡ fault.Failed) ⊎ (meant ≡ Err e))
-
--- a call is carried out where it isn't refused, and else refused so, unless the device failed
-abbrev pub Refuses : {A : Type 0} → Option TreeFault → Result A TreeFault → Type 0
-Refuses refusal result = MatchResult result (λ _. refusal ≡ None) (λ e. (e ≡ fault.Failed) ⊎ (refusal ≡ Some e))
+-- what a call may answer whatever stands there: the device failed
+abbrev pub HasFailed : TreeFault → Type 0
+HasFailed e = e ≡ fault.Failed
 
 -- no other refusals come than these, and `Failed`
 abbrev pub RefusesOnly : {A : Type 0} → List TreeFault → Result A TreeFault → Type 0
@@ -125,11 +117,3 @@ IsFreeOfListing = IsAmong (fault.Failed ∷ fault.OutOfMemory ∷ [])
 pub record Counts {A : Type 0} (before after : ℕ) (result : Result A TreeFault) : Type 0 where
   pub later : before ≤ after
   pub failed : result ≡ Err fault.Failed → Rose before after
-
--- a refusal changes nothing
-abbrev pub Keeps : {A : Type 0} → Contents → Contents → Result A TreeFault → Type 0
-Keeps old new result = IfErr result (λ e. (e ≡ fault.Failed) ⊎ (new ≡ old))
-
--- the call joins the list; one that failed and changed nothing may be missing
-abbrev pub Lists : {A : Type 0} → ChangeCall → List ChangeCall → List ChangeCall → Contents → Contents → Result A TreeFault → Type 0
-Lists call calls calls' old new result = MatchResult result (λ _. calls' ≡ calls ++ call ∷ []) (λ _. (calls' ≡ calls ++ call ∷ []) ⊎ ((calls' ≡ calls) × (new ≡ old)))

@@ -1,10 +1,10 @@
 // What lies in the folders of a tree in memory.
-ghost use Rattle.std.specs.Prelude.{◌≡◌, ℕ, List, [], ◌∷◌, false, map, bytes_eq, string_bytes, is_some, IfOk, IfSome, IfNone};
+ghost use Rattle.std.specs.Prelude.{◌≡◌, ℕ, List, [], ◌∷◌, true, false, map, bytes_eq, string_bytes, is_some, IfOk, IfSome, IfNone};
 ghost use Rattle.std.specs.FinMap.{get};
-ghost use Rattle.std.specs.List.{list_any};
+ghost use Rattle.std.specs.List.{list_all, list_any};
 ghost use Rattle.std.specs.List.Sorted.{IsStrictlySortedBy};
 ghost use Rattle.std.specs.String.{string_cmp};
-ghost use Rattle.cluster_tree.specs.PathValue.{below};
+ghost use Rattle.cluster_tree.specs.PathValue.{below, is_part};
 ghost use Rattle.cluster_tree.specs.Folders.{lies_in, has_child, IsListing};
 ghost use Rattle.cluster_tree.specs.Memory.{contents_of};
 
@@ -18,6 +18,7 @@ fn name_in<'a>(path: &'a Path, folder: &Path) -> Option<&'a String>
     ensures test { is_some result ≡ lies_in folder.now path.now }
     ensures inside { IfSome result
         (λ name. path.now ≡ below folder.now (string_bytes name.now ∷ [])) }
+    ensures proper { IfSome result (λ name. is_part (string_bytes name.now) ≡ true) }
 {
     let (name, above) = path.parts().split_last()?;
     if folder.is(path.is_absolute(), above) {
@@ -45,6 +46,8 @@ fn name_set(alloc: Global, nodes: &[Placed], folder: &Path) -> Result<BTreeSet<S
     ensures members { IfOk result (λ names. (name : List ℕ) → list_any (bytes_eq name)
         (map string_bytes names.keys) ≡ is_some
         (get (contents_of nodes.now) (below folder.now (name ∷ [])))) }
+    ensures proper { IfOk result
+        (λ names. list_all is_part (map string_bytes names.keys) ≡ true) }
 {
     let mut names = BTreeSet::new(alloc);
     for placed in nodes {
@@ -57,7 +60,8 @@ fn name_set(alloc: Global, nodes: &[Placed], folder: &Path) -> Result<BTreeSet<S
 
 /// The names of what lies in a folder, in ascending order.
 pub(crate) fn names_in(alloc: Global, nodes: &[Placed], folder: &Path) -> Result<Names, OutOfMemory>
-    ensures { IfOk result (IsListing (contents_of nodes.now) folder.now) }
+    ensures listing { IfOk result (IsListing (contents_of nodes.now) folder.now) }
+    ensures proper { IfOk result (λ names. list_all is_part names ≡ true) }
 {
     let names = name_set(alloc, nodes, folder)?;
     Ok(Names::of_texts(alloc, in_order(alloc, names)?))

@@ -1,7 +1,8 @@
 // The changes of the nodes of a tree in memory.
-ghost use Rattle.std.specs.Prelude.{◌≡◌, ◌≤◌, ◌++◌, [], ◌∷◌, length, true, false, is_some, IfOk, OnOk, OnErr, None};
+ghost use Rattle.std.specs.Prelude.{◌≡◌, ◌+◌, ◌≤◌, ◌++◌, [], ◌∷◌, length, true, false, is_some, IfOk, OnOk, OnErr, None};
 ghost use Rattle.std.specs.FinMap.{get, insert, remove};
-ghost use Rattle.cluster_tree.specs.Contents.{entry_at, FileEntry, FolderEntry, spliced};
+ghost use Rattle.cluster_tree.specs.Contents.{entry_at, FileEntry, FolderEntry};
+ghost use Rattle.layout.specs.Splice.{splice};
 ghost use Rattle.cluster_tree.specs.Tree.{written, write_refusal, shortened, cut_refusal, make_refusal};
 ghost use Rattle.cluster_tree.specs.Folders.{remove_refusal};
 ghost use Rattle.cluster_tree.specs.Memory.{contents_of, entry_of};
@@ -12,17 +13,27 @@ use crate::nodes::{Node, Placed, place_of};
 use crate::{ChangeCall, OutOfMemory, Path};
 use std::alloc::Global;
 
-// The bytes with these in the place of those from an offset on.
-fn splice(alloc: Global, old: &[u8], at: usize, bytes: &[u8]) -> Result<Vec<u8>, OutOfMemory>
-    requires { at ≤ length old.now }
-    ensures { IfOk result (λ new. new.items ≡ spliced old.now at bytes.now) }
+// Lays bytes over others from an offset on.
+#[tactic(auto, unfolding(layout::specs::Splice::splice))]
+fn put(into: &mut [u8], at: usize, bytes: &[u8])
+    requires { at + length bytes.now ≤ length into.old }
+    ensures laid { into.new ≡ splice into.old at bytes.now }
+    ensures len { length into.new ≡ length into.old }
 {
-    let mut next = old[..at].to_vec(alloc)?;
-    next.extend_from_slice(bytes)?;
-    if bytes.len() < old.len() - at {
-        next.extend_from_slice(&old[at + bytes.len()..])?;
-    }
-    Ok(next)
+    let end = at + bytes.len();
+    into[at..end].copy_from_slice(bytes);
+}
+
+// Lays bytes over those of a file from an offset on, and past its end.
+fn lay(file: &mut Vec<u8>, at: usize, bytes: &[u8]) -> Result<(), OutOfMemory>
+    requires { at ≤ length file.old.items }
+    ensures laid { OnOk result (file.new.items ≡ splice file.old.items at bytes.now) }
+    ensures kept { OnErr result (file.new.items ≡ file.old.items) }
+{
+    let within = bytes.len().min(file.len() - at);
+    file.extend_from_slice(&bytes[within..])?;
+    put(file, at, &bytes[..within]);
+    Ok(())
 }
 
 /// Writes a file that is there, and adds the call to the list.
@@ -37,7 +48,8 @@ pub(crate) fn write_in(
     requires { write_refusal (contents_of nodes.old.items) path.now at ≡ None }
     ensures written { OnOk result (contents_of nodes.new.items ≡ written
         (contents_of nodes.old.items) path.now at bytes.now) }
-    ensures kept { OnErr result (nodes.new.items ≡ nodes.old.items) }
+    ensures kept { OnErr result
+        (contents_of nodes.new.items ≡ contents_of nodes.old.items) }
     ensures step { Step (ChangeCall.Write path.now at (length bytes.now))
         (contents_of nodes.old.items) (contents_of nodes.new.items) }
     ensures listed { OnOk result (log.new.calls.items ≡ log.old.calls.items ++ ChangeCall.Write
@@ -47,13 +59,13 @@ pub(crate) fn write_in(
     let Some(i) = place_of(nodes, path) else {
         unreachable!();
     };
-    let Node::File(old) = &nodes[i].node else {
+    let call = ChangeCall::Write(path.copy(alloc)?, at as u64, bytes.len() as u64);
+    log.make_room()?;
+    let Node::File(file) = &mut nodes[i].node else {
         unreachable!();
     };
-    let next = splice(alloc, old, at, bytes)?;
-    let path = path.copy(alloc)?;
-    log.add(ChangeCall::Write(path, at as u64, bytes.len() as u64))?;
-    nodes[i].node = Node::File(next);
+    lay(file, at, bytes)?;
+    log.put(call);
     Ok(())
 }
 
@@ -145,12 +157,11 @@ pub(crate) fn cut_in(
     let Some(i) = place_of(nodes, path) else {
         unreachable!();
     };
-    let Node::File(old) = &nodes[i].node else {
+    log.add(ChangeCall::Cut(path.copy(alloc)?, size as u64))?;
+    let Node::File(file) = &mut nodes[i].node else {
         unreachable!();
     };
-    let next = old[..size].to_vec(alloc)?;
-    log.add(ChangeCall::Cut(path.copy(alloc)?, size as u64))?;
-    nodes[i].node = Node::File(next);
+    file.truncate(size);
     Ok(())
 }
 

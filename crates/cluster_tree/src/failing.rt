@@ -1,6 +1,6 @@
 // A tree in memory whose calls fail by a plan.
-ghost use Rattle.std.specs.Prelude.{◌≡◌, ◌+◌, ◌<◌, ◌≤◌, ℕ};
-ghost use Rattle.std.specs.Bool.{OnTrue};
+ghost use Rattle.std.specs.Prelude.{◌≡◌, ◌≤◌};
+ghost use Rattle.std.specs.Bool.{OnTrue, OnFalse};
 ghost use Rattle.cluster_tree.specs.Causes.{Rose};
 
 use crate::{FailPlan, Kind, MemoryTree, Names, Path, Tree, TreeFault};
@@ -17,18 +17,15 @@ pub struct FailingTree {
 }
 
 impl FailingTree {
-    ghost use Rattle.cluster_tree.specs.Fakes.{tree_plan};
+    ghost use Rattle.cluster_tree.specs.Fakes.{tree_plan, tree_within, planned_reads, planned_changes, TakesTurn};
     ghost use Rattle.cluster_tree.specs.Plan.{fails_at};
 
     /// This tree, with calls that fail by this plan, counted from here.
     pub fn new(inner: MemoryTree, fails: FailPlan) -> FailingTree
         ensures plan { tree_plan result ≡ fails }
-        ensures contents { ⟦<FailingTree as Tree>⟧.contents result
-            ≡ ⟦<MemoryTree as Tree>⟧.contents inner }
-        ensures calls { ⟦<FailingTree as Tree>⟧.calls result ≡ ⟦<MemoryTree as Tree>⟧.calls inner }
-        ensures reads { ⟦<FailingTree as Tree>⟧.failed_reads result ≡ 0 }
-        ensures changes { ⟦<FailingTree as Tree>⟧.failed_changes result
-            ≡ ⟦<MemoryTree as Tree>⟧.failed_changes inner }
+        ensures within { tree_within result ≡ inner }
+        ensures reads { planned_reads result ≡ 0 }
+        ensures changes { planned_changes result ≡ 0 }
     {
         FailingTree {
             inner,
@@ -40,9 +37,7 @@ impl FailingTree {
 
     /// The tree as the calls left it.
     pub fn into_inner(self) -> MemoryTree
-        ensures contents { ⟦<MemoryTree as Tree>⟧.contents result
-            ≡ ⟦<FailingTree as Tree>⟧.contents self }
-        ensures calls { ⟦<MemoryTree as Tree>⟧.calls result ≡ ⟦<FailingTree as Tree>⟧.calls self }
+        ensures { result ≡ tree_within self }
     {
         self.inner
     }
@@ -50,8 +45,9 @@ impl FailingTree {
     // Whether a read fails by the plan, which is then counted.
     fn read_fails(&mut self) -> bool
         ensures next { result ≡ fails_at self.old.plan 1 }
-        ensures left { (n : ℕ) → 0 < n → fails_at self.new.plan n ≡ fails_at self.old.plan (n + 1) }
+        ensures left { TakesTurn self.old.plan self.new.plan }
         ensures counted { OnTrue result (Rose self.old.failed_reads self.new.failed_reads) }
+        ensures uncounted { OnFalse result (self.new.failed_reads ≡ self.old.failed_reads) }
         ensures later { self.old.failed_reads ≤ self.new.failed_reads }
         ensures changes { self.new.failed_changes ≡ self.old.failed_changes }
         ensures inner { self.new.inner ≡ self.old.inner }
@@ -62,8 +58,9 @@ impl FailingTree {
     // Whether a changing call fails by the plan, which is then counted.
     fn change_fails(&mut self) -> bool
         ensures next { result ≡ fails_at self.old.plan 1 }
-        ensures left { (n : ℕ) → 0 < n → fails_at self.new.plan n ≡ fails_at self.old.plan (n + 1) }
+        ensures left { TakesTurn self.old.plan self.new.plan }
         ensures counted { OnTrue result (Rose self.old.failed_changes self.new.failed_changes) }
+        ensures uncounted { OnFalse result (self.new.failed_changes ≡ self.old.failed_changes) }
         ensures later { self.old.failed_changes ≤ self.new.failed_changes }
         ensures reads { self.new.failed_reads ≡ self.old.failed_reads }
         ensures inner { self.new.inner ≡ self.old.inner }
@@ -73,8 +70,20 @@ impl FailingTree {
 }
 
 impl Tree for FailingTree {
-    ghost use Rattle.std.specs.Prelude.{true};
+    ghost use Rattle.std.specs.Prelude.{◌+◌, ◌∷◌, [], length, true, false, IfOk, OnOk};
+    ghost use Rattle.cluster_tree.specs.declared.tree.ChangeCall.{ChangeCall};
+    ghost use Rattle.std.specs.FinMap.{insert, remove};
+    ghost use Rattle.std.specs.List.{list_all};
+    ghost use Rattle.cluster_tree.specs.PathValue.{is_part};
     ghost use Rattle.cluster_tree.specs.Memory.{contents_of};
+    ghost use Rattle.cluster_tree.specs.Contents.{entry_at, FileEntry, FolderEntry};
+    ghost use Rattle.cluster_tree.specs.Causes.{Meets, MeetsInto, Passes};
+    ghost use Rattle.cluster_tree.specs.Tree.{kind_of, file_of, size_of, range_of, write_refusal, cut_refusal, make_refusal, written, shortened, HasFailed, RefusesOnly, IsFreeOfListing, Counts, file_faults, list_faults, make_faults, range_faults, remove_faults};
+    ghost use Rattle.cluster_tree.specs.Folders.{list_refusal, remove_refusal, IsListing};
+    ghost use Rattle.cluster_tree.specs.Step.{MayBe};
+    ghost use Rattle.cluster_tree.specs.Run.{Makes};
+    ghost use Rattle.cluster_tree.specs.Frame.{Reads, Came};
+    ghost use Rattle.cluster_tree.specs.Fakes.{contents_left, state_left, planned_reads, changes_failed, PlannedRead, PlannedChange};
 
     ghost tells = { true };
 
@@ -88,70 +97,156 @@ impl Tree for FailingTree {
 
     ghost is_tree = { λ told f. f.inner.rooted };
 
-    fn kind(&mut self, path: &Path) -> Result<Kind, TreeFault> {
+    fn kind(&mut self, path: &Path) -> Result<Kind, TreeFault>
+        ensures planned { PlannedRead self.old self.new result }
+        ensures answer { Meets HasFailed (kind_of (entry_at (contents_left self.old) path.now)) result }
+        ensures row { RefusesOnly (TreeFault.Link ∷ []) result }
+        ensures cause { Counts (planned_reads self.old) (planned_reads self.new) result }
+        ensures frame { Reads ⟦<FailingTree as Tree>⟧ self.old self.new }
+    {
         if self.read_fails() {
             return Err(TreeFault::Failed);
         }
         self.inner.kind(path)
     }
 
-    fn list(&mut self, alloc: Global, path: &Path) -> Result<Names, TreeFault> {
+    fn list(&mut self, alloc: Global, path: &Path) -> Result<Names, TreeFault>
+        ensures planned { PlannedRead self.old self.new result }
+        ensures names { IfOk result (IsListing (contents_left self.old) path.now) }
+        ensures parts { IfOk result (λ names. list_all is_part names ≡ true) }
+        ensures refused { Passes IsFreeOfListing (list_refusal (entry_at (contents_left self.old)
+            path.now)) result }
+        ensures row { RefusesOnly list_faults result }
+        ensures cause { Counts (planned_reads self.old) (planned_reads self.new) result }
+        ensures frame { Reads ⟦<FailingTree as Tree>⟧ self.old self.new }
+    {
         if self.read_fails() {
             return Err(TreeFault::Failed);
         }
         self.inner.list(alloc, path)
     }
 
-    fn size(&mut self, path: &Path) -> Result<u64, TreeFault> {
+    fn size(&mut self, path: &Path) -> Result<u64, TreeFault>
+        ensures planned { PlannedRead self.old self.new result }
+        ensures answer { Meets HasFailed (size_of (file_of (entry_at (contents_left self.old)
+            path.now))) result }
+        ensures row { RefusesOnly file_faults result }
+        ensures cause { Counts (planned_reads self.old) (planned_reads self.new) result }
+        ensures frame { Reads ⟦<FailingTree as Tree>⟧ self.old self.new }
+    {
         if self.read_fails() {
             return Err(TreeFault::Failed);
         }
         self.inner.size(path)
     }
 
-    fn read_at(&mut self, path: &Path, at: u64, into: &mut [u8]) -> Result<(), TreeFault> {
+    fn read_at(&mut self, path: &Path, at: u64, into: &mut [u8]) -> Result<(), TreeFault>
+        ensures planned { PlannedRead self.old self.new result }
+        ensures answer { MeetsInto HasFailed (range_of (file_of (entry_at (contents_left self.old)
+            path.now)) at (length into.old)) into.new result }
+        ensures row { RefusesOnly range_faults result }
+        ensures cause { Counts (planned_reads self.old) (planned_reads self.new) result }
+        ensures frame { Reads ⟦<FailingTree as Tree>⟧ self.old self.new }
+    {
         if self.read_fails() {
             return Err(TreeFault::Failed);
         }
         self.inner.read_at(path, at, into)
     }
 
-    fn write_at(&mut self, path: &Path, at: u64, bytes: &[u8]) -> Result<(), TreeFault> {
+    fn write_at(&mut self, path: &Path, at: u64, bytes: &[u8]) -> Result<(), TreeFault>
+        ensures planned { PlannedChange self.old self.new result }
+        ensures written { OnOk result (contents_left self.new ≡ written (contents_left self.old)
+            path.now at bytes.now) }
+        ensures refused { Passes HasFailed (write_refusal (contents_left self.old) path.now at) result }
+        ensures row { RefusesOnly range_faults result }
+        ensures made { Makes (ChangeCall.Write path.now at (length bytes.now)) (state_left self.old)
+            (state_left self.new) result }
+        ensures cause { Counts (changes_failed self.old) (changes_failed self.new) result }
+        ensures frame { Came ⟦<FailingTree as Tree>⟧ self.old self.new }
+    {
         if self.change_fails() {
             return Err(TreeFault::Failed);
         }
         self.inner.write_at(path, at, bytes)
     }
 
-    fn cut(&mut self, path: &Path, size: u64) -> Result<(), TreeFault> {
+    fn cut(&mut self, path: &Path, size: u64) -> Result<(), TreeFault>
+        ensures planned { PlannedChange self.old self.new result }
+        ensures cut { OnOk result (contents_left self.new ≡ shortened (contents_left self.old)
+            path.now size) }
+        ensures refused { Passes HasFailed (cut_refusal (contents_left self.old) path.now size) result }
+        ensures whole { MayBe (cut_refusal (contents_left self.old) path.now size) (contents_left
+            self.old) (shortened (contents_left self.old) path.now size) (contents_left self.new) }
+        ensures row { RefusesOnly range_faults result }
+        ensures made { Makes (ChangeCall.Cut path.now size) (state_left self.old) (state_left
+            self.new) result }
+        ensures cause { Counts (changes_failed self.old) (changes_failed self.new) result }
+        ensures frame { Came ⟦<FailingTree as Tree>⟧ self.old self.new }
+    {
         if self.change_fails() {
             return Err(TreeFault::Failed);
         }
         self.inner.cut(path, size)
     }
 
-    fn make_file(&mut self, path: &Path) -> Result<(), TreeFault> {
+    fn make_file(&mut self, path: &Path) -> Result<(), TreeFault>
+        ensures planned { PlannedChange self.old self.new result }
+        ensures file { OnOk result (contents_left self.new ≡ insert (contents_left self.old)
+            path.now (FileEntry [])) }
+        ensures refused { Passes HasFailed (make_refusal (contents_left self.old) path.now) result }
+        ensures row { RefusesOnly make_faults result }
+        ensures made { Makes (ChangeCall.MakeFile path.now) (state_left self.old) (state_left
+            self.new) result }
+        ensures cause { Counts (changes_failed self.old) (changes_failed self.new) result }
+        ensures frame { Came ⟦<FailingTree as Tree>⟧ self.old self.new }
+    {
         if self.change_fails() {
             return Err(TreeFault::Failed);
         }
         self.inner.make_file(path)
     }
 
-    fn make_folder(&mut self, path: &Path) -> Result<(), TreeFault> {
+    fn make_folder(&mut self, path: &Path) -> Result<(), TreeFault>
+        ensures planned { PlannedChange self.old self.new result }
+        ensures folder { OnOk result (contents_left self.new ≡ insert (contents_left self.old)
+            path.now (FolderEntry false)) }
+        ensures refused { Passes HasFailed (make_refusal (contents_left self.old) path.now) result }
+        ensures row { RefusesOnly make_faults result }
+        ensures made { Makes (ChangeCall.MakeFolder path.now) (state_left self.old) (state_left
+            self.new) result }
+        ensures cause { Counts (changes_failed self.old) (changes_failed self.new) result }
+        ensures frame { Came ⟦<FailingTree as Tree>⟧ self.old self.new }
+    {
         if self.change_fails() {
             return Err(TreeFault::Failed);
         }
         self.inner.make_folder(path)
     }
 
-    fn remove(&mut self, path: &Path) -> Result<(), TreeFault> {
+    fn remove(&mut self, path: &Path) -> Result<(), TreeFault>
+        ensures planned { PlannedChange self.old self.new result }
+        ensures removed { OnOk result (contents_left self.new ≡ remove (contents_left self.old) path.now) }
+        ensures refused { Passes HasFailed (remove_refusal (contents_left self.old) path.now) result }
+        ensures row { RefusesOnly remove_faults result }
+        ensures made { Makes (ChangeCall.Remove path.now) (state_left self.old) (state_left self.new) result }
+        ensures cause { Counts (changes_failed self.old) (changes_failed self.new) result }
+        ensures frame { Came ⟦<FailingTree as Tree>⟧ self.old self.new }
+    {
         if self.change_fails() {
             return Err(TreeFault::Failed);
         }
         self.inner.remove(path)
     }
 
-    fn sync(&mut self) -> Result<(), TreeFault> {
+    fn sync(&mut self) -> Result<(), TreeFault>
+        ensures planned { PlannedChange self.old self.new result }
+        ensures same { contents_left self.new ≡ contents_left self.old }
+        ensures row { RefusesOnly [] result }
+        ensures made { Makes ChangeCall.Sync (state_left self.old) (state_left self.new) result }
+        ensures cause { Counts (changes_failed self.old) (changes_failed self.new) result }
+        ensures frame { Came ⟦<FailingTree as Tree>⟧ self.old self.new }
+    {
         if self.change_fails() {
             return Err(TreeFault::Failed);
         }

@@ -1,5 +1,6 @@
 // What follows from the definitions, for callers: each function's contract is a law.
 ghost use Rattle.cluster_tree.specs.Laws.{PutStands, PutElsewhere, RemovedIsGone, RemovedElsewhere, StepElsewhere, HoldsBelow, HeldIsBelow, RootsApart, StepOutside, ChildHasName, ListingIsOne, CutWritesAreOne};
+ghost use Rattle.cluster_tree.specs.ChangeLaws.{Pointwise, Elsewhere, ChangedInTurn, JoinedByParts, FirstArePart};
 
 /// What stands at a path, and at every other, after an entry was put or removed there.
 pub fn entry_laws()
@@ -28,7 +29,17 @@ pub fn folder_laws()
     ensures listing { ListingIsOne }
 {}
 
-/// How a range is cut into writes makes no difference, once adjacent writes are joined.
+/// What changes leave, path by path.
+pub fn change_laws()
+    ensures pointwise { Pointwise }
+    ensures elsewhere { Elsewhere }
+    ensures in_turn { ChangedInTurn }
+{}
+
+/// How a range is cut into writes makes no difference, once adjacent writes are joined; calls are
+/// joined part by part, and the first of them are a part.
 pub fn joined_writes_law()
-    ensures { CutWritesAreOne }
+    ensures one { CutWritesAreOne }
+    ensures by_parts { JoinedByParts }
+    ensures part { FirstArePart }
 {}

@@ -1,6 +1,7 @@
 // The list of the changing calls of a tree in memory.
-ghost use Rattle.std.specs.Prelude.{◌≡◌, ◌++◌, [], ◌∷◌, OnOk, OnErr, length, slice_get};
+ghost use Rattle.std.specs.Prelude.{◌≡◌, ◌<◌, ◌++◌, [], ◌∷◌, OnOk, OnErr, length, slice_get};
 ghost use Rattle.std.specs.Option.{option_copied};
+ghost use Rattle.std.specs.Vec.{vec_capacity};
 
 use crate::{ChangeCall, OutOfMemory};
 use std::alloc::Global;
@@ -28,5 +29,22 @@ impl Log {
     {
         self.calls.push(call)?;
         Ok(())
+    }
+
+    /// Makes room for one more call.
+    pub(crate) fn make_room(&mut self) -> Result<(), OutOfMemory>
+        ensures same { self.new.calls.items ≡ self.old.calls.items }
+        ensures room { OnOk result (length self.new.calls.items < vec_capacity self.new.calls) }
+    {
+        self.calls.reserve(1)?;
+        Ok(())
+    }
+
+    /// Adds a call at the end, where there is room.
+    pub(crate) fn put(&mut self, call: ChangeCall)
+        requires { length self.old.calls.items < vec_capacity self.old.calls }
+        ensures { self.new.calls.items ≡ self.old.calls.items ++ call ∷ [] }
+    {
+        self.calls.push_reserved(call);
     }
 }

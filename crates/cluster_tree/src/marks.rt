@@ -1,8 +1,10 @@
 // The mark files of runs that aren't finished.
-ghost use Rattle.std.specs.Prelude.{◌≡◌, ◌≤◌, ◌↔◌, [], ◌∷◌, length, IfOk, IfErr, IsErrOf, IsTrue};
-ghost use Rattle.cluster_tree.specs.Causes.{IsAmong, OnlyReads};
+ghost use Rattle.std.specs.Prelude.{◌≡◌, ◌≤◌, ◌↔◌, [], ◌∷◌, length, IfOk, IfErr, IfSome, IsErrOf, IsTrue};
+ghost use Rattle.std.specs.Option.{option_copied};
+ghost use Rattle.cluster_tree.specs.Causes.{IsAmong};
+ghost use Rattle.cluster_tree.specs.Frame.{Reads};
 ghost use Rattle.cluster_tree.specs.Tree.{RefusesOnly, Counts};
-ghost use Rattle.cluster_tree.specs.Marks.{marks_of, is_there, first_mark};
+ghost use Rattle.cluster_tree.specs.Marks.{marks_of, is_there, first_mark, mark_at};
 
 use crate::{Kind, Path, PathFault, Tree, TreeFault};
 use std::alloc::Global;
@@ -39,6 +41,18 @@ impl Marks {
             reset: root.join(alloc, "pg_resetwal.unfinished")?,
         })
     }
+
+    /// The path of the mark file of a number, or `None` above 2.
+    pub fn path(&self, number: u8) -> Option<&Path>
+        ensures { option_copied result ≡ mark_at self.now number }
+    {
+        match number {
+            0 => Some(&self.rewind),
+            1 => Some(&self.replay),
+            2 => Some(&self.reset),
+            _ => None,
+        }
+    }
 }
 
 /// The number of the first mark file that is there: 0, 1 or 2 in the order of the names above, or
@@ -47,9 +61,10 @@ impl Marks {
 pub fn mark_present<F: Tree>(tree: &mut F, marks: &Marks) -> Result<Option<u8>, TreeFault>
     ensures first { IsTrue F.tells →
         IfOk result (λ mark. first_mark (F.contents tree.old) marks.now ≡ mark) }
+    ensures known { IfOk result (λ mark. IfSome mark (λ number. number ≤ 2)) }
     ensures row { RefusesOnly [] result }
     ensures cause { Counts (F.failed_reads tree.old) (F.failed_reads tree.new) result }
-    ensures reads { OnlyReads F.contents F.calls F.failed_reads F.failed_changes tree.old tree.new }
+    ensures reads { Reads F.Tree tree.old tree.new }
 {
     if is_there(tree, &marks.rewind)? {
         return Ok(Some(0));
@@ -69,7 +84,7 @@ fn is_there<F: Tree>(tree: &mut F, path: &Path) -> Result<bool, TreeFault>
         IfOk result (λ there. is_there (F.contents tree.old) path.now ≡ there) }
     ensures row { RefusesOnly [] result }
     ensures cause { Counts (F.failed_reads tree.old) (F.failed_reads tree.new) result }
-    ensures reads { OnlyReads F.contents F.calls F.failed_reads F.failed_changes tree.old tree.new }
+    ensures reads { Reads F.Tree tree.old tree.new }
 {
     match tree.kind(path) {
         Ok(Kind::Absent) => Ok(false),

@@ -2,10 +2,10 @@
 ghost use Rattle.std.specs.Prelude.{◌≡◌, ◌≤◌, [], length, true, slice_get, Ok, Err, OnOk, OnErr};
 ghost use Rattle.std.specs.Option.{option_copied};
 ghost use Rattle.std.specs.FinMap.{empty, insert};
-ghost use Rattle.cluster_tree.specs.Causes.{Rose};
+ghost use Rattle.cluster_tree.specs.Causes.{Passes, Rose};
 ghost use Rattle.cluster_tree.specs.Contents.{FolderEntry, LinkEntry, IsTree, IsTree-prop, entry_at};
 ghost use Rattle.cluster_tree.specs.Memory.{contents_of};
-ghost use Rattle.cluster_tree.specs.Tree.{make_refusal, refusal_in, Refuses, Counts};
+ghost use Rattle.cluster_tree.specs.Tree.{make_refusal, refusal_in, HasFailed, Counts};
 
 use crate::children::names_in;
 use crate::edits::{cut_in, put_file, put_folder, remove_in, set_node, write_in};
@@ -28,11 +28,13 @@ pub struct MemoryTree {
 }
 
 impl MemoryTree {
+    ghost use Rattle.cluster_tree.specs.Fakes.{contents_in, calls_in, failures_in};
+
     /// An empty tree, in which no changing call was made.
     pub fn new(alloc: Global) -> MemoryTree
-        ensures empty { ⟦<MemoryTree as Tree>⟧.contents result ≡ empty }
-        ensures uncalled { ⟦<MemoryTree as Tree>⟧.calls result ≡ [] }
-        ensures unfailed { ⟦<MemoryTree as Tree>⟧.failed_changes result ≡ 0 }
+        ensures empty { contents_in result ≡ empty }
+        ensures uncalled { calls_in result ≡ [] }
+        ensures unfailed { failures_in result ≡ 0 }
     {
         MemoryTree {
             alloc,
@@ -44,30 +46,26 @@ impl MemoryTree {
 
     /// How many changing calls are in the list.
     pub fn changes(&self) -> usize
-        ensures { result ≡ length (⟦<MemoryTree as Tree>⟧.calls self.now) }
+        ensures { result ≡ length (calls_in self.now) }
     {
         self.log.calls.len()
     }
 
     /// The changing call at a place of the list, counted from 0, or `None` at and past its length.
     pub fn change(&self, at: usize) -> Option<&ChangeCall>
-        ensures { option_copied result ≡ slice_get (⟦<MemoryTree as Tree>⟧.calls self.now) at }
+        ensures { option_copied result ≡ slice_get (calls_in self.now) at }
     {
         self.log.calls.get(at)
     }
 
     /// Adds a link, with the refusals of `make_file`. It is no changing call.
     pub fn add_link(&mut self, path: &Path) -> Result<(), TreeFault>
-        ensures linked { OnOk result (⟦<MemoryTree as Tree>⟧.contents self.new ≡ insert
-            (⟦<MemoryTree as Tree>⟧.contents self.old) path.now LinkEntry) }
-        ensures refused { Refuses
-            (make_refusal (⟦<MemoryTree as Tree>⟧.contents self.old) path.now) result }
-        ensures kept { OnErr result
-            (⟦<MemoryTree as Tree>⟧.contents self.new ≡ ⟦<MemoryTree as Tree>⟧.contents self.old) }
-        ensures uncalled { ⟦<MemoryTree as Tree>⟧.calls self.new ≡ ⟦<MemoryTree as Tree>⟧.calls
-            self.old }
-        ensures cause { Counts (⟦<MemoryTree as Tree>⟧.failed_changes self.old)
-            (⟦<MemoryTree as Tree>⟧.failed_changes self.new) result }
+        ensures linked { OnOk result (contents_in self.new ≡ insert
+            (contents_in self.old) path.now LinkEntry) }
+        ensures refused { Passes HasFailed (make_refusal (contents_in self.old) path.now) result }
+        ensures kept { OnErr result (contents_in self.new ≡ contents_in self.old) }
+        ensures uncalled { calls_in self.new ≡ calls_in self.old }
+        ensures cause { Counts (failures_in self.old) (failures_in self.new) result }
     {
         check_room(&self.nodes, path)?;
         let done = set_node(self.alloc, &mut self.nodes, path, Node::Link);
@@ -77,16 +75,13 @@ impl MemoryTree {
     /// Lets a folder hold a name that isn't UTF-8. Answers `Absent`, `NotFolder` or `Link` where no
     /// folder is there. It is no changing call.
     pub fn add_bad_name(&mut self, folder: &Path) -> Result<(), TreeFault>
-        ensures marked { OnOk result (⟦<MemoryTree as Tree>⟧.contents self.new ≡ insert
-            (⟦<MemoryTree as Tree>⟧.contents self.old) folder.now (FolderEntry true)) }
-        ensures refused { Refuses
-            (refusal_in (entry_at (⟦<MemoryTree as Tree>⟧.contents self.old) folder.now)) result }
-        ensures kept { OnErr result
-            (⟦<MemoryTree as Tree>⟧.contents self.new ≡ ⟦<MemoryTree as Tree>⟧.contents self.old) }
-        ensures uncalled { ⟦<MemoryTree as Tree>⟧.calls self.new ≡ ⟦<MemoryTree as Tree>⟧.calls
-            self.old }
-        ensures cause { Counts (⟦<MemoryTree as Tree>⟧.failed_changes self.old)
-            (⟦<MemoryTree as Tree>⟧.failed_changes self.new) result }
+        ensures marked { OnOk result (contents_in self.new ≡ insert
+            (contents_in self.old) folder.now (FolderEntry true)) }
+        ensures refused { Passes HasFailed
+            (refusal_in (entry_at (contents_in self.old) folder.now)) result }
+        ensures kept { OnErr result (contents_in self.new ≡ contents_in self.old) }
+        ensures uncalled { calls_in self.new ≡ calls_in self.old }
+        ensures cause { Counts (failures_in self.old) (failures_in self.new) result }
     {
         check_folder(&self.nodes, folder)?;
         let done = set_node(self.alloc, &mut self.nodes, folder, Node::Folder(true));

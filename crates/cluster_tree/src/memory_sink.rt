@@ -14,13 +14,13 @@ pub struct MemorySink {
 }
 
 impl MemorySink {
-    ghost use Rattle.cluster_tree.specs.Fakes.{sink_plan};
+    ghost use Rattle.cluster_tree.specs.Fakes.{sink_plan, sink_bytes, sink_failures};
 
     /// An empty sink, whose writes fail by this plan.
     pub fn new(alloc: Global, fails: FailPlan) -> MemorySink
         ensures plan { sink_plan result ≡ fails }
-        ensures empty { ⟦<MemorySink as Sink>⟧.written result ≡ [] }
-        ensures unfailed { ⟦<MemorySink as Sink>⟧.failed_writes result ≡ 0 }
+        ensures empty { sink_bytes result ≡ [] }
+        ensures unfailed { sink_failures result ≡ 0 }
     {
         MemorySink {
             bytes: Vec::new(alloc),
@@ -31,14 +31,18 @@ impl MemorySink {
 
     /// What was written.
     pub fn bytes(&self) -> &[u8]
-        ensures { result.now ≡ ⟦<MemorySink as Sink>⟧.written self.now }
+        ensures { result.now ≡ sink_bytes self.now }
     {
         &self.bytes
     }
 }
 
 impl Sink for MemorySink {
-    ghost use Rattle.std.specs.Prelude.{true};
+    ghost use Rattle.std.specs.Prelude.{◌≡◌, ◌≤◌, ◌++◌, true, IsTrue, IsErr, OnOk, OnErr};
+    ghost use Rattle.cluster_tree.specs.Causes.{Rose};
+    ghost use Rattle.cluster_tree.specs.Sink.{AddsPart};
+    ghost use Rattle.cluster_tree.specs.Plan.{fails_at};
+    ghost use Rattle.cluster_tree.specs.Fakes.{sink_plan, sink_bytes, sink_failures, TakesTurn};
 
     ghost tells = { true };
 
@@ -46,7 +50,15 @@ impl Sink for MemorySink {
 
     ghost failed_writes = { λ s. s.failed };
 
-    fn write(&mut self, bytes: &[u8]) -> Result<(), SinkFailed> {
+    fn write(&mut self, bytes: &[u8]) -> Result<(), SinkFailed>
+        ensures turn { TakesTurn (sink_plan self.old) (sink_plan self.new) }
+        ensures planned { IsTrue (fails_at (sink_plan self.old) 1) → IsErr result }
+        ensures kept { OnErr result (sink_bytes self.new ≡ sink_bytes self.old) }
+        ensures ok { OnOk result (sink_bytes self.new ≡ sink_bytes self.old ++ bytes.now) }
+        ensures err { OnErr result (AddsPart bytes.now (sink_bytes self.old) (sink_bytes self.new)) }
+        ensures later { sink_failures self.old ≤ sink_failures self.new }
+        ensures cause { OnErr result (Rose (sink_failures self.old) (sink_failures self.new)) }
+    {
         if self.plan.fails_next(&mut self.failed) {
             return Err(SinkFailed);
         }

@@ -1,9 +1,9 @@
 // A path: an absolute mark and a list of parts.
-ghost use Rattle.std.specs.Prelude.{◌≡◌, ◌++◌, ◌+◌, ◌≤◌, ◌↔◌, [], ◌∷◌, length, map, string_bytes, take, slice_get, IfOk, IfErr, OnOk, IsTrue, Some};
+ghost use Rattle.std.specs.Prelude.{◌≡◌, ◌++◌, ◌+◌, ◌≤◌, ◌↔◌, [], ◌∷◌, length, map, string_bytes, take, slice_get, true, IfOk, IfErr, OnOk, IsTrue, Some, Ok};
 ghost use Rattle.std.specs.Option.{option_copied};
-ghost use Rattle.std.specs.List.{list_any, join_with_byte};
+ghost use Rattle.std.specs.List.{list_all, list_any, join_with_byte};
 ghost use Rattle.std.specs.Fmt.{WritesOnOk};
-ghost use Rattle.cluster_tree.specs.PathValue.{path_of, parsed, below, pieces, is_dot_dot, is_kept, kept_parts, path_text, Holds};
+ghost use Rattle.cluster_tree.specs.PathValue.{path_of, parsed, below, pieces, is_dot_dot, is_kept, is_part, kept_parts, no_slash, path_text, Holds};
 ghost use Rattle.cluster_tree.specs.PathOrder.{path_eq};
 ghost use Rattle.cluster_tree.specs.Paths.{checked, Refuses};
 
@@ -23,14 +23,16 @@ pub struct Path {
 }
 
 impl Model for Path {
-    ghost use Rattle.std.specs.Prelude.{map, string_bytes, length, ◌≤◌};
-    ghost use Rattle.cluster_tree.specs.PathValue.{PathValue};
+    ghost use Rattle.std.specs.Prelude.{◌≡◌, ◌≤◌, true, map, string_bytes, length};
+    ghost use Rattle.std.specs.List.{list_all};
+    ghost use Rattle.cluster_tree.specs.PathValue.{PathValue, is_part};
 
     ghost Value = { PathValue };
 
     ghost view = { λ p. record { absolute = p.absolute; parts = map string_bytes p.parts.items } };
 
-    ghost invariant = { λ p. length p.parts.items ≤ 64 };
+    ghost invariant = { λ p. (length p.parts.items ≤ 64)
+        × (list_all is_part (map string_bytes p.parts.items) ≡ true) };
 }
 
 impl Path {
@@ -56,8 +58,16 @@ impl Path {
         ensures joined { IfOk result (λ path. path ≡ below self.now (kept_parts part.now)) }
     {
         check(self.parts.len(), part)?;
+        Ok(self.below(alloc, part)?)
+    }
+
+    /// This path with the parts of a text added that isn't refused.
+    pub fn below(&self, alloc: Global, text: &str) -> Result<Path, OutOfMemory>
+        requires room { checked (length self.now.parts) text.now ≡ Ok tt }
+        ensures { IfOk result (λ path. path ≡ below self.now (kept_parts text.now)) }
+    {
         let mut parts = copy_parts(alloc, &self.parts)?;
-        add_parts(alloc, &mut parts, part)?;
+        add_parts(alloc, &mut parts, text)?;
         Ok(Path {
             absolute: self.absolute,
             parts,
@@ -92,6 +102,7 @@ impl Path {
     pub fn len(&self) -> usize
         ensures value { result ≡ length self.now.parts }
         ensures deepest { result ≤ 64 }
+        ensures proper { list_all is_part self.now.parts ≡ true }
     {
         self.parts.len()
     }
@@ -127,7 +138,8 @@ impl Path {
 
     /// Its parts.
     pub(crate) fn parts(&self) -> &[String]
-        ensures { map string_bytes result.now ≡ self.now.parts }
+        ensures value { map string_bytes result.now ≡ self.now.parts }
+        ensures proper { list_all is_part (map string_bytes result.now) ≡ true }
     {
         &self.parts
     }
@@ -203,6 +215,19 @@ fn is_kept(piece: &str) -> bool
     ensures { result ≡ is_kept piece.now }
 {
     !piece.is_empty() && piece != "."
+}
+
+/// Whether a name can be a part of a path: it isn't empty, `.` or `..`, and has no slash.
+pub fn is_part(name: &str) -> bool
+    ensures { result ≡ is_part name.now }
+{
+    is_kept(name) && name != ".." && has_no_slash(name)
+}
+
+fn has_no_slash(name: &str) -> bool
+    ensures { result ≡ list_all no_slash name.now }
+{
+    name.as_bytes().iter().all(|byte| *byte != b'/')
 }
 
 fn has_dot_dot(text: &str) -> bool

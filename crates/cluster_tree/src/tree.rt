@@ -1,11 +1,14 @@
 // The machine's files as every other crate sees them.
-ghost use Rattle.std.specs.Prelude.{◌≡◌, ℕ, ◌≤◌, Bool, false, List, [], ◌∷◌, length, IfOk, OnOk, IsTrue};
+ghost use Rattle.std.specs.Prelude.{◌≡◌, ℕ, ◌≤◌, Bool, true, false, List, [], ◌∷◌, length, IfOk, OnOk, IsTrue};
 ghost use Rattle.std.specs.FinMap.{insert, remove};
+ghost use Rattle.std.specs.List.{list_all};
+ghost use Rattle.cluster_tree.specs.PathValue.{is_part};
 ghost use Rattle.cluster_tree.specs.Contents.{Contents, entry_at, FileEntry, FolderEntry, IsTree};
-ghost use Rattle.cluster_tree.specs.Tree.{kind_of, file_of, size_of, range_of, write_refusal, cut_refusal, make_refusal, written, shortened, Answers, AnswersInto, Refuses, RefusesOnly, IsFreeOfListing, Counts, Keeps, Lists, file_faults, list_faults, make_faults, range_faults, remove_faults};
+ghost use Rattle.cluster_tree.specs.Tree.{kind_of, file_of, size_of, range_of, write_refusal, cut_refusal, make_refusal, written, shortened, HasFailed, RefusesOnly, IsFreeOfListing, Counts, file_faults, list_faults, make_faults, range_faults, remove_faults};
 ghost use Rattle.cluster_tree.specs.Folders.{list_refusal, remove_refusal, IsListing};
-ghost use Rattle.cluster_tree.specs.Causes.{Passes};
-ghost use Rattle.cluster_tree.specs.Step.{Step, MayBe};
+ghost use Rattle.cluster_tree.specs.Causes.{Meets, MeetsInto, Passes, OnlyReads};
+ghost use Rattle.cluster_tree.specs.Step.{MayBe};
+ghost use Rattle.cluster_tree.specs.Run.{state_by, Goes, Makes};
 
 use crate::{Names, OutOfMemory, Path};
 use std::alloc::Global;
@@ -98,7 +101,8 @@ pub trait Tree {
     /// What it holds, where it tells that.
     ghost contents: { Self → Contents };
 
-    /// The changing calls so far, in order. One that failed and changed nothing may be missing.
+    /// The changing calls so far, in order. One that failed and changed nothing may be missing, and
+    /// a sync is listed only where it happened.
     ghost calls: { Self → List ChangeCall };
 
     /// How many reads have failed.
@@ -110,48 +114,41 @@ pub trait Tree {
     /// What stands at a path. Answers `Link` where that is a link or special file.
     fn kind(&mut self, path: &Path) -> Result<Kind, TreeFault>
         ensures answer { IsTrue tells →
-            Answers (kind_of (entry_at (contents self.old) path.now)) result }
+            Meets HasFailed (kind_of (entry_at (contents self.old) path.now)) result }
         ensures row { RefusesOnly (TreeFault.Link ∷ []) result }
-        ensures same { contents self.new ≡ contents self.old }
-        ensures uncalled { calls self.new ≡ calls self.old }
         ensures cause { Counts (failed_reads self.old) (failed_reads self.new) result }
-        ensures changes { failed_changes self.old ≤ failed_changes self.new };
+        ensures frame { OnlyReads contents calls failed_reads failed_changes self.old self.new };
 
-    /// The names of what lies in a folder, in ascending order of their bytes. Answers `Absent`,
-    /// `NotFolder` or `Link` where no folder is there, then `NameNotText` where it holds a name
-    /// that isn't UTF-8, and `OutOfMemory` where there is no memory for the names.
+    /// The names of what lies in a folder, in ascending order of their bytes, each a part of a path.
+    /// Answers `Absent`, `NotFolder` or `Link` where no folder is there, then `NameNotText` where it
+    /// holds a name that isn't UTF-8, and `OutOfMemory` where there is no memory for the names.
     fn list(&mut self, alloc: Global, path: &Path) -> Result<Names, TreeFault>
         ensures names { IsTrue tells → IfOk result (IsListing (contents self.old) path.now) }
+        ensures parts { IfOk result (λ names. list_all is_part names ≡ true) }
         ensures refused { IsTrue tells →
             Passes IsFreeOfListing (list_refusal (entry_at (contents self.old) path.now)) result }
         ensures row { RefusesOnly list_faults result }
-        ensures same { contents self.new ≡ contents self.old }
-        ensures uncalled { calls self.new ≡ calls self.old }
         ensures cause { Counts (failed_reads self.old) (failed_reads self.new) result }
-        ensures changes { failed_changes self.old ≤ failed_changes self.new };
+        ensures frame { OnlyReads contents calls failed_reads failed_changes self.old self.new };
 
     /// The size of a file in bytes. Answers `Absent`, `IsFolder` or `Link` where no file is there.
     fn size(&mut self, path: &Path) -> Result<u64, TreeFault>
         ensures answer { IsTrue tells →
-            Answers (size_of (file_of (entry_at (contents self.old) path.now))) result }
+            Meets HasFailed (size_of (file_of (entry_at (contents self.old) path.now))) result }
         ensures row { RefusesOnly file_faults result }
-        ensures same { contents self.new ≡ contents self.old }
-        ensures uncalled { calls self.new ≡ calls self.old }
         ensures cause { Counts (failed_reads self.old) (failed_reads self.new) result }
-        ensures changes { failed_changes self.old ≤ failed_changes self.new };
+        ensures frame { OnlyReads contents calls failed_reads failed_changes self.old self.new };
 
     /// Fills `into` with the bytes of a file from the offset `at` on. Answers as `size` does, and
     /// then `PastEnd` where they reach past the file's end. What `into` holds after an error is
     /// open.
     fn read_at(&mut self, path: &Path, at: u64, into: &mut [u8]) -> Result<(), TreeFault>
-        ensures answer { IsTrue tells → AnswersInto
+        ensures answer { IsTrue tells → MeetsInto HasFailed
             (range_of (file_of (entry_at (contents self.old) path.now)) at (length into.old))
             into.new result }
         ensures row { RefusesOnly range_faults result }
-        ensures same { contents self.new ≡ contents self.old }
-        ensures uncalled { calls self.new ≡ calls self.old }
         ensures cause { Counts (failed_reads self.old) (failed_reads self.new) result }
-        ensures changes { failed_changes self.old ≤ failed_changes self.new };
+        ensures frame { OnlyReads contents calls failed_reads failed_changes self.old self.new };
 
     /// Writes over the bytes of a file from the offset `at` on, and past its end. Answers as `size`
     /// does, and then `PastEnd` where `at` is past the file's end. One that failed leaves open what
@@ -160,15 +157,12 @@ pub trait Tree {
         ensures written { IsTrue tells →
             OnOk result (contents self.new ≡ written (contents self.old) path.now at bytes.now) }
         ensures refused { IsTrue tells →
-            Refuses (write_refusal (contents self.old) path.now at) result }
-        ensures kept { IsTrue tells → Keeps (contents self.old) (contents self.new) result }
-        ensures step { IsTrue tells → Step (ChangeCall.Write path.now at (length bytes.now))
-            (contents self.old) (contents self.new) }
+            Passes HasFailed (write_refusal (contents self.old) path.now at) result }
         ensures row { RefusesOnly range_faults result }
-        ensures listed { IsTrue tells → Lists (ChangeCall.Write path.now at (length bytes.now))
-            (calls self.old) (calls self.new) (contents self.old) (contents self.new) result }
+        ensures made { IsTrue tells → Makes (ChangeCall.Write path.now at (length bytes.now))
+            (state_by contents calls self.old) (state_by contents calls self.new) result }
         ensures cause { Counts (failed_changes self.old) (failed_changes self.new) result }
-        ensures reads { failed_reads self.old ≤ failed_reads self.new };
+        ensures frame { Goes contents calls failed_reads failed_changes self.old self.new };
 
     /// Cuts a file to a size in bytes. Answers as `size` does, and then `PastEnd` where the file is
     /// shorter. One that failed may have cut it.
@@ -176,48 +170,39 @@ pub trait Tree {
         ensures cut { IsTrue tells →
             OnOk result (contents self.new ≡ shortened (contents self.old) path.now size) }
         ensures refused { IsTrue tells →
-            Refuses (cut_refusal (contents self.old) path.now size) result }
-        ensures kept { IsTrue tells → Keeps (contents self.old) (contents self.new) result }
+            Passes HasFailed (cut_refusal (contents self.old) path.now size) result }
         ensures whole { IsTrue tells → MayBe (cut_refusal (contents self.old) path.now size)
             (contents self.old) (shortened (contents self.old) path.now size) (contents self.new) }
-        ensures step { IsTrue tells →
-            Step (ChangeCall.Cut path.now size) (contents self.old) (contents self.new) }
         ensures row { RefusesOnly range_faults result }
-        ensures listed { IsTrue tells → Lists (ChangeCall.Cut path.now size) (calls self.old)
-            (calls self.new) (contents self.old) (contents self.new) result }
+        ensures made { IsTrue tells → Makes (ChangeCall.Cut path.now size)
+            (state_by contents calls self.old) (state_by contents calls self.new) result }
         ensures cause { Counts (failed_changes self.old) (failed_changes self.new) result }
-        ensures reads { failed_reads self.old ≤ failed_reads self.new };
+        ensures frame { Goes contents calls failed_reads failed_changes self.old self.new };
 
     /// Makes an empty file. Answers `Exists` where an entry is there, and then `Absent`,
     /// `NotFolder` or `Link` where it would not lie in a folder. One that failed may have made it.
     fn make_file(&mut self, path: &Path) -> Result<(), TreeFault>
-        ensures made { IsTrue tells →
+        ensures file { IsTrue tells →
             OnOk result (contents self.new ≡ insert (contents self.old) path.now (FileEntry [])) }
         ensures refused { IsTrue tells →
-            Refuses (make_refusal (contents self.old) path.now) result }
-        ensures kept { IsTrue tells → Keeps (contents self.old) (contents self.new) result }
-        ensures step { IsTrue tells →
-            Step (ChangeCall.MakeFile path.now) (contents self.old) (contents self.new) }
+            Passes HasFailed (make_refusal (contents self.old) path.now) result }
         ensures row { RefusesOnly make_faults result }
-        ensures listed { IsTrue tells → Lists (ChangeCall.MakeFile path.now) (calls self.old)
-            (calls self.new) (contents self.old) (contents self.new) result }
+        ensures made { IsTrue tells → Makes (ChangeCall.MakeFile path.now)
+            (state_by contents calls self.old) (state_by contents calls self.new) result }
         ensures cause { Counts (failed_changes self.old) (failed_changes self.new) result }
-        ensures reads { failed_reads self.old ≤ failed_reads self.new };
+        ensures frame { Goes contents calls failed_reads failed_changes self.old self.new };
 
     /// Makes an empty folder, with the refusals of `make_file`. One that failed may have made it.
     fn make_folder(&mut self, path: &Path) -> Result<(), TreeFault>
-        ensures made { IsTrue tells → OnOk result
+        ensures folder { IsTrue tells → OnOk result
             (contents self.new ≡ insert (contents self.old) path.now (FolderEntry false)) }
         ensures refused { IsTrue tells →
-            Refuses (make_refusal (contents self.old) path.now) result }
-        ensures kept { IsTrue tells → Keeps (contents self.old) (contents self.new) result }
-        ensures step { IsTrue tells →
-            Step (ChangeCall.MakeFolder path.now) (contents self.old) (contents self.new) }
+            Passes HasFailed (make_refusal (contents self.old) path.now) result }
         ensures row { RefusesOnly make_faults result }
-        ensures listed { IsTrue tells → Lists (ChangeCall.MakeFolder path.now) (calls self.old)
-            (calls self.new) (contents self.old) (contents self.new) result }
+        ensures made { IsTrue tells → Makes (ChangeCall.MakeFolder path.now)
+            (state_by contents calls self.old) (state_by contents calls self.new) result }
         ensures cause { Counts (failed_changes self.old) (failed_changes self.new) result }
-        ensures reads { failed_reads self.old ≤ failed_reads self.new };
+        ensures frame { Goes contents calls failed_reads failed_changes self.old self.new };
 
     /// Removes a file or an empty folder. Answers `Absent` where nothing is there, `NotEmpty` where
     /// a folder holds something, is the root or the current folder, and `Link`. One that failed may
@@ -226,24 +211,21 @@ pub trait Tree {
         ensures removed { IsTrue tells →
             OnOk result (contents self.new ≡ remove (contents self.old) path.now) }
         ensures refused { IsTrue tells →
-            Refuses (remove_refusal (contents self.old) path.now) result }
-        ensures kept { IsTrue tells → Keeps (contents self.old) (contents self.new) result }
-        ensures step { IsTrue tells →
-            Step (ChangeCall.Remove path.now) (contents self.old) (contents self.new) }
+            Passes HasFailed (remove_refusal (contents self.old) path.now) result }
         ensures row { RefusesOnly remove_faults result }
-        ensures listed { IsTrue tells → Lists (ChangeCall.Remove path.now) (calls self.old)
-            (calls self.new) (contents self.old) (contents self.new) result }
+        ensures made { IsTrue tells → Makes (ChangeCall.Remove path.now)
+            (state_by contents calls self.old) (state_by contents calls self.new) result }
         ensures cause { Counts (failed_changes self.old) (failed_changes self.new) result }
-        ensures reads { failed_reads self.old ≤ failed_reads self.new };
+        ensures frame { Goes contents calls failed_reads failed_changes self.old self.new };
 
     /// Makes all that was changed durable. It changes no contents.
     fn sync(&mut self) -> Result<(), TreeFault>
         ensures same { IsTrue tells → contents self.new ≡ contents self.old }
         ensures row { RefusesOnly [] result }
-        ensures listed { IsTrue tells → Lists ChangeCall.Sync (calls self.old) (calls self.new)
-            (contents self.old) (contents self.new) result }
+        ensures made { IsTrue tells → Makes ChangeCall.Sync
+            (state_by contents calls self.old) (state_by contents calls self.new) result }
         ensures cause { Counts (failed_changes self.old) (failed_changes self.new) result }
-        ensures reads { failed_reads self.old ≤ failed_reads self.new };
+        ensures frame { Goes contents calls failed_reads failed_changes self.old self.new };
 
     /// Whatever is there lies in a folder.
     ghost is_tree: { IsTrue tells → (tree : Self) → IsTree (contents tree) };

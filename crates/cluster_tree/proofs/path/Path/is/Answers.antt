@@ -1,5 +1,5 @@
 use Rattle.std.proofs.Common.{◌≡◌, rules, ◌∙◌, sym, ap, map, string_bytes, true≢false}
-use Rattle.cluster_tree.specs.PathOrder.{same_path}
+use Rattle.cluster_tree.proofs.OrderLemmas.{same_path}
 use Rattle.cluster_tree.proofs.PathLemmas.{path_eq-decided}
 use Rattle.cluster_tree.proofs.path.Path.is.Goals as goal
 
