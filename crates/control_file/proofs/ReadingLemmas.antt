@@ -3,7 +3,7 @@ use Rattle.std.proofs.Common.{rules, ◌≡◌, ℕ, Bool, true, false, cond, Li
 use Rattle.std.specs.Prelude.{nat_eq, IfOk}
 use Rattle.std.proofs.lemmas.Bool.{eqb-true}
 use Rattle.std.proofs.lemmas.Bool.Decides.{nat_tests}
-use Rattle.layout.specs.Readers.{word_at}
+use Rattle.layout.specs.Readers.{u32_at}
 use Rattle.layout.specs.Rows.{Says, first_broken}
 use Rattle.layout.specs.Values.{number}
 use Rattle.layout.specs.declared.row.Row.{Row}
@@ -53,7 +53,7 @@ pub ok_is : (bytes : List ℕ) (c : Control) → control_of bytes ≡ Ok c → I
 unfolding control_of admitted
 ok_is bytes c e =
     let f = fields_at bytes in
-    let stored = word_at 288 bytes in
+    let stored = u32_at 288 bytes in
     let sum = crc32c (take 288 bytes) in
     let a = guarded (nat_eq (length bytes) 8192) (cond (nat_eq stored sum) (admitted f) (Err (Crc stored sum))) (Size (length bytes)) c e in
     let b = guarded (nat_eq stored sum) (admitted f) (Crc stored sum) c a.1 in
@@ -81,7 +81,7 @@ pub file_is : (bytes : List ℕ) (c : Control) → IsControlFile bytes c → con
 unfolding control_of
 file_is bytes c is =
     let n : nat_eq (length bytes) 8192 ≡ true = rw is.size refl in
-    let s : nat_eq (word_at 288 bytes) (crc32c (take 288 bytes)) ≡ true = rw is.crc (eqb_same _) in
+    let s : nat_eq (u32_at 288 bytes) (crc32c (take 288 bytes)) ≡ true = rw is.crc (eqb_same _) in
     rw (n, s, fields_again c bytes is.said) (admitted_is c is.version is.catalog (all_hold (rows_of c) is.shape))
 
 broken_of : (r : Option (Row Field)) (c : Control) (field : Field) (value : ℕ) → unless_broken r c ≡ Err (Shape field value) → (row : Row Field) × (r ≡ Some row) × (row.field ≡ field) × (number row.value ≡ value)
@@ -97,7 +97,7 @@ pub shape_is : (bytes : List ℕ) (field : Field) (value : ℕ) → control_of b
 unfolding control_of admitted
 shape_is bytes field value e =
     let f = fields_at bytes in
-    let stored = word_at 288 bytes in
+    let stored = u32_at 288 bytes in
     let sum = crc32c (take 288 bytes) in
     let a = past (nat_eq (length bytes) 8192) (cond (nat_eq stored sum) (admitted f) (Err (Crc stored sum))) (Size (length bytes)) (Shape field value) (λ e. absurd cc) e in
     let b = past (nat_eq stored sum) (admitted f) (Crc stored sum) (Shape field value) (λ e. absurd cc) a in

@@ -4,7 +4,8 @@ use Rattle.std.specs.Prelude.{nat_le}
 use Rattle.std.specs.Int.{is_power_of_two}
 use Rattle.std.specs.List.{AllByRecursion}
 use Rattle.layout.specs.Rows.{Holds}
-use Rattle.layout.specs.Rules.{is_segment_size}
+use Rattle.layout.specs.Rules.{allows}
+use Rattle.layout.specs.declared.rule.Rule.TheVariants.{PowerOfTwo}
 use Rattle.layout.specs.declared.row.Row.{Row}
 use Rattle.layout.proofs.OrderLemmas.{both, le_of}
 use Rattle.wal_base.specs.SegSize.{IsSegSize}
@@ -38,8 +39,7 @@ parts_hold c all =
       build = hold_right (recovered ++ setting_rows c) (build_rows c) all;
     }
 
-seg_size_of : (n : ℕ) → is_segment_size n ≡ true → IsSegSize n
-unfolding is_segment_size
+seg_size_of : (n : ℕ) → allows (PowerOfTwo (2 ^ 20) (2 ^ 30)) n ≡ true → IsSegSize n
 seg_size_of n h =
     let outer = both (is_power_of_two n && nat_le (2 ^ 20) n) (nat_le n (2 ^ 30)) h in
     let inner = both (is_power_of_two n) (nat_le (2 ^ 20) n) outer.0 in

@@ -1,12 +1,14 @@
 -- What is written is read again.
 use Rattle.std.proofs.Common.{◌≡◌, ℕ, ◌^◌, ◌<◌, true, List, length, take, replicate, Ok, Some, refl, ◌∙◌, arith}
 use Rattle.std.specs.List.{AllByRecursion}
-use Rattle.layout.specs.Readers.{word_at}
+use Rattle.layout.specs.Readers.{u32_at}
 use Rattle.layout.specs.Rows.{ascends, RowFits, Says}
-use Rattle.layout.specs.Writing.{laid, put, value_bytes}
+use Rattle.layout.specs.Splice.{splice}
+use Rattle.layout.specs.Writing.{laid, value_bytes}
 use Rattle.layout.specs.declared.value.Value.TheVariants.{Word}
 use Rattle.layout.proofs.LaidLemmas.{laid_again, sealed_again}
-use Rattle.layout.proofs.PutLemmas.{length-value_bytes, length-put, put-stands, take-put, value_again}
+use Rattle.layout.proofs.PutLemmas.{length-value_bytes, value_again}
+use Rattle.layout.proofs.SpliceLemmas.{length-splice, splice-stands, take-splice}
 use Rattle.wal_base.specs.Crc.{crc32c}
 use Rattle.wal_base.proofs.CrcFold.{crc32c_below}
 use Rattle.control_file.specs.Admission.{control_of, IsControl, IsControlFile}
@@ -37,7 +39,7 @@ ascends_file c = refl
 -- bytes that end in their CRC
 record IsSealed (bytes : List ℕ) : Type 0 where
   len : length bytes ≡ 8192
-  crc : word_at 288 bytes ≡ crc32c (take 288 bytes)
+  crc : u32_at 288 bytes ≡ crc32c (take 288 bytes)
 
 is_sealed : (old : List ℕ) → length old ≡ 8192 → IsSealed (sealed old)
 unfolding sealed
@@ -46,9 +48,9 @@ is_sealed old len =
     let below : sum < 2 ^ 32 = crc32c_below (take 288 old) in
     let crc : List ℕ = value_bytes (Word sum) in
     let n : length crc ≡ 4 = length-value_bytes (Word sum) below in
-    let size : length (put 288 crc old) ≡ length old = length-put 288 crc old (omega arith) in
-    let said : Word (word_at 288 (put 288 crc old)) ≡ Word sum = value_again (Word sum) 288 (put 288 crc old) below (omega arith) (put-stands 288 crc old (omega arith)) in
-    let front : take 288 (put 288 crc old) ≡ take 288 old = take-put 288 crc old (omega arith) in
+    let size : length (splice old 288 crc) ≡ length old = length-splice old 288 crc (omega arith) in
+    let said : Word (u32_at 288 (splice old 288 crc)) ≡ Word sum = value_again (Word sum) 288 (splice old 288 crc) below (omega arith) (splice-stands old 288 crc (omega arith)) in
+    let front : take 288 (splice old 288 crc) ≡ take 288 old = take-splice old 288 crc (omega arith) in
     record { len = size ∙ len; crc = rw front cc }
 
 written_is : (c : Control) → AllByRecursion RowFits (rows_of c) → IsControl c → IsControlFile (control_bytes c) c

@@ -7,7 +7,7 @@ use Rattle.control_file.specs.declared.fault.ControlFault.{ControlFault}
 use Rattle.control_file.specs.declared.fault.ControlFault.TheVariants.{Size, Crc, Version, Catalog, Shape}
 use Rattle.layout.specs.declared.row.Row.{Row}
 use Rattle.wal_base.specs.Crc.{crc32c}
-use Rattle.layout.specs.Readers.{word_at}
+use Rattle.layout.specs.Readers.{u32_at}
 use Rattle.layout.specs.Rows.{first_broken, Says, Holds, IsFirstBroken}
 use Rattle.layout.specs.Values.{number}
 use Rattle.control_file.specs.Reading.{fields_at}
@@ -29,7 +29,7 @@ admitted control =
 unfoldable pub control_of : List ℕ → Result Control ControlFault
 control_of bytes =
     if length bytes == 8192
-    then (if word_at 288 bytes == crc32c (take 288 bytes) then admitted (fields_at bytes) else Err (Crc (word_at 288 bytes) (crc32c (take 288 bytes))))
+    then (if u32_at 288 bytes == crc32c (take 288 bytes) then admitted (fields_at bytes) else Err (Crc (u32_at 288 bytes) (crc32c (take 288 bytes))))
     else Err (Size (length bytes))
 
 -- a control that a control file of PostgreSQL 16 can say
@@ -41,7 +41,7 @@ pub record IsControl (control : Control) : Type 0 where
 -- the bytes are a control file that says this
 pub record IsControlFile (bytes : List ℕ) (control : Control) : Type 0 where
   pub size : length bytes ≡ 8192
-  pub crc : word_at 288 bytes ≡ crc32c (take 288 bytes)
+  pub crc : u32_at 288 bytes ≡ crc32c (take 288 bytes)
   pub version : control.version ≡ 1300
   pub catalog : control.catalog ≡ 202307071
   pub said : Says (rows_of control) bytes

@@ -2,7 +2,7 @@
 use Rattle.std.specs.Prelude.{ℕ, ◌+◌, ◌-◌, ◌^◌, List, [], ◌∷◌, ◌++◌}
 use Rattle.layout.specs.Rows.{row}
 use Rattle.layout.specs.declared.row.Row.{Row}
-use Rattle.layout.specs.declared.rule.Rule.TheVariants.{Any, AtMost, Only, Between, SegmentSize}
+use Rattle.layout.specs.declared.rule.Rule.TheVariants.{Any, AtMost, Only, Between, PowerOfTwo}
 use Rattle.layout.specs.declared.value.Value.TheVariants.{Byte, Word, Long, Signed, Raw}
 use Rattle.control_file.specs.declared.checkpoint.Checkpoint.{Checkpoint}
 use Rattle.control_file.specs.declared.control.Control.{Control}
@@ -69,7 +69,7 @@ build_rows c =
     row field.Blcksz 216 (Word c.blcksz) (Only 8192) ∷
     row field.Relseg 220 (Word c.relseg) (Between 1 131072) ∷
     row field.WalBlcksz 224 (Word c.walBlcksz) (Only 8192) ∷
-    row field.WalSegSize 228 (Word c.walSegSize) SegmentSize ∷
+    row field.WalSegSize 228 (Word c.walSegSize) (PowerOfTwo (2 ^ 20) (2 ^ 30)) ∷
     row field.NameLen 232 (Word c.nameLen) Any ∷
     row field.IndexKeys 236 (Word c.indexKeys) Any ∷
     row field.ToastChunk 240 (Word c.toastChunk) Any ∷

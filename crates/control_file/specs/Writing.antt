@@ -1,6 +1,7 @@
 -- The bytes of a control file: PostgreSQL 16, src/include/catalog/pg_control.h; zeros where no field is.
 use Rattle.std.specs.Prelude.{ℕ, List, take, replicate}
-use Rattle.layout.specs.Writing.{laid, put, value_bytes}
+use Rattle.layout.specs.Splice.{splice}
+use Rattle.layout.specs.Writing.{laid, value_bytes}
 use Rattle.layout.specs.declared.value.Value.TheVariants.{Word}
 use Rattle.wal_base.specs.Crc.{crc32c}
 use Rattle.control_file.specs.Rows.{rows_of, checkpoint_rows}
@@ -9,7 +10,7 @@ use Rattle.control_file.specs.declared.control.Control.{Control}
 
 -- with the CRC of the first 288 bytes behind them
 unfoldable pub sealed : List ℕ → List ℕ
-sealed bytes = put 288 (value_bytes (Word (crc32c (take 288 bytes)))) bytes
+sealed bytes = splice bytes 288 (value_bytes (Word (crc32c (take 288 bytes))))
 
 -- the 8192 bytes of a control file
 unfoldable pub control_bytes : Control → List ℕ

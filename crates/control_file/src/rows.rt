@@ -9,11 +9,17 @@ use crate::checkpoint::Checkpoint;
 use crate::control::Control;
 use crate::field::Field;
 use crate::format::CHECKPOINT_AT;
-use layout::Rule::{Any, AtMost, Between, Only, SegmentSize};
+use layout::Rule::{Any, AtMost, Between, Only, PowerOfTwo};
 use layout::{Row, first_broken};
 
 /// The largest number that an integer setting of the server may be.
 const INT_MAX: u64 = 0x7FFF_FFFF;
+
+/// The least size of a segment of the log, in bytes (`WalSegMinSize`).
+const SEGMENT_MIN: u64 = 0x10_0000;
+
+/// The greatest size of a segment of the log, in bytes (`WalSegMaxSize`).
+const SEGMENT_MAX: u64 = 0x4000_0000;
 
 /// The bytes of the float 1234567.0.
 const FLOAT_FORMAT: u64 = 0x4132_D687_0000_0000;
@@ -112,7 +118,12 @@ pub fn build_rows(c: &Control) -> [Row<Field>; 13]
         Row::word(Field::Blcksz, 216, c.blcksz, Only(8192)),
         Row::word(Field::Relseg, 220, c.relseg, Between(1, 0x2_0000)),
         Row::word(Field::WalBlcksz, 224, c.walBlcksz, Only(8192)),
-        Row::word(Field::WalSegSize, 228, c.walSegSize, SegmentSize),
+        Row::word(
+            Field::WalSegSize,
+            228,
+            c.walSegSize,
+            PowerOfTwo(SEGMENT_MIN, SEGMENT_MAX),
+        ),
         Row::word(Field::NameLen, 232, c.nameLen, Any),
         Row::word(Field::IndexKeys, 236, c.indexKeys, Any),
         Row::word(Field::ToastChunk, 240, c.toastChunk, Any),

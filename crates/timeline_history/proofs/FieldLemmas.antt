@@ -1,25 +1,18 @@
 -- The fields of a history line.
-use Rattle.std.proofs.Common.{◌≡◌, ℕ, ◌+◌, ◌-◌, ◌<◌, ◌≤◌, ◌^◌, Bool, true, false, cond, ltb, ◌&&◌, List, [], ◌∷◌, ◌++◌, Option, Some, None, Result, Ok, Err, length, take, drop, refl, sym, ap, ◌∙◌, arith, lit<, rules}
+use Rattle.std.proofs.Common.{◌≡◌, ℕ, ◌-◌, ◌<◌, ◌≤◌, Bool, true, false, cond, ltb, List, [], ◌∷◌, ◌++◌, Option, Some, None, length, take, drop, refl, sym, ap, ◌∙◌, arith, lit<}
 use Rattle.std.proofs.lemmas.Bool.{ltb-false}
 use Rattle.std.proofs.lemmas.Bool.Decides.{nat_tests}
 use Rattle.std.proofs.lemmas.List.{take_rest, drop_all}
 use Rattle.std.proofs.lemmas.Str.{IsUtf8-from_ascii, IsAscii-append}
 use Rattle.std.proofs.lemmas.Str.Ascii.{IsAscii-nil, IsAscii-cons}
-use Rattle.std.proofs.lemmas.Str.Parse.{IsNumeralModel, numerals_by_value, parse_digits}
-use Rattle.std.specs.Char.{is_ascii_digit, is_ascii_hexdigit}
+use Rattle.std.specs.Char.{is_ascii_hexdigit}
 use Rattle.std.specs.List.{list_all, position, position_or_len}
-use Rattle.std.specs.Result.{OkIff, result_ok}
 use Rattle.std.specs.Str.{IsAscii, IsUtf8}
-use Rattle.std.specs.Str.Parse.{ParsesUnsigned, digits_value}
 use Rattle.wal_base.proofs.HexDigits.{and_parts}
 use Rattle.wal_base.proofs.LsnLemmas.{named_by_reading}
 use Rattle.wal_base.specs.declared.lsn.Lsn.{Lsn}
 use Rattle.wal_base.specs.Hex.{is_hex_word}
 use Rattle.wal_base.specs.Lsn.{slash, lsn_of}
-use Rattle.timeline_history.specs.Line.{is_decimal, has_leading_zero, timeline_of}
-
-ascii_digit : (c : ℕ) → is_ascii_digit c ≡ true → c < 128
-ascii_digit c h = grind (arith, nat_tests)
 
 ascii_hexdigit : (c : ℕ) → is_ascii_hexdigit c ≡ true → c < 128
 ascii_hexdigit c h = grind (arith, nat_tests)
@@ -55,30 +48,6 @@ module _ (test : ℕ → Bool) (bytes : List ℕ) where
       take_rest bytes (length bytes)
       ∙ drop_all (length bytes) bytes (omega arith)
       ∙ sym (drop_all (position_or_len test bytes) bytes (starts_nowhere h))
-
--- ---- timelines
-
-digits : IsNumeralModel (λ text. list_all is_ascii_digit text ≡ true) (digits_value 10)
-digits = numerals_by_value (λ text. list_all is_ascii_digit text ≡ true) (search rules)
-
-all_digits : (text : List ℕ) → is_decimal text ≡ true → (0 < length text) × (list_all is_ascii_digit text ≡ true)
-all_digits text h = grind (arith, nat_tests)
-
-pub decimal_is_text : (text : List ℕ) → is_decimal text ≡ true → IsUtf8 text
-decimal_is_text text h = IsUtf8-from_ascii text (all_ascii is_ascii_digit ascii_digit text (all_digits text h).1)
-
-pub timeline_parsed : {E : Type 0} (text : List ℕ) (r : Result ℕ E) → is_decimal text ≡ true → ParsesUnsigned 32 10 text r → result_ok r ≡ timeline_of text
-timeline_parsed {E} text r h parses = by r (parse_digits digits 32 text r parses (all_digits text h).1)
-  where
-    by : (r : Result ℕ E) → OkIff r ((0 < length text) × (digits_value 10 text < 2 ^ 32)) (digits_value 10 text) → result_ok r ≡ timeline_of text
-    by (Ok n) is = rw (h, is.1) (below (digits_value 10 text) is.0.1)
-      where
-        below : (n : ℕ) → n < 2 ^ 32 → Some n ≡ cond (ltb n (2 ^ 32)) (Some n) None
-        below n l = grind (arith, nat_tests)
-    by (Err e) is = rw h (above (digits_value 10 text) (λ l. is ((all_digits text h).0, l)))
-      where
-        above : (n : ℕ) → (n < 2 ^ 32 → ⊥) → None ≡ cond (ltb n (2 ^ 32)) (Some n) None
-        above n l = grind (arith, nat_tests)
 
 -- ---- positions
 

@@ -1,12 +1,11 @@
 -- How far two histories agree.
-use Rattle.std.proofs.Common.{◌≡◌, ℕ, zero, suc, ◌+◌, ◌-◌, ◌<◌, ◌≤◌, Bool, true, false, cond, List, [], ◌∷◌, Some, None, length, refl, sym, ap, ◌∙◌, arith, inl, inr}
+use Rattle.std.proofs.Common.{◌≡◌, ℕ, zero, suc, ◌+◌, ◌-◌, ◌<◌, ◌≤◌, Bool, true, false, cond, List, [], ◌∷◌, Some, length, refl, sym, ap, ◌∙◌, arith, inl, inr}
 use Rattle.std.specs.List.{slice_get, common_prefix_len}
 use Rattle.std.specs.Prelude.{◌↔◌}
 use Rattle.std.proofs.lemmas.List.Sums.{common_prefix_len-le}
 use Rattle.std.proofs.lemmas.Option.{slice_get_cases, slice_get_past}
 use Rattle.wal_base.specs.declared.spans.Span.{Span}
-use Rattle.timeline_history.specs.declared.ancestor.Ancestor.{Ancestor}
-use Rattle.timeline_history.specs.declared.ancestor.Ancestor.TheVariants.{Common, NoCommonAncestor}
+use Rattle.timeline_history.specs.declared.ancestor.Ancestor.TheVariants.{NoCommonAncestor}
 use Rattle.timeline_history.specs.Ancestor.{is_same_start, agrees_at, fork_of, fork_between, fork_at, divergence_of}
 
 one_more : (k : ℕ) → 1 + k ≡ suc k

@@ -1,10 +1,9 @@
 -- The spans that entries give.
-use Rattle.std.proofs.Common.{◌≡◌, ◌≢◌, ℕ, suc, ◌-◌, ◌<◌, Bool, true, List, [], ◌∷◌, ◌++◌, Option, Some, None, length, take, drop, map, refl, sym, ap, ◌∙◌, append_assoc, arith, length-append}
+use Rattle.std.proofs.Common.{◌≡◌, ◌≢◌, ℕ, suc, ◌-◌, ◌<◌, true, List, [], ◌∷◌, ◌++◌, Option, Some, None, Result, Ok, Err, IfOk, length, take, drop, map, refl, ap, ◌∙◌, append_assoc, arith, length-append}
 use Rattle.std.proofs.lemmas.Bool.Decides.{nat_tests}
 use Rattle.std.proofs.Math.Seq.{take-append_seam, drop-append_seam}
 use Rattle.std.specs.List.{AllByRecursion, slice_get}
 use Rattle.std.specs.Option.{option_map_or}
-use Rattle.std.specs.Prelude.{IsTrue}
 use Rattle.wal_base.specs.declared.lsn.Lsn.{Lsn}
 use Rattle.wal_base.specs.declared.spans.Span.{Span}
 use Rattle.wal_base.specs.Spans.{open_span, ended, last_ended}
@@ -70,3 +69,7 @@ last_tli_is tli entries =
     let place : length spans - 1 ≡ length entries = omega (arith, length_spans tli record { 0 = 0 } entries) in
     ap (λ k. option_map_or (λ span. span.tli) (slice_get spans k) 0) place
     ∙ ap (λ o. option_map_or (λ span. span.tli) o 0) (last_span tli record { 0 = 0 } entries).1
+
+pub last_of_spans : {E : Type 0} (tli : ℕ) (entries : List Entry) (r : Result (List Span) E) → IfOk r (λ history. history ≡ spans_of tli entries) → IfOk r (λ history. last_tli history ≡ tli)
+last_of_spans tli entries (Ok history) is = ap last_tli is ∙ last_tli_is tli entries
+last_of_spans tli entries (Err e) is = tt

@@ -7,27 +7,26 @@ use Rattle.std.specs.Option.{option_map_or}
 use Rattle.wal_base.proofs.HexDigits.{and_parts}
 use Rattle.wal_base.specs.declared.lsn.Lsn.{Lsn}
 use Rattle.wal_base.specs.declared.spans.Span.{Span}
-use Rattle.wal_base.specs.Spans.{end_of, reaches, open_span, ended}
-use Rattle.timeline_history.specs.declared.ancestor.Ancestor.{Ancestor}
-use Rattle.timeline_history.specs.declared.ancestor.Ancestor.TheVariants.{Common, NoCommonAncestor}
+use Rattle.wal_base.specs.Spans.{reaches, open_span, ended}
+use Rattle.timeline_history.specs.declared.ancestor.Ancestor.TheVariants.{Common}
 use Rattle.timeline_history.specs.declared.ancestor.Divergence.{Divergence}
 use Rattle.timeline_history.specs.declared.fault.HistoryFault.{HistoryFault}
 use Rattle.timeline_history.specs.declared.line.Entry.{Entry}
 use Rattle.timeline_history.specs.History.{AreRising, spans_from, spans_of, fault_at, IsFirstFault, IsFaultless, IsHistory}
 use Rattle.timeline_history.specs.Ancestor.{last_tli, is_same_start, smaller_end, fork_at, divergence_of, tli_reaching, tli_at}
-use Rattle.timeline_history.proofs.HistoryLemmas.{IsEnded, rising_ends, last_tli_is}
+use Rattle.timeline_history.proofs.HistoryLemmas.{rising_ends, last_tli_is}
 
 one_more : (k : ℕ) → 1 + k ≡ suc k
 one_more k = omega arith
 
-reached_first : (q : ℕ) (span : Span) (spans : List Span) → reaches q span ≡ true → tli_reaching (span ∷ spans) q ≡ span.tli
+pub reached_first : (q : ℕ) (span : Span) (spans : List Span) → reaches q span ≡ true → tli_reaching (span ∷ spans) q ≡ span.tli
 reached_first q span spans e = rw e refl
 
-reached_next : (q : ℕ) (span : Span) (spans : List Span) → reaches q span ≡ false → tli_reaching (span ∷ spans) q ≡ tli_reaching spans q
+pub reached_next : (q : ℕ) (span : Span) (spans : List Span) → reaches q span ≡ false → tli_reaching (span ∷ spans) q ≡ tli_reaching spans q
 reached_next q span spans e = rw e refl
 
 -- whether a span with this end reaches a position
-abbrev end_reaches : ℕ → ℕ → Bool
+abbrev pub end_reaches : ℕ → ℕ → Bool
 end_reaches q end = option_map_or (λ end. leb q end) (cond (end == 0) None (Some end)) true
 
 reaches_up_to : (q end : ℕ) → q ≤ end → end_reaches q end ≡ true
@@ -40,7 +39,7 @@ reaches_up_to q end h = by (end == 0)
 reaches_open : (q end : ℕ) → end ≡ 0 → end_reaches q end ≡ true
 reaches_open q end h = rw h refl
 
-reaches_not : (q end : ℕ) → end ≢ 0 → end < q → end_reaches q end ≡ false
+pub reaches_not : (q end : ℕ) → end ≢ 0 → end < q → end_reaches q end ≡ false
 reaches_not q end some h = by (end == 0) refl
   where
     by : (b : Bool) → (end == 0) ≡ b → option_map_or (λ end. leb q end) (cond b None (Some end)) true ≡ false
@@ -59,12 +58,12 @@ both_reach q a b h some = by (a.0 == 0) (b.0 == 0) (leb a.0 b.0) refl refl refl 
     by false false false e f g l = (reaches_up_to q a.0 (grind (arith, nat_tests)), reaches_up_to q b.0 l)
 
 -- the histories agree at their first spans, and part there or later
-record Heads (a b : Span) (xs ys : List Span) (fork : Divergence) : Type 0 where
-  tli : a.tli ≡ b.tli
-  begin : a.begin.0 ≡ b.begin.0
-  place : (fork.at ≡ smaller_end a.end b.end) ⊎ (fork_at xs ys (common_prefix_len is_same_start xs ys) ≡ Common fork)
+pub record Heads (a b : Span) (xs ys : List Span) (fork : Divergence) : Type 0 where
+  pub tli : a.tli ≡ b.tli
+  pub begin : a.begin.0 ≡ b.begin.0
+  pub place : ((fork.at ≡ smaller_end a.end b.end) × (fork.tli ≡ a.tli)) ⊎ (fork_at xs ys (common_prefix_len is_same_start xs ys) ≡ Common fork)
 
-heads : (a b : Span) (xs ys : List Span) (fork : Divergence) → fork_at (a ∷ xs) (b ∷ ys) (common_prefix_len is_same_start (a ∷ xs) (b ∷ ys)) ≡ Common fork → Heads a b xs ys fork
+pub heads : (a b : Span) (xs ys : List Span) (fork : Divergence) → fork_at (a ∷ xs) (b ∷ ys) (common_prefix_len is_same_start (a ∷ xs) (b ∷ ys)) ≡ Common fork → Heads a b xs ys fork
 heads a b xs ys fork h = by (is_same_start a b) (common_prefix_len is_same_start xs ys) refl refl h
   where
     starts : is_same_start a b ≡ true → (a.tli ≡ b.tli) × (a.begin.0 ≡ b.begin.0)
@@ -73,7 +72,7 @@ heads a b xs ys fork h = by (is_same_start a b) (common_prefix_len is_same_start
     by : (same : Bool) (n : ℕ) → is_same_start a b ≡ same → common_prefix_len is_same_start xs ys ≡ n
         → fork_at (a ∷ xs) (b ∷ ys) (cond same (1 + n) 0) ≡ Common fork → Heads a b xs ys fork
     by false n e f h = absurd cc
-    by true zero e f h = let both = starts e in record { tli = both.0; begin = both.1; place = inl cc }
+    by true zero e f h = let both = starts e in record { tli = both.0; begin = both.1; place = inl (cc, cc) }
     by true (suc n) e f h =
         let later = rw (one_more (suc n)) at h in
         let both = starts e in
@@ -98,10 +97,10 @@ at_first a b xs ys fork at h e l =
     let both = both_reach (at + 1) a.end b.end least (omega arith) in
     reached_first (at + 1) a xs both.0 ∙ h.tli ∙ sym (reached_first (at + 1) b ys both.1)
 
-none_left : (ys : List Span) (fork : Divergence) → fork_at [] ys (common_prefix_len is_same_start [] ys) ≡ Common fork → ⊥
+pub none_left : (ys : List Span) (fork : Divergence) → fork_at [] ys (common_prefix_len is_same_start [] ys) ≡ Common fork → ⊥
 none_left ys fork h = absurd cc
 
-none_right : (xs : List Span) (fork : Divergence) → fork_at xs [] (common_prefix_len is_same_start xs []) ≡ Common fork → ⊥
+pub none_right : (xs : List Span) (fork : Divergence) → fork_at xs [] (common_prefix_len is_same_start xs []) ≡ Common fork → ⊥
 none_right [] fork h = absurd cc
 none_right (a ∷ xs) fork h = absurd cc
 
@@ -112,22 +111,22 @@ same_below s t begin begin' [] [] fork at h l =
     let a : Span = open_span s begin in
     let b : Span = open_span t begin' in
     let hs = heads a b [] [] fork h in
-    elim hs.place [ inl here ↦ at_first a b [] [] fork at hs here l | inr later ↦ absurd (none_left [] fork later) ]
+    elim hs.place [ inl here ↦ at_first a b [] [] fork at hs here.0 l | inr later ↦ absurd (none_left [] fork later) ]
 same_below s t begin begin' [] (f ∷ fs) fork at h l =
     let a : Span = open_span s begin in
     let b : Span = ended f.end (open_span f.tli begin') in
     let hs = heads a b [] (spans_from t f.end fs) fork h in
-    elim hs.place [ inl here ↦ at_first a b [] (spans_from t f.end fs) fork at hs here l | inr later ↦ absurd (none_left (spans_from t f.end fs) fork later) ]
+    elim hs.place [ inl here ↦ at_first a b [] (spans_from t f.end fs) fork at hs here.0 l | inr later ↦ absurd (none_left (spans_from t f.end fs) fork later) ]
 same_below s t begin begin' (e ∷ es) [] fork at h l =
     let a : Span = ended e.end (open_span e.tli begin) in
     let b : Span = open_span t begin' in
     let hs = heads a b (spans_from s e.end es) [] fork h in
-    elim hs.place [ inl here ↦ at_first a b (spans_from s e.end es) [] fork at hs here l | inr later ↦ absurd (none_right (spans_from s e.end es) fork later) ]
+    elim hs.place [ inl here ↦ at_first a b (spans_from s e.end es) [] fork at hs here.0 l | inr later ↦ absurd (none_right (spans_from s e.end es) fork later) ]
 same_below s t begin begin' (e ∷ es) (f ∷ fs) fork at h l =
     let hs = heads (ended e.end (open_span e.tli begin)) (ended f.end (open_span f.tli begin')) (spans_from s e.end es) (spans_from t f.end fs) fork h in
     elim hs.place [
       | inl here ↦
-          at_first (ended e.end (open_span e.tli begin)) (ended f.end (open_span f.tli begin')) (spans_from s e.end es) (spans_from t f.end fs) fork at hs here l
+          at_first (ended e.end (open_span e.tli begin)) (ended f.end (open_span f.tli begin')) (spans_from s e.end es) (spans_from t f.end fs) fork at hs here.0 l
       | inr later ↦ both (end_reaches (at + 1) e.end.0) refl hs.tli (same_begin s t e.end f.end es fs fork later) (same_below s t e.end f.end es fs fork at later l)
     ]
   where
@@ -195,19 +194,19 @@ fork_is_there s t begin begin' before before' [] [] fork apart p q h = absurd (a
 fork_is_there s t begin begin' before before' [] (f ∷ fs) fork apart p q h =
     let hs = heads (open_span s begin) (ended f.end (open_span f.tli begin')) [] (spans_from t f.end fs) fork h in
     elim hs.place [
-      | inl here ↦ λ none. smaller_is_there record { 0 = 0 } f.end (inr (rising_ends t before' f q.0)) (sym (ap (λ (x : Lsn). x.0) here) ∙ none)
+      | inl here ↦ λ none. smaller_is_there record { 0 = 0 } f.end (inr (rising_ends t before' f q.0)) (sym (ap (λ (x : Lsn). x.0) here.0) ∙ none)
       | inr later ↦ absurd (none_left (spans_from t f.end fs) fork later)
     ]
 fork_is_there s t begin begin' before before' (e ∷ es) [] fork apart p q h =
     let hs = heads (ended e.end (open_span e.tli begin)) (open_span t begin') (spans_from s e.end es) [] fork h in
     elim hs.place [
-      | inl here ↦ λ none. smaller_is_there e.end record { 0 = 0 } (inl (rising_ends s before e p.0)) (sym (ap (λ (x : Lsn). x.0) here) ∙ none)
+      | inl here ↦ λ none. smaller_is_there e.end record { 0 = 0 } (inl (rising_ends s before e p.0)) (sym (ap (λ (x : Lsn). x.0) here.0) ∙ none)
       | inr later ↦ absurd (none_right (spans_from s e.end es) fork later)
     ]
 fork_is_there s t begin begin' before before' (e ∷ es) (f ∷ fs) fork apart p q h =
     let hs = heads (ended e.end (open_span e.tli begin)) (ended f.end (open_span f.tli begin')) (spans_from s e.end es) (spans_from t f.end fs) fork h in
     elim hs.place [
-      | inl here ↦ λ none. smaller_is_there e.end f.end (inl (rising_ends s before e p.0)) (sym (ap (λ (x : Lsn). x.0) here) ∙ none)
+      | inl here ↦ λ none. smaller_is_there e.end f.end (inl (rising_ends s before e p.0)) (sym (ap (λ (x : Lsn). x.0) here.0) ∙ none)
       | inr later ↦ fork_is_there s t e.end f.end (Some e) (Some f) es fs fork apart p.1 q.1 later
     ]
 

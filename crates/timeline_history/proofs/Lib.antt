@@ -2,6 +2,8 @@ pub mod PieceLemmas
 pub mod FieldLemmas
 pub mod ReadingLemmas
 pub mod HistoryLemmas
+pub mod FaultLemmas
 pub mod ForkLemmas
 pub mod LawLemmas
+pub mod LeavingLemmas
 pub mod LineLemmas

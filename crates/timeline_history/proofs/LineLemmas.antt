@@ -1,6 +1,5 @@
 -- What the lines of a text are, and which lines name an entry.
-use Rattle.std.proofs.Common.{◌≡◌, ◌≢◌, ◌==◌, ℕ, suc, ◌+◌, ◌<◌, ◌≤◌, Bool, true, false, not, cond, ◌⊎◌, inl, inr, List, [], ◌∷◌, ◌++◌, Option, Some, None, length, take, drop, get_or, slice_index, refl, sym, ap, ◌∙◌, arith, eqb-true, eq-eqb, add-one, option_map, option_and_then, drop-cons}
-use Rattle.std.specs.Prelude.{◌↔◌, IsTrue}
+use Rattle.std.proofs.Common.{◌≡◌, ◌^◌, ◌≢◌, ◌==◌, ℕ, suc, ◌+◌, ◌<◌, Bool, true, false, not, cond, ◌⊎◌, inl, inr, List, [], ◌∷◌, ◌++◌, Option, Some, None, length, take, drop, refl, sym, ap, ◌∙◌, arith, eqb-true, option_map, option_and_then, drop-cons}
 use Rattle.std.proofs.lemmas.Bool.{cases_lt}
 use Rattle.std.proofs.lemmas.Bool.Decides.{nat_tests}
 use Rattle.std.proofs.lemmas.List.{drop_all, take-append-drop, append-nil}
@@ -15,10 +14,10 @@ use Rattle.wal_base.specs.declared.lsn.Lsn.{Lsn}
 use Rattle.wal_base.specs.Hex.{is_hex_word}
 use Rattle.wal_base.specs.Lsn.{slash, lsn_of}
 use Rattle.timeline_history.specs.declared.line.Entry.{Entry}
-use Rattle.timeline_history.specs.declared.line.Line.{Line}
-use Rattle.timeline_history.specs.declared.line.Line.TheVariants.{Skipped, Ends, Bad}
+use Rattle.timeline_history.specs.declared.line.Line.TheVariants.{Skipped, Ends}
+use Rattle.wal_base.proofs.DecimalLemmas.{digits_read}
 use Rattle.timeline_history.specs.Lines.{newline, at_front, lines_of, IsLine, text_of}
-use Rattle.timeline_history.specs.Line.{is_blank, tab, is_tab, without_blanks, is_skipped, is_decimal, timeline_of, entry_with, entry_of, with_entry, reading_of, NamesEntry}
+use Rattle.timeline_history.specs.Line.{is_blank, tab, is_tab, without_blanks, is_skipped, timeline_of, entry_with, entry_of, with_entry, reading_of, NamesEntry}
 
 -- ---- lines
 
@@ -75,18 +74,8 @@ digit_no_tab c h = grind (arith, nat_tests)
 hexdigit_no_tab : (c : ℕ) → is_ascii_hexdigit c ≡ true → no_tab c ≡ true
 hexdigit_no_tab c h = grind (arith, nat_tests)
 
-decimal_parts : (text : List ℕ) → is_decimal text ≡ true → (0 < length text) × (list_all is_ascii_digit text ≡ true)
-decimal_parts text h = grind (arith, nat_tests)
-
-decimal_from : (text : List ℕ) (tli : ℕ) → timeline_of text ≡ Some tli → is_decimal text ≡ true
-decimal_from text tli h = by (is_decimal text) refl h
-  where
-    by : (b : Bool) → is_decimal text ≡ b → timeline_of text ≡ Some tli → is_decimal text ≡ true
-    by true e h = e
-    by false e h = let none = rw e at h in absurd cc
-
 timeline_no_tab : (text : List ℕ) (tli : ℕ) → timeline_of text ≡ Some tli → list_all no_tab text ≡ true
-timeline_no_tab text tli h = weaker is_ascii_digit no_tab digit_no_tab text (decimal_parts text (decimal_from text tli h)).1
+timeline_no_tab text tli h = weaker is_ascii_digit no_tab digit_no_tab text (digits_read (2 ^ 32) tli text h).1
 
 hex_word_no_tab : (text : List ℕ) → is_hex_word text ≡ true → list_all no_tab text ≡ true
 hex_word_no_tab text h =
@@ -236,9 +225,9 @@ entry_of_fields timeline position rest entry t p r =
 
 reads_fields : (blanks timeline position rest : List ℕ) (entry : Entry) → list_all is_blank blanks ≡ true → timeline_of timeline ≡ Some entry.tli → lsn_of position ≡ Some entry.end
     → (rest ≡ []) ⊎ ((text : List ℕ) × (rest ≡ tab ∷ text)) → reading_of (blanks ++ (timeline ++ tab ∷ (position ++ rest))) ≡ Ends entry
-reads_fields blanks [] position rest entry h t p r = absurd (omega (arith, (decimal_parts [] (decimal_from [] entry.tli t)).0))
+reads_fields blanks [] position rest entry h t p r = absurd (omega (arith, (digits_read (2 ^ 32) entry.tli [] t).0))
 reads_fields blanks (c ∷ cs) position rest entry h t p r =
-    let digits = (decimal_parts (c ∷ cs) (decimal_from (c ∷ cs) entry.tli t)).1 in
+    let digits = (digits_read (2 ^ 32) entry.tli (c ∷ cs) t).1 in
     let first = (and_parts (is_ascii_digit c) (list_all is_ascii_digit cs) digits).0 in
     reads_digits c (cs ++ tab ∷ (position ++ rest)) blanks rest entry h first (entry_of_fields (c ∷ cs) position rest entry t p r)
 

@@ -1,12 +1,11 @@
 -- Reading the lines of a file, one after another.
-use Rattle.std.proofs.Common.{◌≡◌, ◌≢◌, ℕ, zero, suc, ◌+◌, ◌-◌, ◌<◌, ◌≤◌, Bool, true, false, cond, List, [], ◌∷◌, ◌++◌, Option, Some, None, length, take, drop, refl, sym, ap, subst, ◌∙◌, arith, add-one, below_more, inl, inr}
+use Rattle.std.proofs.Common.{◌≡◌, ℕ, zero, suc, ◌+◌, ◌-◌, ◌<◌, ◌≤◌, Bool, true, false, List, [], ◌∷◌, ◌++◌, Option, Some, None, length, take, drop, refl, sym, ap, subst, ◌∙◌, arith, add-one, below_more, inl, inr}
 use Rattle.std.proofs.lemmas.Bool.{cases_lt}
 use Rattle.std.proofs.lemmas.List.{append-nil, take_all}
 use Rattle.std.proofs.lemmas.List.Elements.{filter_map-append}
 use Rattle.std.proofs.lemmas.Option.{slice_get_past}
-use Rattle.std.specs.List.{slice_get, filter_map, cons_option, last_or, before_first, after_first}
+use Rattle.std.specs.List.{slice_get, cons_option, last_or, before_first, after_first}
 use Rattle.std.specs.Option.{option_to_list, option_and_then}
-use Rattle.std.specs.Prelude.{IsTrue}
 use Rattle.memchr.specs.Find.{is_byte}
 use Rattle.timeline_history.specs.declared.fault.HistoryFault.{HistoryFault}
 use Rattle.timeline_history.specs.declared.line.Entry.{Entry}

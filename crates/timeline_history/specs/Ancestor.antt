@@ -1,5 +1,5 @@
 -- Where two histories part: PostgreSQL 16, src/bin/pg_rewind/pg_rewind.c, findCommonAncestorTimeline.
-use Rattle.std.specs.Prelude.{◌==◌, ℕ, zero, suc, ◌+◌, ◌-◌, ◌&&◌, Bool, false, List, Option, Some, None, length, find, nat_le, if◌then◌else◌}
+use Rattle.std.specs.Prelude.{◌≡◌, ◌==◌, ℕ, zero, suc, ◌+◌, ◌-◌, ◌≤◌, ◌&&◌, Bool, false, IsTrue, List, Option, Some, None, length, find, nat_le, if◌then◌else◌}
 use Rattle.std.specs.List.{slice_get, common_prefix_len}
 use Rattle.std.specs.Option.{option_map_or}
 use Rattle.wal_base.specs.declared.lsn.Lsn.{Lsn}
@@ -7,6 +7,7 @@ use Rattle.wal_base.specs.declared.spans.Span.{Span}
 use Rattle.wal_base.specs.Spans.{reaches}
 use Rattle.timeline_history.specs.declared.ancestor.Ancestor.{Ancestor}
 use Rattle.timeline_history.specs.declared.ancestor.Ancestor.TheVariants.{Common, NoCommonAncestor}
+use Rattle.timeline_history.specs.declared.ancestor.Divergence.{Divergence}
 
 -- the timeline that is going on at the end
 abbrev pub last_tli : List Span → ℕ
@@ -47,6 +48,17 @@ fork_at a b (suc last) = fork_between (slice_get a last) (slice_get b last)
 -- where two histories part: at the last place up to which they agree at every place, if they agree at the first
 unfoldable pub divergence_of : List Span → List Span → Ancestor
 divergence_of a b = fork_at a b (common_prefix_len is_same_start a b)
+
+-- both have a span of the fork's timeline at one place, they agree up to it, and the fork is the smaller of its ends
+pub record SharesSpan (a b : List Span) (fork : Divergence) : Type 0 where
+  pub place : ℕ
+  pub first : Span
+  pub second : Span
+  pub in_first : slice_get a place ≡ Some first
+  pub in_second : slice_get b place ≡ Some second
+  pub agree : (k : ℕ) → k ≤ place → IsTrue (agrees_at a b k)
+  pub tli : first.tli ≡ fork.tli
+  pub end : fork.at ≡ smaller_end first.end second.end
 
 -- the timeline of the first span that isn't ended, or ends at or past a position
 abbrev pub tli_reaching : List Span → ℕ → ℕ

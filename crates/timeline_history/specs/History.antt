@@ -1,7 +1,8 @@
 -- A history file: PostgreSQL 16 manual, chapter "Continuous Archiving and Point-in-Time Recovery", section "Timelines";
 -- src/backend/access/transam/timeline.c, readTimeLineHistory.
-use Rattle.std.specs.Prelude.{◌≡◌, ℕ, ◌+◌, ◌<◌, ◌&&◌, Bool, true, IsTrue, ⊤, List, [], ◌∷◌, Option, Some, None, take, nat_lt, nat_le, option_and_then, if◌then◌else◌}
+use Rattle.std.specs.Prelude.{◌≡◌, ℕ, zero, suc, ◌+◌, ◌<◌, ◌&&◌, Bool, true, IsTrue, ⊤, List, [], ◌∷◌, Option, Some, None, Result, Ok, Err, length, take, nat_lt, nat_le, option_and_then, if◌then◌else◌}
 use Rattle.std.specs.List.{slice_get, filter_map, last_or}
+use Rattle.std.specs.Option.{option_map_or, option_or}
 use Rattle.wal_base.specs.declared.lsn.Lsn.{Lsn}
 use Rattle.wal_base.specs.declared.spans.Span.{Span}
 use Rattle.wal_base.specs.Spans.{open_span, ended}
@@ -10,6 +11,7 @@ use Rattle.timeline_history.specs.declared.fault.HistoryFault.TheVariants.{BadLi
 use Rattle.timeline_history.specs.declared.line.Entry.{Entry}
 use Rattle.timeline_history.specs.declared.line.Line.{Line}
 use Rattle.timeline_history.specs.declared.line.Line.TheVariants.{Skipped, Ends, Bad}
+use Rattle.timeline_history.specs.Lines.{lines_of}
 use Rattle.timeline_history.specs.Line.{reading_of, entry_in}
 
 -- the entries of lines, in order
@@ -49,6 +51,15 @@ pub record IsFirstFault (tli : ℕ) (lines : List (List ℕ)) (fault : HistoryFa
 abbrev pub IsFaultless : ℕ → List (List ℕ) → Type 0
 IsFaultless tli lines = (k : ℕ) → fault_at tli lines k ≡ None
 
+-- the first that is there, of those at so many places
+abbrev pub first_below : {A : Type 0} → (ℕ → Option A) → ℕ → Option A
+first_below told zero = None
+first_below told (suc at) = option_or (first_below told at) (told at)
+
+-- the fault of the least line that has one, if one has
+abbrev pub first_fault : ℕ → List (List ℕ) → Option HistoryFault
+first_fault tli lines = first_below (fault_at tli lines) (length lines)
+
 -- each entry rises above the one before it, the first above this one
 abbrev pub AreRising : ℕ → Option Entry → List Entry → Type 0
 AreRising tli before [] = ⊤
@@ -63,6 +74,12 @@ spans_from tli begin (entry ∷ entries) =
 -- the spans of a timeline's history
 unfoldable pub spans_of : ℕ → List Entry → List Span
 spans_of tli entries = spans_from tli record { 0 = 0 } entries
+
+-- what the file of a timeline's history tells: its spans, or its first fault
+unfoldable pub history_of : ℕ → List ℕ → Result (List Span) HistoryFault
+history_of tli bytes =
+    option_map_or (λ fault. Err fault) (first_fault tli (lines_of bytes))
+    (Ok (spans_of tli (entries_of (lines_of bytes))))
 
 -- the spans that the entries of some timeline's file give
 pub record IsHistory (spans : List Span) : Type 0 where

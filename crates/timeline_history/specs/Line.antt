@@ -1,11 +1,10 @@
 -- One line of a history file: PostgreSQL 16, src/backend/access/transam/timeline.c, readTimeLineHistory and
 -- writeTimeLineHistory. Own: "The form of a history line".
-use Rattle.std.specs.Prelude.{◌≡◌, ◌==◌, ℕ, ◌^◌, ◌||◌, ◌&&◌, Bool, not, IsTrue, ◌⊎◌, List, [], ◌∷◌, ◌++◌, Option, Some, None, length, drop, nat_lt, slice_index, option_map, option_and_then, if◌then◌else◌}
-use Rattle.std.specs.Char.{is_ascii_digit}
+use Rattle.std.specs.Prelude.{◌≡◌, ◌==◌, ℕ, ◌^◌, ◌||◌, Bool, not, IsTrue, ◌⊎◌, List, [], ◌∷◌, ◌++◌, Option, Some, None, length, drop, slice_index, option_map, option_and_then, if◌then◌else◌}
 use Rattle.std.specs.List.{list_all, position_or_len, before_first, after_first}
-use Rattle.std.specs.Str.Parse.{digits_value}
 use Rattle.memchr.specs.Find.{is_byte}
 use Rattle.wal_base.specs.declared.lsn.Lsn.{Lsn}
+use Rattle.wal_base.specs.Decimal.{decimal_number}
 use Rattle.wal_base.specs.Lsn.{lsn_of}
 use Rattle.timeline_history.specs.declared.line.Entry.{Entry}
 use Rattle.timeline_history.specs.declared.line.Line.{Line}
@@ -30,18 +29,9 @@ without_blanks line = drop (position_or_len (λ byte. not (is_blank byte)) line)
 abbrev pub is_skipped : List ℕ → Bool
 is_skipped text = length text == 0 || slice_index text 0 == 35
 
--- a 0 with more behind it
-abbrev pub has_leading_zero : List ℕ → Bool
-has_leading_zero text = nat_lt 1 (length text) && slice_index text 0 == 48
-
--- one decimal digit or more, and no leading zero
-abbrev pub is_decimal : List ℕ → Bool
-is_decimal text = nat_lt 0 (length text) && list_all is_ascii_digit text && not (has_leading_zero text)
-
 -- the timeline that a text names: a decimal number below 2 ^ 32
 abbrev pub timeline_of : List ℕ → Option ℕ
-timeline_of text =
-    if is_decimal text && nat_lt (digits_value 10 text) (2 ^ 32) then Some (digits_value 10 text) else None
+timeline_of text = decimal_number (2 ^ 32) text
 
 -- a timeline that ends at a position
 abbrev pub entry_with : ℕ → Lsn → Entry

@@ -14,8 +14,8 @@ pub use ancestor::{Ancestor, Divergence};
 pub use fault::HistoryFault;
 pub use history::{History, first_history};
 pub use laws::{
-    entries_are_named, files_have_one_first_fault, histories_part_at_the_fork,
-    texts_are_their_lines,
+    entries_are_named, files_have_one_first_fault, files_tell_histories,
+    histories_part_at_the_fork, texts_are_their_lines,
 };
 pub use parting::divergence;
 pub use reading::read_history;

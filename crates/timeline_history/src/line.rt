@@ -1,14 +1,12 @@
 //! One line of a history file.
 
 ghost use Rattle.std.specs.Prelude.{◌≡◌, not, position};
-ghost use Rattle.std.specs.Char.{is_ascii_digit};
-ghost use Rattle.std.specs.List.{list_all};
 ghost use Rattle.wal_base.specs.Lsn.{lsn_of};
-ghost use Rattle.timeline_history.specs.Line.{is_blank, without_blanks, is_skipped, has_leading_zero, is_decimal, timeline_of, entry_of, reading_of};
+ghost use Rattle.timeline_history.specs.Line.{is_blank, without_blanks, is_skipped, timeline_of, entry_of, reading_of};
 
 use crate::pieces::cut_at;
 use std::str;
-use wal_base::Lsn;
+use wal_base::{Lsn, decimal_u32};
 
 /// A timeline, and the position at which it ended.
 #[derive(Clone, Copy, Debug)]
@@ -60,36 +58,11 @@ fn is_skipped(text: &[u8]) -> bool
     matches!(text, [] | [b'#', ..])
 }
 
-fn all_digits(text: &[u8]) -> bool
-    ensures { result ≡ list_all is_ascii_digit text.now }
-{
-    text.iter().all(|byte| byte.is_ascii_digit())
-}
-
-fn has_leading_zero(text: &[u8]) -> bool
-    ensures { result ≡ has_leading_zero text.now }
-{
-    text.len() > 1 && text[0] == b'0'
-}
-
-/// Whether these are decimal digits with no leading zero.
-fn is_decimal(text: &[u8]) -> bool
-    ensures { result ≡ is_decimal text.now }
-{
-    !text.is_empty() && all_digits(text) && !has_leading_zero(text)
-}
-
 /// The timeline that a text names, if it names one.
 fn timeline(text: &[u8]) -> Option<u32>
     ensures { result ≡ timeline_of text.now }
 {
-    if !is_decimal(text) {
-        return None;
-    }
-    match str::from_utf8(text) {
-        Ok(text) => text.parse().ok(),
-        Err(_) => None,
-    }
+    decimal_u32(text)
 }
 
 /// The position that a text names, if it names one.

@@ -1,12 +1,12 @@
 //! Reading a history file.
 
-ghost use Rattle.std.specs.Prelude.{◌≡◌, ◌≢◌, ◌∷◌, ◌++◌, Some, None, IfOk, IfErr, OnOk};
+ghost use Rattle.std.specs.Prelude.{◌≡◌, ◌≢◌, ◌⊎◌, ◌∷◌, ◌++◌, Some, None, Ok, Err, IfOk, IfErr, MatchResult, OnOk};
 ghost use Rattle.std.specs.List.{last_or};
 ghost use Rattle.std.specs.Option.{option_to_list};
 ghost use Rattle.timeline_history.specs.declared.fault.HistoryFault.TheVariants as faults;
 ghost use Rattle.timeline_history.specs.Lines.{lines_of};
 ghost use Rattle.timeline_history.specs.Line.{reading_of, entry_in};
-ghost use Rattle.timeline_history.specs.History.{entries_of, is_above, is_rising, fault_of, IsFirstFault, IsFaultless, AreRising, spans_of};
+ghost use Rattle.timeline_history.specs.History.{entries_of, is_above, is_rising, fault_of, IsFirstFault, IsFaultless, AreRising, spans_of, history_of};
 ghost use Rattle.timeline_history.specs.Ancestor.{last_tli};
 
 use crate::fault::HistoryFault;
@@ -110,18 +110,24 @@ fn spans_of(alloc: Global, tli: u32, entries: &[Entry]) -> Result<Spans, OutOfMe
     }
 }
 
-/// The history of the timeline `tli`, from the bytes of its file: each entry ends its timeline's span at its position,
-/// and `tli` is the last. Answers the fault of the least line that has one: `BadLine` where the line isn't of the form,
-/// `NotRising` where its timeline or its position doesn't rise. Answers `OutOfMemory` only for want of memory.
-pub fn read_history(alloc: Global, tli: u32, bytes: &[u8]) -> Result<History, HistoryFault>
-    // The file has no fault, and its entries give the spans.
+/// The history that a file tells, where none of its lines has a fault.
+fn read_faultless(alloc: Global, tli: u32, bytes: &[u8]) -> Result<History, HistoryFault>
     ensures ok { IfOk result (λ history. IsFaultless tli (lines_of bytes.now)) }
     ensures spans { IfOk result (λ history. history ≡ spans_of tli (entries_of (lines_of bytes.now))) }
-    ensures last { IfOk result (λ history. last_tli history ≡ tli) }
-    // Each other answer is the first fault.
     ensures fault { IfErr result (λ fault. fault ≢ faults.OutOfMemory →
         IsFirstFault tli (lines_of bytes.now) fault) }
 {
     let entries = read_entries(alloc, tli, bytes)?;
     Ok(History::new(spans_of(alloc, tli, &entries)?))
+}
+
+/// The history of the timeline `tli`, from the bytes of its file: each entry ends its timeline's span at its position,
+/// and `tli` is the last. Answers the fault of the least line that has one: `BadLine` where the line isn't of the form,
+/// `NotRising` where its timeline or its position doesn't rise. Answers `OutOfMemory` only for want of memory.
+pub fn read_history(alloc: Global, tli: u32, bytes: &[u8]) -> Result<History, HistoryFault>
+    ensures exact { MatchResult result (λ spans. history_of tli bytes.now ≡ Ok spans)
+        (λ e. (e ≡ faults.OutOfMemory) ⊎ (history_of tli bytes.now ≡ Err e)) }
+    ensures last { IfOk result (λ history. last_tli history ≡ tli) }
+{
+    read_faultless(alloc, tli, bytes)
 }

@@ -1,4 +1,4 @@
-use Rattle.std.proofs.Common.{[], ◌∙◌, length, arith, lit<}
+use Rattle.std.proofs.Common.{[], ◌∙◌, lit<}
 use Rattle.timeline_history.proofs.HistoryLemmas.{no_entries}
 use Rattle.timeline_history.proofs.history.first_history.Goals as goal
 
