@@ -1,7 +1,7 @@
 -- Valid pages of a log: PostgreSQL 16, src/backend/access/transam/xlogreader.c, XLogReaderValidatePageHeader;
 -- src/include/access/xlog_internal.h, XLOG_PAGE_MAGIC and XLP_ALL_FLAGS. Own: "The order of a page's rules".
 use Rattle.std.specs.Prelude.{◌≡◌, ◌≤◌, ◌<◌, ℕ, ◌%◌, ◌==◌, ◌&&◌, ◌||◌, not, Bool, true, List, [], ◌∷◌, Option, Some, None, find, nat_lt, nat_le, if◌then◌else◌}
-use Rattle.layout.specs.Readers.{half_at, word_at, long_at}
+use Rattle.layout.specs.Readers.{u16_at, u32_at, u64_at}
 use Rattle.wal_base.specs.Segment.{bytes_of}
 use Rattle.wal_pages.specs.declared.log_path.LogPath.{LogPath}
 use Rattle.wal_pages.specs.declared.field.PageField.{PageField}
@@ -24,13 +24,13 @@ is_wanted (Some wanted) system = system == wanted
 
 -- whether the page at a position keeps the rule of a field
 abbrev pub keeps : LogPath → ℕ → List ℕ → PageField → Bool
-keeps log at page Magic = half_at 0 page == 0xD113
-keeps log at page Info = nat_lt (half_at 2 page) 16 && set_where (is_first log at) (has_bit (half_at 2 page) 2)
-keeps log at page Timeline = nat_le 1 (word_at 4 page) && nat_le (word_at 4 page) (segment_at log at).tli
-keeps log at page Address = long_at 8 page == at
-keeps log at page System = not (is_first log at) || is_wanted log.system (long_at 24 page)
-keeps log at page SegmentSize = not (is_first log at) || word_at 32 page == bytes_of log.size
-keeps log at page BlockSize = not (is_first log at) || word_at 36 page == 8192
+keeps log at page Magic = u16_at 0 page == 0xD113
+keeps log at page Info = nat_lt (u16_at 2 page) 16 && set_where (is_first log at) (has_bit (u16_at 2 page) 2)
+keeps log at page Timeline = nat_le 1 (u32_at 4 page) && nat_le (u32_at 4 page) (segment_at log at).tli
+keeps log at page Address = u64_at 8 page == at
+keeps log at page System = not (is_first log at) || is_wanted log.system (u64_at 24 page)
+keeps log at page SegmentSize = not (is_first log at) || u32_at 32 page == bytes_of log.size
+keeps log at page BlockSize = not (is_first log at) || u32_at 36 page == 8192
 
 -- the fields in the order in which their rules are tried
 abbrev pub fields : List PageField
@@ -42,11 +42,11 @@ first_bad_field log at page = find (λ field. not (keeps log at page field)) fie
 
 -- a valid page of a log: each field keeps its rule
 pub record IsValidPage (log : LogPath) (at : ℕ) (page : List ℕ) : Type 0 where
-  pub magic : half_at 0 page ≡ 0xD113
-  pub known_bits : half_at 2 page < 16
-  pub long : has_bit (half_at 2 page) 2 ≡ is_first log at
-  pub timeline : (1 ≤ word_at 4 page) × (word_at 4 page ≤ (segment_at log at).tli)
-  pub address : long_at 8 page ≡ at
-  pub system : is_first log at ≡ true → (wanted : ℕ) → log.system ≡ Some wanted → long_at 24 page ≡ wanted
-  pub segment_size : is_first log at ≡ true → word_at 32 page ≡ bytes_of log.size
-  pub block_size : is_first log at ≡ true → word_at 36 page ≡ 8192
+  pub magic : u16_at 0 page ≡ 0xD113
+  pub known_bits : u16_at 2 page < 16
+  pub long : has_bit (u16_at 2 page) 2 ≡ is_first log at
+  pub timeline : (1 ≤ u32_at 4 page) × (u32_at 4 page ≤ (segment_at log at).tli)
+  pub address : u64_at 8 page ≡ at
+  pub system : is_first log at ≡ true → (wanted : ℕ) → log.system ≡ Some wanted → u64_at 24 page ≡ wanted
+  pub segment_size : is_first log at ≡ true → u32_at 32 page ≡ bytes_of log.size
+  pub block_size : is_first log at ≡ true → u32_at 36 page ≡ 8192

@@ -1,7 +1,8 @@
 //! The pages of a log, one at a time.
 
 ghost use Rattle.std.specs.Prelude.{◌≡◌, ◌⊎◌, ◌≤◌, [], None, Some, Ok, length, IsOk, IfOk, IfErr, OnOk, OnErr, IsTrue, IsErrOf};
-ghost use Rattle.cluster_tree.specs.Causes.{Meets, OnlyReads, Rose};
+ghost use Rattle.cluster_tree.specs.Causes.{Meets, Rose};
+ghost use Rattle.cluster_tree.specs.Frame.{Reads};
 ghost use Rattle.wal_pages.specs.Cursor.{Knows, forgotten};
 ghost use Rattle.wal_pages.specs.Folder.{folder_of};
 ghost use Rattle.wal_pages.specs.Header.{header_of, page_of};
@@ -87,8 +88,7 @@ impl PageCursor {
         ensures header { IfOk result (λ header. header ≡ header_of self.new.page) }
         ensures whole { OnOk result (length self.new.page ≡ 8192) }
         ensures none { OnErr result (self.new ≡ forgotten self.old) }
-        ensures reads { OnlyReads F.contents F.calls F.failed_reads F.failed_changes
-            tree.old tree.new }
+        ensures reads { Reads F.Tree tree.old tree.new }
         ensures read_fault { IsErrOf result PageFault.ReadFault →
             Rose (F.failed_reads tree.old) (F.failed_reads tree.new) }
     {
@@ -121,8 +121,7 @@ impl PageCursor {
         ensures header { IfOk result (λ header. header ≡ header_of self.new.page) }
         ensures whole { OnOk result (length self.new.page ≡ 8192) }
         ensures none { OnErr result (self.new ≡ forgotten self.old) }
-        ensures reads { OnlyReads F.contents F.calls F.failed_reads F.failed_changes
-            tree.old tree.new }
+        ensures reads { Reads F.Tree tree.old tree.new }
         ensures read_fault { IsErrOf result PageFault.ReadFault →
             Rose (F.failed_reads tree.old) (F.failed_reads tree.new) }
     {

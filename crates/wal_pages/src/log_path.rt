@@ -1,13 +1,13 @@
 //! Where a log lies.
 
-ghost use Rattle.std.specs.Prelude.{◌≡◌, ◌*◌, ◌<◌, ◌≤◌, ◌^◌, [], ◌∷◌, length, IfOk, IfErr};
+ghost use Rattle.std.specs.Prelude.{◌≡◌, ◌*◌, ◌<◌, ◌≤◌, ◌^◌, [], ◌∷◌, length, IfOk};
 ghost use Rattle.cluster_tree.specs.PathValue.{below};
 ghost use Rattle.wal_base.specs.Segment.{bytes_of, name_of};
 ghost use Rattle.wal_pages.specs.LogBytes.{segment_at};
 
-use cluster_tree::{Path, PathFault};
+use cluster_tree::Path;
 use std::alloc::Global;
-use wal_base::{Lsn, SegSize, Segment, Spans};
+use wal_base::{Lsn, OutOfMemory, SegSize, Segment, Spans};
 
 /// Where a log lies, and what its pages have to say.
 #[derive(Debug, Drop)]
@@ -32,17 +32,17 @@ impl LogPath {
         Segment::of(self.spans.segment_tli(number, self.size), at, self.size)
     }
 
-    /// The path of a segment's file. The only refusal is `OutOfMemory`.
-    pub(crate) fn file_of(&self, alloc: Global, segment: Segment) -> Result<Path, PathFault>
+    /// The path of a segment's file.
+    #[tactic(auto, using(crate::proofs::PartLemmas::part_steps))]
+    pub(crate) fn file_of(&self, alloc: Global, segment: Segment) -> Result<Path, OutOfMemory>
         requires room { length self.now.folder.parts ≤ 63 }
         requires fits { segment.number * bytes_of segment.size < 2 ^ 64 }
-        ensures value { IfOk result (λ path.
-            path ≡ below self.now.folder (name_of segment ∷ [])) }
-        ensures memory { IfErr result (λ e. e ≡ PathFault.OutOfMemory) }
+        ensures { IfOk result (λ path. path ≡ below self.now.folder (name_of segment ∷ [])) }
     {
-        match segment.name(alloc) {
-            Ok(name) => self.folder.join(alloc, name.as_str()),
-            Err(_) => Err(PathFault::OutOfMemory),
+        let name = segment.name(alloc)?;
+        match self.folder.below(alloc, name.as_str()) {
+            Ok(path) => Ok(path),
+            Err(_) => Err(OutOfMemory),
         }
     }
 }

@@ -2,7 +2,8 @@
 
 ghost use Rattle.std.specs.Prelude.{◌≡◌, ◌⊎◌, ◌≤◌, ◌%◌, [], ◌∷◌, Ok, Err, length, IfSome, IfOk, IfErr, OnOk, IsTrue, IsErrOf};
 ghost use Rattle.cluster_tree.specs.Contents.{entry_at};
-ghost use Rattle.cluster_tree.specs.Causes.{IsAmong, Meets, OnlyReads, Rose};
+ghost use Rattle.cluster_tree.specs.Causes.{IsAmong, Meets, Rose};
+ghost use Rattle.cluster_tree.specs.Frame.{Reads};
 ghost use Rattle.wal_pages.specs.File.{IsFileIn};
 ghost use Rattle.wal_pages.specs.Folder.{file_in, folder_of};
 ghost use Rattle.wal_pages.specs.Header.{header_of};
@@ -35,7 +36,7 @@ fn read_from<F: Tree>(
     ensures row { IfErr result (IsAmong (PageFault.ReadFault ∷ PageFault.ShortSegment segment
         ∷ PageFault.SegmentMissing segment ∷ [])) }
     ensures whole { length page.new ≡ 8192 }
-    ensures reads { OnlyReads F.contents F.calls F.failed_reads F.failed_changes tree.old tree.new }
+    ensures reads { Reads F.Tree tree.old tree.new }
     ensures read_fault { IsErrOf result PageFault.ReadFault →
         Rose (F.failed_reads tree.old) (F.failed_reads tree.new) }
 {
@@ -75,10 +76,8 @@ impl SegmentFile {
             }
         }
         let segment = log.segment_at(at);
-        match log.file_of(alloc, segment) {
-            Ok(path) => Ok(SegmentFile { segment, path }),
-            Err(_) => Err(PageFault::OutOfMemory),
-        }
+        let path = log.file_of(alloc, segment)?;
+        Ok(SegmentFile { segment, path })
     }
 }
 
@@ -103,7 +102,7 @@ pub(crate) fn load<F: Tree>(
     ensures names { IfErr result (NamesPage log.now at.0) }
     ensures whole { length page.new ≡ 8192 }
     ensures header { IfOk result (λ header. header ≡ header_of page.new) }
-    ensures reads { OnlyReads F.contents F.calls F.failed_reads F.failed_changes tree.old tree.new }
+    ensures reads { Reads F.Tree tree.old tree.new }
     ensures read_fault { IsErrOf result PageFault.ReadFault →
         Rose (F.failed_reads tree.old) (F.failed_reads tree.new) }
 {

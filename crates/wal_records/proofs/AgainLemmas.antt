@@ -5,7 +5,7 @@ use Rattle.std.proofs.lemmas.Bool.{cases_eq}
 use Rattle.std.proofs.lemmas.Bool.Decides.{nat_tests}
 use Rattle.byteorder.specs.Endian.{little_bytes, little_number}
 use Rattle.byteorder.specs.Numbers.{little_number-reads_back}
-use Rattle.layout.specs.Readers.{byte_at, half_at, word_at, long_at}
+use Rattle.layout.specs.Readers.{u8_at, u16_at, u32_at, u64_at}
 use Rattle.wal_base.specs.Crc.{crc32c}
 use Rattle.wal_base.proofs.CrcFold.{crc32c_below}
 use Rattle.wal_base.specs.Segment.{bytes_of}
@@ -20,20 +20,20 @@ use Rattle.wal_records.specs.Again.{IsNew, header_given, IsReadAgain, PageIsRead
 use Rattle.wal_records.proofs.WriterLemmas.{length-record_front, length_record_bytes, length-short_header, long_page_header, short_page_header}
 
 -- a number of two, four or eight bytes, and a byte, behind so many others
-pub half_in : (pre post : List ℕ) (n at : ℕ) → n < 2 ^ 16 → length pre ≡ at → half_at at (pre ++ (little_bytes 2 n ++ post)) ≡ n
-unfolding half_at
+pub half_in : (pre post : List ℕ) (n at : ℕ) → n < 2 ^ 16 → length pre ≡ at → u16_at at (pre ++ (little_bytes 2 n ++ post)) ≡ n
+unfolding u16_at
 half_in pre post n at fits e = ap (little_number 2) (drop_at pre (little_bytes 2 n ++ post) at e) ∙ little_number-reads_back 2 n post fits
 
-pub word_in : (pre post : List ℕ) (n at : ℕ) → n < 2 ^ 32 → length pre ≡ at → word_at at (pre ++ (little_bytes 4 n ++ post)) ≡ n
-unfolding word_at
+pub word_in : (pre post : List ℕ) (n at : ℕ) → n < 2 ^ 32 → length pre ≡ at → u32_at at (pre ++ (little_bytes 4 n ++ post)) ≡ n
+unfolding u32_at
 word_in pre post n at fits e = ap (little_number 4) (drop_at pre (little_bytes 4 n ++ post) at e) ∙ little_number-reads_back 4 n post fits
 
-pub long_in : (pre post : List ℕ) (n at : ℕ) → n < 2 ^ 64 → length pre ≡ at → long_at at (pre ++ (little_bytes 8 n ++ post)) ≡ n
-unfolding long_at
+pub long_in : (pre post : List ℕ) (n at : ℕ) → n < 2 ^ 64 → length pre ≡ at → u64_at at (pre ++ (little_bytes 8 n ++ post)) ≡ n
+unfolding u64_at
 long_in pre post n at fits e = ap (little_number 8) (drop_at pre (little_bytes 8 n ++ post) at e) ∙ little_number-reads_back 8 n post fits
 
-pub byte_in : (pre post : List ℕ) (n at : ℕ) → length pre ≡ at → byte_at at (pre ++ (n ∷ post)) ≡ n
-unfolding byte_at
+pub byte_in : (pre post : List ℕ) (n at : ℕ) → length pre ≡ at → u8_at at (pre ++ (n ∷ post)) ≡ n
+unfolding u8_at
 byte_in pre post n at e = grind (arith, get_or-append_right pre (n ∷ post) at at 0 e (omega arith))
 
 six : (a b d e f g : List ℕ) → ((((a ++ b) ++ d) ++ e) ++ f) ++ g ≡ a ++ (b ++ (d ++ (e ++ (f ++ g))))
@@ -72,13 +72,13 @@ header_in t x p s body total xid prev info manager crc ft fx fp fc et ex ep es =
     let l3 : length ((t ++ x) ++ p) ≡ 16 = omega (arith, length-append (t ++ x) p, l2, lp) in
     let l3b : length (((t ++ x) ++ p) ++ (info ∷ [])) ≡ 17 = omega (arith, length-append ((t ++ x) ++ p) (info ∷ []), l3) in
     let l4 : length (((t ++ x) ++ p) ++ d) ≡ 20 = omega (arith, length-append ((t ++ x) ++ p) d, l3) in
-    header_is (word_at 0 whole) (word_at 4 whole) (long_at 8 whole) (byte_at 16 whole) (byte_at 17 whole) (word_at 20 whole) total xid prev info manager crc
-    (ap (λ (w : List ℕ). word_at 0 (w ++ (x ++ (p ++ (d ++ (s ++ body)))))) et ∙ word_in [] (x ++ (p ++ (d ++ (s ++ body)))) total 0 ft refl)
-    (ap (λ (w : List ℕ). word_at 4 (t ++ (w ++ (p ++ (d ++ (s ++ body)))))) ex ∙ word_in t (p ++ (d ++ (s ++ body))) xid 4 fx lt)
-    (ap (long_at 8) two ∙ ap (λ (w : List ℕ). long_at 8 ((t ++ x) ++ (w ++ (d ++ (s ++ body))))) ep ∙ long_in (t ++ x) (d ++ (s ++ body)) prev 8 fp l2)
-    (ap (byte_at 16) three ∙ byte_in ((t ++ x) ++ p) (manager ∷ 0 ∷ 0 ∷ (s ++ body)) info 16 l3)
-    (ap (byte_at 17) three_b ∙ byte_in (((t ++ x) ++ p) ++ (info ∷ [])) (0 ∷ 0 ∷ (s ++ body)) manager 17 l3b)
-    (ap (word_at 20) four ∙ ap (λ (w : List ℕ). word_at 20 ((((t ++ x) ++ p) ++ d) ++ (w ++ body))) es ∙ word_in (((t ++ x) ++ p) ++ d) body crc 20 fc l4)
+    header_is (u32_at 0 whole) (u32_at 4 whole) (u64_at 8 whole) (u8_at 16 whole) (u8_at 17 whole) (u32_at 20 whole) total xid prev info manager crc
+    (ap (λ (w : List ℕ). u32_at 0 (w ++ (x ++ (p ++ (d ++ (s ++ body)))))) et ∙ word_in [] (x ++ (p ++ (d ++ (s ++ body)))) total 0 ft refl)
+    (ap (λ (w : List ℕ). u32_at 4 (t ++ (w ++ (p ++ (d ++ (s ++ body)))))) ex ∙ word_in t (p ++ (d ++ (s ++ body))) xid 4 fx lt)
+    (ap (u64_at 8) two ∙ ap (λ (w : List ℕ). u64_at 8 ((t ++ x) ++ (w ++ (d ++ (s ++ body))))) ep ∙ long_in (t ++ x) (d ++ (s ++ body)) prev 8 fp l2)
+    (ap (u8_at 16) three ∙ byte_in ((t ++ x) ++ p) (manager ∷ 0 ∷ 0 ∷ (s ++ body)) info 16 l3)
+    (ap (u8_at 17) three_b ∙ byte_in (((t ++ x) ++ p) ++ (info ∷ [])) (0 ∷ 0 ∷ (s ++ body)) manager 17 l3b)
+    (ap (u32_at 20) four ∙ ap (λ (w : List ℕ). u32_at 20 ((((t ++ x) ++ p) ++ d) ++ (w ++ body))) es ∙ word_in (((t ++ x) ++ p) ++ d) body crc 20 fc l4)
 
 header_again : (before : Option ℕ) (r : NewRecord) → IsNew before r → header_of (record_bytes before r) ≡ header_given before r
 header_again before r n =
@@ -132,11 +132,11 @@ short_parts : (m i t a r z rest : List ℕ) → (((((m ++ i) ++ t) ++ a) ++ r) +
 short_parts m i t a r z rest = simp append_assoc
 
 pub record ShortFields (origin : LogOrigin) (at left : ℕ) (page : List ℕ) : Type 0 where
-  pub magic : half_at 0 page ≡ 0xD113
-  pub info : half_at 2 page ≡ page_info (bytes_of origin.size) at left
-  pub tli : word_at 4 page ≡ origin.tli
-  pub address : long_at 8 page ≡ at
-  pub remaining : word_at 16 page ≡ left
+  pub magic : u16_at 0 page ≡ 0xD113
+  pub info : u16_at 2 page ≡ page_info (bytes_of origin.size) at left
+  pub tli : u32_at 4 page ≡ origin.tli
+  pub address : u64_at 8 page ≡ at
+  pub remaining : u32_at 16 page ≡ left
 
 fields_in : (origin : LogOrigin) (at left : ℕ) (m i t a r rest page : List ℕ) → origin.tli < 2 ^ 32 → at < 2 ^ 64 → left < 2 ^ 32
     → m ≡ little_bytes 2 0xD113 → i ≡ little_bytes 2 (page_info (bytes_of origin.size) at left) → t ≡ little_bytes 4 origin.tli → a ≡ little_bytes 8 at → r ≡ little_bytes 4 left
@@ -154,11 +154,11 @@ fields_in origin at left m i t a r rest page ft fa fr em ei et ea er whole =
     let l3 : length ((m ++ i) ++ t) ≡ 8 = omega (arith, length-append (m ++ i) t, l2, lt) in
     let l4 : length (((m ++ i) ++ t) ++ a) ≡ 16 = omega (arith, length-append ((m ++ i) ++ t) a, l3, la) in
     record {
-      magic = ap (half_at 0) whole ∙ ap (λ (w : List ℕ). half_at 0 (w ++ (i ++ (t ++ (a ++ (r ++ rest)))))) em ∙ half_in [] (i ++ (t ++ (a ++ (r ++ rest)))) 0xD113 0 (omega arith) refl;
-      info = ap (half_at 2) whole ∙ ap (λ (w : List ℕ). half_at 2 (m ++ (w ++ (t ++ (a ++ (r ++ rest)))))) ei ∙ half_in m (t ++ (a ++ (r ++ rest))) info 2 (omega (arith, page_info_low (bytes_of origin.size) at left)) lm;
-      tli = ap (word_at 4) two ∙ ap (λ (w : List ℕ). word_at 4 ((m ++ i) ++ (w ++ (a ++ (r ++ rest))))) et ∙ word_in (m ++ i) (a ++ (r ++ rest)) origin.tli 4 ft l2;
-      address = ap (long_at 8) three ∙ ap (λ (w : List ℕ). long_at 8 (((m ++ i) ++ t) ++ (w ++ (r ++ rest)))) ea ∙ long_in ((m ++ i) ++ t) (r ++ rest) at 8 fa l3;
-      remaining = ap (word_at 16) four ∙ ap (λ (w : List ℕ). word_at 16 ((((m ++ i) ++ t) ++ a) ++ (w ++ rest))) er ∙ word_in (((m ++ i) ++ t) ++ a) rest left 16 fr l4;
+      magic = ap (u16_at 0) whole ∙ ap (λ (w : List ℕ). u16_at 0 (w ++ (i ++ (t ++ (a ++ (r ++ rest)))))) em ∙ half_in [] (i ++ (t ++ (a ++ (r ++ rest)))) 0xD113 0 (omega arith) refl;
+      info = ap (u16_at 2) whole ∙ ap (λ (w : List ℕ). u16_at 2 (m ++ (w ++ (t ++ (a ++ (r ++ rest)))))) ei ∙ half_in m (t ++ (a ++ (r ++ rest))) info 2 (omega (arith, page_info_low (bytes_of origin.size) at left)) lm;
+      tli = ap (u32_at 4) two ∙ ap (λ (w : List ℕ). u32_at 4 ((m ++ i) ++ (w ++ (a ++ (r ++ rest))))) et ∙ word_in (m ++ i) (a ++ (r ++ rest)) origin.tli 4 ft l2;
+      address = ap (u64_at 8) three ∙ ap (λ (w : List ℕ). u64_at 8 (((m ++ i) ++ t) ++ (w ++ (r ++ rest)))) ea ∙ long_in ((m ++ i) ++ t) (r ++ rest) at 8 fa l3;
+      remaining = ap (u32_at 16) four ∙ ap (λ (w : List ℕ). u32_at 16 ((((m ++ i) ++ t) ++ a) ++ (w ++ rest))) er ∙ word_in (((m ++ i) ++ t) ++ a) rest left 16 fr l4;
     }
 
 short_again : (origin : LogOrigin) (at left : ℕ) (rest : List ℕ) → origin.tli < 2 ^ 32 → at < 2 ^ 64 → left < 2 ^ 32 → ShortFields origin at left (short_header origin at left ++ rest)
@@ -173,9 +173,9 @@ short_again origin at left rest ft fa fr =
 
 -- and what a segment's first page has besides
 pub record LongFields (origin : LogOrigin) (page : List ℕ) : Type 0 where
-  pub system : long_at 24 page ≡ origin.system
-  pub segment_size : word_at 32 page ≡ bytes_of origin.size
-  pub block_size : word_at 36 page ≡ 8192
+  pub system : u64_at 24 page ≡ origin.system
+  pub segment_size : u32_at 32 page ≡ bytes_of origin.size
+  pub block_size : u32_at 36 page ≡ 8192
 
 long_parts : (h s z b rest : List ℕ) → (h ++ ((s ++ z) ++ b)) ++ rest ≡ h ++ (s ++ (z ++ (b ++ rest)))
 long_parts h s z b rest = simp append_assoc
@@ -190,9 +190,9 @@ long_in_fields origin h s z b rest page lh fs es ez eb whole =
     let l2 : length (h ++ s) ≡ 32 = omega (arith, length-append h s, lh, ls) in
     let l3 : length ((h ++ s) ++ z) ≡ 36 = omega (arith, length-append (h ++ s) z, l2, lz) in
     record {
-      system = ap (long_at 24) whole ∙ ap (λ (w : List ℕ). long_at 24 (h ++ (w ++ (z ++ (b ++ rest))))) es ∙ long_in h (z ++ (b ++ rest)) origin.system 24 fs lh;
-      segment_size = ap (word_at 32) two ∙ ap (λ (w : List ℕ). word_at 32 ((h ++ s) ++ (w ++ (b ++ rest)))) ez ∙ word_in (h ++ s) (b ++ rest) (bytes_of origin.size) 32 (omega (arith, origin.size.is_size.greatest)) l2;
-      block_size = ap (word_at 36) three ∙ ap (λ (w : List ℕ). word_at 36 (((h ++ s) ++ z) ++ (w ++ rest))) eb ∙ word_in ((h ++ s) ++ z) rest 8192 36 (omega arith) l3;
+      system = ap (u64_at 24) whole ∙ ap (λ (w : List ℕ). u64_at 24 (h ++ (w ++ (z ++ (b ++ rest))))) es ∙ long_in h (z ++ (b ++ rest)) origin.system 24 fs lh;
+      segment_size = ap (u32_at 32) two ∙ ap (λ (w : List ℕ). u32_at 32 ((h ++ s) ++ (w ++ (b ++ rest)))) ez ∙ word_in (h ++ s) (b ++ rest) (bytes_of origin.size) 32 (omega (arith, origin.size.is_size.greatest)) l2;
+      block_size = ap (u32_at 36) three ∙ ap (λ (w : List ℕ). u32_at 36 (((h ++ s) ++ z) ++ (w ++ rest))) eb ∙ word_in ((h ++ s) ++ z) rest 8192 36 (omega arith) l3;
     }
 
 long_again : (origin : LogOrigin) (at left : ℕ) (rest : List ℕ) → origin.system < 2 ^ 64 → LongFields origin ((short_header origin at left ++ long_header origin) ++ rest)

@@ -3,7 +3,7 @@ use Rattle.std.proofs.Common.{◌≡◌, ℕ, ◌+◌, ◌-◌, ◌%◌, ◌<◌
 use Rattle.std.specs.List.{flat_map}
 use Rattle.std.proofs.lemmas.Bool.{cases_lt}
 use Rattle.std.proofs.lemmas.List.{take_all, length-take, map-append, append-nil}
-use Rattle.layout.specs.Readers.{word_at}
+use Rattle.layout.specs.Readers.{u32_at}
 use Rattle.wal_base.specs.Segment.{bytes_of}
 use Rattle.wal_pages.specs.declared.log_path.LogPath.{LogPath}
 use Rattle.wal_pages.specs.Folder.{Folder}
@@ -92,11 +92,11 @@ pub record IsCarried (log : LogPath) (files : Folder) (place total : ℕ) (bytes
   pub count : length bytes ≡ total
 
 pub carried_of : (log : LogPath) (files : Folder) (before : Option ℕ) (place : ℕ) (page bytes : List ℕ) → IsParts (page_at log files) (bytes_of log.size) before place page bytes
-    → IsCarried log files place (word_at (place % 8192) page) bytes
+    → IsCarried log files place (u32_at (place % 8192) page) bytes
 carried_of log files before place page bytes parts =
     let size : ℕ = bytes_of log.size in
     let o : ℕ = place % 8192 in
-    let total : ℕ = word_at o page in
+    let total : ℕ = u32_at o page in
     let front : List ℕ = front_of place page in
     let left : ℕ = total - length front in
     let fm : List FurtherPage → List ℕ = flat_map (piece (page_at log files) size) in
@@ -127,7 +127,7 @@ carried_of log files before place page bytes parts =
           }
     ]
 
-pub total_at : (place total : ℕ) (page rest : List ℕ) → length page ≡ 8192 → place % 8 ≡ 0 → 24 ≤ total → word_at 0 (take total (drop (place % 8192) page) ++ rest) ≡ word_at (place % 8192) page
+pub total_at : (place total : ℕ) (page rest : List ℕ) → length page ≡ 8192 → place % 8 ≡ 0 → 24 ≤ total → u32_at 0 (take total (drop (place % 8192) page) ++ rest) ≡ u32_at (place % 8192) page
 total_at place total page rest size at least =
     let some : 4 ≤ length (take total (drop (place % 8192) page)) = omega (arith, first_size place total page size, at, least) in
     word_front 0 (take total (drop (place % 8192) page)) rest (omega (arith, some)) ∙ word_taken (place % 8192) total page some

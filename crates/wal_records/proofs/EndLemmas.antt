@@ -2,7 +2,7 @@
 use Rattle.std.proofs.Common.{◌≡◌, ℕ, ◌+◌, ◌-◌, ◌%◌, ◌^◌, ◌<◌, ◌≤◌, ◌++◌, not, nat_eq, List, [], take, drop, length, get_or, replicate, Option, Some, Result, Ok, Err, refl, sym, ap, ◌∙◌, arith, length-drop}
 use Rattle.std.proofs.lemmas.List.{drop_all, drop-take, drop-append-le, get_or-take, get_or-replicate}
 use Rattle.cluster_tree.specs.Causes.{given}
-use Rattle.layout.specs.Readers.{word_at, half_at}
+use Rattle.layout.specs.Readers.{u32_at, u16_at}
 use Rattle.wal_base.specs.Segment.{bytes_of}
 use Rattle.wal_pages.specs.declared.log_path.LogPath.{LogPath}
 use Rattle.wal_pages.specs.declared.field.PageField.TheVariants.{Magic}
@@ -28,27 +28,27 @@ use Rattle.wal_records.proofs.AgainLemmas.{pages_again}
 use Rattle.wal_records.proofs.StandsLemmas.{page_stands, page_cut, bit_one}
 use Rattle.wal_records.proofs.PlacedLemmas.{place_is, fresh_of}
 
-zero_half : (z : List ℕ) → get_or z 0 0 ≡ 0 → get_or z 1 0 ≡ 0 → half_at 0 z ≡ 0
-unfolding half_at
+zero_half : (z : List ℕ) → get_or z 0 0 ≡ 0 → get_or z 1 0 ≡ 0 → u16_at 0 z ≡ 0
+unfolding u16_at
 zero_half z a b = rw (a, b) refl
 
-zero_word : (z : List ℕ) → get_or z 0 0 ≡ 0 → get_or z 1 0 ≡ 0 → get_or z 2 0 ≡ 0 → get_or z 3 0 ≡ 0 → word_at 0 z ≡ 0
-unfolding word_at
+zero_word : (z : List ℕ) → get_or z 0 0 ≡ 0 → get_or z 1 0 ≡ 0 → get_or z 2 0 ≡ 0 → get_or z 3 0 ≡ 0 → u32_at 0 z ≡ 0
+unfolding u32_at
 zero_word z a b c d = rw (a, b, c, d) refl
 
-word_from : (at : ℕ) (xs : List ℕ) → word_at at xs ≡ word_at 0 (drop at xs)
-unfolding word_at
+word_from : (at : ℕ) (xs : List ℕ) → u32_at at xs ≡ u32_at 0 (drop at xs)
+unfolding u32_at
 word_from at xs = refl
 
 zeros_at : (space n i : ℕ) → i < space → space ≤ n → get_or {A = ℕ} (take space (replicate n 0)) i 0 ≡ 0
 zeros_at space n i lt le = get_or-take {A = ℕ} space (replicate n 0) i 0 lt ∙ get_or-replicate {A = ℕ} n i 0 0 (omega arith)
 
 -- a page of zeros has no magic number
-no_magic : (log : LogPath) (at : ℕ) (page : List ℕ) → half_at 0 page ≡ 0 → first_bad_field log at page ≡ Some Magic
+no_magic : (log : LogPath) (at : ℕ) (page : List ℕ) → u16_at 0 page ≡ 0 → first_bad_field log at page ≡ Some Magic
 unfolding first_bad_field
 no_magic log at page e = rw e refl
 
-bad_page : (log : LogPath) (at : ℕ) (page : List ℕ) → half_at 0 page ≡ 0 → unless_bad at page (first_bad_field log at page) ≡ Err (Bad at Magic)
+bad_page : (log : LogPath) (at : ℕ) (page : List ℕ) → u16_at 0 page ≡ 0 → unless_bad at page (first_bad_field log at page) ≡ Err (Bad at Magic)
 bad_page log at page e = ap (unless_bad at page) (no_magic log at page e)
 
 page_of_zeros : (log : LogPath) (files : Folder) (start at : ℕ) (bytes : List ℕ) → Holds log files start bytes → at % 8192 ≡ 0 → at ≡ start + length bytes → page_at log files at ≡ Err (Bad at Magic)
@@ -97,7 +97,7 @@ ends_in_page log files o bytes before place holds of low w =
     ap (drop k) (sym (page_cut o first w.left d w.rest w.head)) ∙ ap (λ (n : ℕ). drop k (take n (d ++ zeros))) (sym whole) ∙ drop-take k space (d ++ zeros)
     ∙ ap (take space) (drop-append-le k d zeros fits ∙ ap (λ (t : List ℕ). t ++ zeros) none) in
     let here = λ (i : ℕ) (lt : i < 8). zeros_at space 8192 i (omega (arith, wide, lt)) (omega arith) in
-    let word : word_at k page ≡ 0 = word_from k page ∙ ap (word_at 0) rest ∙ zero_word (take space zeros) (here 0 (omega arith)) (here 1 (omega arith)) (here 2 (omega arith)) (here 3 (omega arith)) in
+    let word : u32_at k page ≡ 0 = word_from k page ∙ ap (u32_at 0) rest ∙ zero_word (take space zeros) (here 0 (omega arith)) (here 1 (omega arith)) (here 2 (omega arith)) (here 3 (omega arith)) in
     let info = (pages_again log o first w.left (take (room size first) (w.rest ++ zeros)) (omega (arith, inside, low)) w.few (of first w.from)).info in
     read_on (page_at log files) size place before page (Some why.ZeroLength) (place_is size place w.aligned w.behind) read
     (fresh_of size place (page_header_of page).info (λ e.

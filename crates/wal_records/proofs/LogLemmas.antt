@@ -1,7 +1,7 @@
 -- Each step of a log moves up, and so the log is what a place has and the log from where that goes on.
 use Rattle.std.proofs.Common.{◌≡◌, ℕ, zero, suc, ◌+◌, ◌-◌, ◌%◌, ◌^◌, ◌<◌, ◌≤◌, Bool, true, false, cond, List, [], ◌∷◌, length, Option, Some, None, Result, Ok, Err, refl, sym, ap, ◌∙◌, arith, nat_lt, eqb, inl, inr}
 use Rattle.std.proofs.lemmas.Bool.{cases_lt, le-leb, lt-leb}
-use Rattle.layout.specs.Readers.{word_at}
+use Rattle.layout.specs.Readers.{u32_at}
 use Rattle.wal_pages.specs.Header.{page_of, has_bit, header_of as page_header}
 use Rattle.wal_pages.specs.Page.{Refusal}
 use Rattle.wal_records.specs.declared.why.Why.{Why}
@@ -115,7 +115,7 @@ ahead_reading_in : (pages : Pages) (size place : ℕ) (before : Option ℕ) (pag
 unfolding reading_in
 ahead_reading_in pages size place before (Err refusal) s = tt
 ahead_reading_in pages size place before (Ok page) s =
-    let total : ℕ = word_at (place % 8192) page in
+    let total : ℕ = u32_at (place % 8192) page in
     ahead_cond size place (continues_at size place (page_header page).info) _ _ tt
     (ahead_unless size place (ends (length_fault total)) _ (ahead_ends size place (length_fault total)) (λ e. ahead_from_first pages size place total before _ (some_length total e) s))
 

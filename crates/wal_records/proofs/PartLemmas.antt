@@ -2,15 +2,15 @@
 use Rattle.std.proofs.Common.{◌≡◌, ℕ, ◌+◌, ◌-◌, ◌%◌, ◌<◌, ◌≤◌, min, List, ◌++◌, take, drop, length, refl, sym, ap, ◌∙◌, subst, arith, length-append, length-drop}
 use Rattle.std.proofs.lemmas.List.{take-append-drop, take-append-le, drop-append-le, get_or_append_left, length-take, take_all}
 use Rattle.std.proofs.Math.Seq.{take-append_seam, take-length}
-use Rattle.layout.specs.Readers.{byte_at, word_at, long_at}
+use Rattle.layout.specs.Readers.{u8_at, u32_at, u64_at}
 use Rattle.wal_records.specs.Header.{greatest_total}
 use Rattle.wal_records.specs.Reading.{record_of}
 use Rattle.wal_records.specs.Cursor.{IsWhole}
 use Rattle.wal_records.specs.Steps.{Grows, IsPart, HasFirst, IsAll}
 
 -- what stands at the front of some bytes stands there still when more are added
-word_front_0 : (xs ys : List ℕ) → 4 ≤ length xs → word_at 0 (xs ++ ys) ≡ word_at 0 xs
-unfolding word_at
+word_front_0 : (xs ys : List ℕ) → 4 ≤ length xs → u32_at 0 (xs ++ ys) ≡ u32_at 0 xs
+unfolding u32_at
 word_front_0 xs ys h =
     let e0 = get_or_append_left xs ys 0 0 (omega arith) in
     let e1 = get_or_append_left xs ys 0 1 (omega arith) in
@@ -18,8 +18,8 @@ word_front_0 xs ys h =
     let e3 = get_or_append_left xs ys 0 3 (omega arith) in
     cc
 
-long_front_0 : (xs ys : List ℕ) → 8 ≤ length xs → long_at 0 (xs ++ ys) ≡ long_at 0 xs
-unfolding long_at
+long_front_0 : (xs ys : List ℕ) → 8 ≤ length xs → u64_at 0 (xs ++ ys) ≡ u64_at 0 xs
+unfolding u64_at
 long_front_0 xs ys h =
     let e0 = get_or_append_left xs ys 0 0 (omega arith) in
     let e1 = get_or_append_left xs ys 0 1 (omega arith) in
@@ -31,33 +31,33 @@ long_front_0 xs ys h =
     let e7 = get_or_append_left xs ys 0 7 (omega arith) in
     cc
 
-word_dropped : (at : ℕ) (xs : List ℕ) → word_at at xs ≡ word_at 0 (drop at xs)
-unfolding word_at
+word_dropped : (at : ℕ) (xs : List ℕ) → u32_at at xs ≡ u32_at 0 (drop at xs)
+unfolding u32_at
 word_dropped at xs = refl
 
-long_dropped : (at : ℕ) (xs : List ℕ) → long_at at xs ≡ long_at 0 (drop at xs)
-unfolding long_at
+long_dropped : (at : ℕ) (xs : List ℕ) → u64_at at xs ≡ u64_at 0 (drop at xs)
+unfolding u64_at
 long_dropped at xs = refl
 
-pub word_front : (at : ℕ) (xs ys : List ℕ) → at + 4 ≤ length xs → word_at at (xs ++ ys) ≡ word_at at xs
+pub word_front : (at : ℕ) (xs ys : List ℕ) → at + 4 ≤ length xs → u32_at at (xs ++ ys) ≡ u32_at at xs
 word_front at xs ys h =
-    word_dropped at (xs ++ ys) ∙ ap (word_at 0) (drop-append-le at xs ys (omega arith))
+    word_dropped at (xs ++ ys) ∙ ap (u32_at 0) (drop-append-le at xs ys (omega arith))
     ∙ word_front_0 (drop at xs) ys (omega (arith, length-drop at xs)) ∙ sym (word_dropped at xs)
 
-pub long_front : (at : ℕ) (xs ys : List ℕ) → at + 8 ≤ length xs → long_at at (xs ++ ys) ≡ long_at at xs
+pub long_front : (at : ℕ) (xs ys : List ℕ) → at + 8 ≤ length xs → u64_at at (xs ++ ys) ≡ u64_at at xs
 long_front at xs ys h =
-    long_dropped at (xs ++ ys) ∙ ap (long_at 0) (drop-append-le at xs ys (omega arith))
+    long_dropped at (xs ++ ys) ∙ ap (u64_at 0) (drop-append-le at xs ys (omega arith))
     ∙ long_front_0 (drop at xs) ys (omega (arith, length-drop at xs)) ∙ sym (long_dropped at xs)
 
-pub byte_front : (at : ℕ) (xs ys : List ℕ) → at < length xs → byte_at at (xs ++ ys) ≡ byte_at at xs
-unfolding byte_at
+pub byte_front : (at : ℕ) (xs ys : List ℕ) → at < length xs → u8_at at (xs ++ ys) ≡ u8_at at xs
+unfolding u8_at
 byte_front at xs ys h = get_or_append_left xs ys 0 at h
 
 -- the word at an offset is the first one of what stands there
-pub word_taken : (at total : ℕ) (page : List ℕ) → 4 ≤ length (take total (drop at page)) → word_at 0 (take total (drop at page)) ≡ word_at at page
+pub word_taken : (at total : ℕ) (page : List ℕ) → 4 ≤ length (take total (drop at page)) → u32_at 0 (take total (drop at page)) ≡ u32_at at page
 word_taken at total page h =
     sym (word_front_0 (take total (drop at page)) (drop total (drop at page)) h)
-    ∙ ap (word_at 0) (take-append-drop total (drop at page))
+    ∙ ap (u32_at 0) (take-append-drop total (drop at page))
     ∙ sym (word_dropped at page)
 
 whole_of : (old new : List ℕ) → take (length old) new ≡ old → new ≡ old ++ drop (length old) new
@@ -68,7 +68,7 @@ part_grows total more old new part grows = record {
   least = part.least;
   greatest = part.greatest;
   front = omega (arith, part.front, grows.size);
-  total_at = ap (word_at 0) (whole_of old new grows.front) ∙ word_front 0 old (drop (length old) new) part.front ∙ part.total_at;
+  total_at = ap (u32_at 0) (whole_of old new grows.front) ∙ word_front 0 old (drop (length old) new) part.front ∙ part.total_at;
 }
 
 pub grows_on : (a b c : List ℕ) (m n more : ℕ) → Grows a b m → Grows b c n → more ≡ m + n → Grows a c more
@@ -90,7 +90,7 @@ grows_by old new more n e size = record {
 }
 
 pub first_part : (place total : ℕ) (page bytes : List ℕ) → length page ≡ 8192 → place % 8 ≡ 0 → 24 ≤ total → total ≤ greatest_total
-    → total ≡ word_at (place % 8192) page → bytes ≡ take total (drop (place % 8192) page) → HasFirst place total bytes
+    → total ≡ u32_at (place % 8192) page → bytes ≡ take total (drop (place % 8192) page) → HasFirst place total bytes
 first_part place total page bytes whole at least greatest is e =
     let size : length (take total (drop (place % 8192) page)) ≡ min total (8192 - place % 8192) =
     length-take total (drop (place % 8192) page) ∙ ap (min total) (length-drop (place % 8192) page ∙ ap (λ n. n - place % 8192) whole) in
@@ -101,7 +101,7 @@ first_part place total page bytes whole at least greatest is e =
         least = least;
         greatest = greatest;
         front = omega (arith, first, size, some);
-        total_at = ap (word_at 0) e ∙ word_taken (place % 8192) total page some ∙ sym is;
+        total_at = ap (u32_at 0) e ∙ word_taken (place % 8192) total page some ∙ sym is;
       };
       first = first;
       whole = at;

@@ -5,7 +5,7 @@ use Rattle.std.specs.List.{flat_map, AllByRecursion}
 use Rattle.std.proofs.lemmas.Bool.{cases_eq, cases_lt, le-leb, lt-leb}
 use Rattle.std.proofs.lemmas.Bool.Decides.{nat_tests}
 use Rattle.std.proofs.lemmas.List.{drop_at, drop_all, drop-drop, drop-take, drop-append-le, take-append-drop}
-use Rattle.layout.specs.Readers.{word_at}
+use Rattle.layout.specs.Readers.{u32_at}
 use Rattle.wal_base.specs.Segment.{bytes_of}
 use Rattle.wal_pages.specs.declared.log_path.LogPath.{LogPath}
 use Rattle.wal_pages.specs.Folder.{Folder}
@@ -100,9 +100,9 @@ placed log files o bytes before at r holds of low new w ends =
     let front_is : take total (drop k page) ≡ take space b =
     let whole : k + space ≡ 8192 = omega arith in
     ap (take total) (from_place d (take space b) further_bytes w.after zeros page k space whole fits cut moved) ∙ taken_again space total b (further_bytes ++ (w.after ++ zeros)) refl in
-    let word : word_at k page ≡ total =
+    let word : u32_at k page ≡ total =
     sym (word_taken k total page (omega (arith, ap length front_is, begins_size, some, wide)))
-    ∙ ap (word_at 0) front_is ∙ sym (word_front 0 (take space b) (drop space b) (omega (arith, begins_size, some, wide))) ∙ ap (word_at 0) (take-append-drop space b)
+    ∙ ap (u32_at 0) front_is ∙ sym (word_front 0 (take space b) (drop space b) (omega (arith, begins_size, some, wide))) ∙ ap (u32_at 0) (take-append-drop space b)
     ∙ ap (λ (h : RecordHeader). h.total) again.header ∙ sym again.size in
     let front : front_of place page ≡ take space b = ap (λ (n : ℕ). take n (drop k page)) word ∙ front_is in
     let behind : total - length (take space b) ≡ total - space = omega (arith, begins_size) in

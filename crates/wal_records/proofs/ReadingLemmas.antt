@@ -1,7 +1,7 @@
 -- Each way that the reading of a place may go.
 use Rattle.std.proofs.Common.{◌≡◌, ℕ, List, ◌++◌, ◌+◌, ◌-◌, ◌%◌, ◌<◌, ◌≤◌, take, drop, length, Option, Some, None, Result, Ok, Err, true, false, refl, sym, ap, ◌∙◌}
 use Rattle.std.proofs.lemmas.Bool.{lt-ltb, le-ltb}
-use Rattle.layout.specs.Readers.{word_at}
+use Rattle.layout.specs.Readers.{u32_at}
 use Rattle.wal_pages.specs.Header.{page_of, header_of as page_header}
 use Rattle.wal_pages.specs.Page.{Refusal}
 use Rattle.wal_records.specs.declared.why.Why.{Why}
@@ -39,15 +39,15 @@ unfolding reading_in
 read_continues pages size place before page e is b = read_page pages size place before page e is ∙ rw b refl
 
 -- past the continuation rule
-pub read_on : (pages : Pages) (size place : ℕ) (before : Option ℕ) (page : List ℕ) (fault : Option Why) → is_place size place ≡ true → pages (page_of place) ≡ Ok page → continues_at size place (page_header page).info ≡ false → length_fault (word_at (place % 8192) page) ≡ fault
-    → reading pages size before place ≡ unless (ends fault) (after_first pages size before place (word_at (place % 8192) page) (take (word_at (place % 8192) page) (drop (place % 8192) page)))
+pub read_on : (pages : Pages) (size place : ℕ) (before : Option ℕ) (page : List ℕ) (fault : Option Why) → is_place size place ≡ true → pages (page_of place) ≡ Ok page → continues_at size place (page_header page).info ≡ false → length_fault (u32_at (place % 8192) page) ≡ fault
+    → reading pages size before place ≡ unless (ends fault) (after_first pages size before place (u32_at (place % 8192) page) (take (u32_at (place % 8192) page) (drop (place % 8192) page)))
 unfolding reading_in
 read_on pages size place before page fault e is b f =
     read_page pages size place before page e is
-    ∙ rw b (ap (λ x. unless (ends x) (after_first pages size before place (word_at (place % 8192) page) (take (word_at (place % 8192) page) (drop (place % 8192) page)))) f)
+    ∙ rw b (ap (λ x. unless (ends x) (after_first pages size before place (u32_at (place % 8192) page) (take (u32_at (place % 8192) page) (drop (place % 8192) page)))) f)
 
 pub read_first : (pages : Pages) (size place : ℕ) (before : Option ℕ) (page : List ℕ) (total : ℕ) (bytes : List ℕ) → is_place size place ≡ true → pages (page_of place) ≡ Ok page → continues_at size place (page_header page).info ≡ false → length_fault total ≡ None
-    → total ≡ word_at (place % 8192) page → bytes ≡ take total (drop (place % 8192) page) → reading pages size before place ≡ after_first pages size before place total bytes
+    → total ≡ u32_at (place % 8192) page → bytes ≡ take total (drop (place % 8192) page) → reading pages size before place ≡ after_first pages size before place total bytes
 read_first pages size place before page total bytes e is b f t bs =
     read_on pages size place before page None e is b (sym (ap length_fault t) ∙ f)
     ∙ sym (ap (λ n. after_first pages size before place n (take n (drop (place % 8192) page))) t)

@@ -4,7 +4,7 @@ use Rattle.std.specs.List.{flat_map, AllByRecursion}
 use Rattle.std.proofs.lemmas.Bool.{cases_lt}
 use Rattle.std.proofs.lemmas.Bool.Decides.{nat_tests}
 use Rattle.std.proofs.lemmas.List.{length-take}
-use Rattle.layout.specs.Readers.{word_at}
+use Rattle.layout.specs.Readers.{u32_at}
 use Rattle.wal_pages.specs.Header.{header_size, page_of, header_of as page_header}
 use Rattle.wal_pages.specs.Page.{Refusal}
 use Rattle.wal_records.specs.declared.header.RecordHeader.{RecordHeader}
@@ -32,21 +32,21 @@ header_front xs ys h = fields _ _ _ _ _ _ _ _ _ _ _ _
 
 -- what the first page has of a record, and its further pages
 abbrev pub front_of : ℕ → List ℕ → List ℕ
-front_of place page = take (word_at (place % 8192) page) (drop (place % 8192) page)
+front_of place page = take (u32_at (place % 8192) page) (drop (place % 8192) page)
 
 abbrev pub rest_of : ℕ → ℕ → List ℕ → List FurtherPage
-rest_of size place page = further size (page_of place + 8192) (word_at (place % 8192) page - length (front_of place page))
+rest_of size place page = further size (page_of place + 8192) (u32_at (place % 8192) page - length (front_of place page))
 
 -- the parts of a reading that is a record
 pub record IsParts (pages : Pages) (size : ℕ) (before : Option ℕ) (place : ℕ) (page bytes : List ℕ) : Type 0 where
   pub stands : is_place size place ≡ true
   pub begins : pages (page_of place) ≡ Ok page
   pub fresh : continues_at size place (page_header page).info ≡ false
-  pub total : length_fault (word_at (place % 8192) page) ≡ None
+  pub total : length_fault (u32_at (place % 8192) page) ≡ None
   pub announced : AllByRecursion (λ f. stop_at pages f ≡ None) (rest_of size place page)
   pub payload : bytes ≡ front_of place page ++ flat_map (piece pages size) (rest_of size place page)
   pub linked : header_fault before place (header_of bytes) ≡ None
-  pub sealing : seal_fault size place (word_at (place % 8192) page) bytes ≡ None
+  pub sealing : seal_fault size place (u32_at (place % 8192) page) bytes ≡ None
 
 -- every page has 8192 bytes
 abbrev pub ArePages : Pages → Type 0
@@ -208,9 +208,9 @@ length_fits total a b = grind (arith, nat_tests)
 
 -- What the parts say is read.
 pub parts_read : (pages : Pages) (size : ℕ) (before : Option ℕ) (place : ℕ) (page bytes : List ℕ) → ArePages pages → IsParts pages size before place page bytes
-    → reading pages size before place ≡ Spelled (sealed size place (word_at (place % 8192) page) bytes)
+    → reading pages size before place ≡ Spelled (sealed size place (u32_at (place % 8192) page) bytes)
 parts_read pages size before place page bytes are s =
-    let total : ℕ = word_at (place % 8192) page in
+    let total : ℕ = u32_at (place % 8192) page in
     let front : List ℕ = front_of place page in
     read_on pages size place before page None s.stands s.begins s.fresh s.total
     ∙ takes pages size before place total (page_of place + 8192) (total - length front) page front are (are (page_of place) page s.begins) (length_least total s.total).0 refl refl refl
@@ -225,14 +225,14 @@ pub record HasParts (pages : Pages) (size : ℕ) (before : Option ℕ) (place : 
   pub page : List ℕ
   pub bytes : List ℕ
   pub parts : IsParts pages size before place page bytes
-  pub is : sealed size place (word_at (place % 8192) page) bytes ≡ r
+  pub is : sealed size place (u32_at (place % 8192) page) bytes ≡ r
 
 from_page : (pages : Pages) (size : ℕ) (before : Option ℕ) (place : ℕ) (r : LogRecord) (found : Result (List ℕ) Refusal) → ArePages pages → is_place size place ≡ true → pages (page_of place) ≡ found
     → reading_in pages size before place found ≡ Spelled r → HasParts pages size before place r
 unfolding reading_in
 from_page pages size before place r (Err refusal) are stands is e = absurd (stopped_no (Ends (why_refused refusal)) r e)
 from_page pages size before place r (Ok page) are stands is e =
-    let total : ℕ = word_at (place % 8192) page in
+    let total : ℕ = u32_at (place % 8192) page in
     let front : List ℕ = front_of place page in
     let a = stopped_else (continues_at size place (page_header page).info) (Ends why.Continuation) (unless (ends (length_fault total)) (after_first pages size before place total front)) r e in
     let b = unless_spelled (ends (length_fault total)) (after_first pages size before place total front) r a.1 in

@@ -3,7 +3,7 @@ use Rattle.std.proofs.Common.{◌≡◌, ◌↔◌, ℕ, ◌+◌, ◌-◌, ◌%�
 use Rattle.std.specs.List.{flat_map, AllByRecursion}
 use Rattle.std.proofs.lemmas.Bool.{cases_lt, le-ltb}
 use Rattle.std.proofs.lemmas.List.{take_all, map-append, append-nil}
-use Rattle.layout.specs.Readers.{word_at}
+use Rattle.layout.specs.Readers.{u32_at}
 use Rattle.wal_base.specs.Segment.{bytes_of}
 use Rattle.wal_pages.specs.declared.log_path.LogPath.{LogPath}
 use Rattle.wal_pages.specs.Folder.{Folder}
@@ -29,11 +29,11 @@ announces_left log files at a b e h = let P : ℕ → Type 0 = λ n. Announces l
 
 -- What is read is spelled.
 pub spells_from : (log : LogPath) (files : Folder) (before : Option ℕ) (place : ℕ) (page bytes : List ℕ) → IsParts (page_at log files) (bytes_of log.size) before place page bytes
-    → Spells log files before place (sealed (bytes_of log.size) place (word_at (place % 8192) page) bytes)
+    → Spells log files before place (sealed (bytes_of log.size) place (u32_at (place % 8192) page) bytes)
 spells_from log files before place page bytes parts =
     let size : ℕ = bytes_of log.size in
     let o : ℕ = place % 8192 in
-    let total : ℕ = word_at o page in
+    let total : ℕ = u32_at o page in
     let behind : ℕ = behind_of size place total in
     let h = here log files (page_of place) page (pages_first place) parts.begins in
     let stands = outside log place parts.stands in
@@ -42,8 +42,8 @@ spells_from log files before place page bytes parts =
     let header = header_of_none before place (header_of bytes) parts.linked in
     let seal = seal_of_none size place total bytes parts.sealing in
     let last : behind ≡ behind - 1 + 1 = omega (arith, c.is.some) in
-    let total_is : word_at 0 bytes ≡ length bytes =
-    ap (word_at 0) parts.payload ∙ total_at place total page (flat_map (piece (page_at log files) size) (rest_of size place page)) h.size stands.0 range.0 ∙ sym c.count in
+    let total_is : u32_at 0 bytes ≡ length bytes =
+    ap (u32_at 0) parts.payload ∙ total_at place total page (flat_map (piece (page_at log files) size) (rest_of size place page)) h.size stands.0 range.0 ∙ sym c.count in
     record {
       bytes = bytes;
       last = behind - 1;
@@ -70,13 +70,13 @@ spells_from log files before place page bytes parts =
 
 -- from the payload back to the parts
 pub record Back (log : LogPath) (files : Folder) (place last : ℕ) (page bytes : List ℕ) : Type 0 where
-  pub total_is : word_at (place % 8192) page ≡ length bytes
+  pub total_is : u32_at (place % 8192) page ≡ length bytes
   pub announced : AllByRecursion (λ f. stop_at (page_at log files) f ≡ None) (rest_of (bytes_of log.size) place page)
   pub payload : bytes ≡ front_of place page ++ flat_map (piece (page_at log files) (bytes_of log.size)) (rest_of (bytes_of log.size) place page)
-  pub behind : behind_of (bytes_of log.size) place (word_at (place % 8192) page) ≡ last + 1
+  pub behind : behind_of (bytes_of log.size) place (u32_at (place % 8192) page) ≡ last + 1
 
 back_near : (log : LogPath) (files : Folder) (place last : ℕ) (page bytes : List ℕ) → IsHere log files (page_of place) page → header_size (bytes_of log.size) (page_of place) ≤ place % 8192 → place % 8 ≡ 0
-    → payload log files place (last + 1 - place) ≡ map Some bytes → 24 ≤ length bytes → word_at 0 bytes ≡ length bytes → last < page_of place + 8192 → Back log files place last page bytes
+    → payload log files place (last + 1 - place) ≡ map Some bytes → 24 ≤ length bytes → u32_at 0 bytes ≡ length bytes → last < page_of place + 8192 → Back log files place last page bytes
 back_near log files place last page bytes h head at carried least total near =
     let size : ℕ = bytes_of log.size in
     let o : ℕ = place % 8192 in
@@ -87,23 +87,23 @@ back_near log files place last page bytes h head at carried least total near =
     payload_at log files place (page_of place + o) n (sym whole) ∙ page_bytes log files (page_of place) page o n h head (omega (arith, near)) in
     let is : bytes ≡ take n (drop o page) = same_bytes bytes (take n (drop o page)) (sym carried ∙ there) in
     let count : length bytes ≡ n = ap length is ∙ first_size place n page h.size ∙ omega (arith, near) in
-    let word : word_at 0 bytes ≡ word_at o page = ap (word_at 0) is ∙ word_taken o n page (omega (arith, ap length is, least)) in
-    let total_is : word_at o page ≡ length bytes = sym word ∙ total in
+    let word : u32_at 0 bytes ≡ u32_at o page = ap (u32_at 0) is ∙ word_taken o n page (omega (arith, ap length is, least)) in
+    let total_is : u32_at o page ≡ length bytes = sym word ∙ total in
     let front : front_of place page ≡ bytes = ap (λ m. take m (drop o page)) (total_is ∙ count) ∙ sym is in
-    let left : word_at o page - length (front_of place page) ≡ 0 = omega (arith, ap length front, total_is) in
-    let rest : rest_of size place page ≡ [] = further_none size (page_of place + 8192) (word_at o page - length (front_of place page)) left in
+    let left : u32_at o page - length (front_of place page) ≡ 0 = omega (arith, ap length front, total_is) in
+    let rest : rest_of size place page ≡ [] = further_none size (page_of place + 8192) (u32_at o page - length (front_of place page)) left in
     let P : List FurtherPage → Type 0 = AllByRecursion (λ f. stop_at (page_at log files) f ≡ None) in
     record {
       total_is = total_is;
       announced = subst P (sym rest) tt;
       payload = sym front ∙ sym (append-nil (front_of place page)) ∙ sym (ap (λ xs. front_of place page ++ fm xs) rest);
       behind =
-          behind_parts size place (word_at o page) (length (front_of place page)) (word_at o page - length (front_of place page)) (first_size place (word_at o page) page h.size) refl
+          behind_parts size place (u32_at o page) (length (front_of place page)) (u32_at o page - length (front_of place page)) (first_size place (u32_at o page) page h.size) refl
           ∙ ap (behind_in size (place + length (front_of place page))) rest ∙ omega (arith, ap length front, count, least);
     }
 
 back_far : (log : LogPath) (files : Folder) (place last : ℕ) (page bytes : List ℕ) → IsHere log files (page_of place) page → header_size (bytes_of log.size) (page_of place) ≤ place % 8192 → place % 8 ≡ 0
-    → payload log files place (last + 1 - place) ≡ map Some bytes → word_at 0 bytes ≡ length bytes → page_of place + 8192 ≤ last → in_header log last ≡ false
+    → payload log files place (last + 1 - place) ≡ map Some bytes → u32_at 0 bytes ≡ length bytes → page_of place + 8192 ≤ last → in_header log last ≡ false
     → ((at : ℕ) → at % 8192 ≡ 0 → place < at → at ≤ last → Announces log files at (length (payload log files at (last + 1 - at))))
     → Back log files place last page bytes
 back_far log files place last page bytes h head at carried total far inside announced =
@@ -128,11 +128,11 @@ back_far log files place last page bytes h head at carried total far inside anno
     let is : bytes ≡ first ++ rest = same_bytes bytes (first ++ rest) (sym carried ∙ there) in
     let size_is : length bytes ≡ n + left = ap length is ∙ length-append first rest ∙ omega (arith, first_is, count) in
     let some : 4 ≤ length first = omega (arith, first_is, at) in
-    let word : word_at 0 bytes ≡ word_at o page = ap (word_at 0) is ∙ word_front 0 first rest (omega (arith, some)) ∙ word_taken o n page some in
-    let total_is : word_at o page ≡ length bytes = sym word ∙ total in
+    let word : u32_at 0 bytes ≡ u32_at o page = ap (u32_at 0) is ∙ word_front 0 first rest (omega (arith, some)) ∙ word_taken o n page some in
+    let total_is : u32_at o page ≡ length bytes = sym word ∙ total in
     let front : front_of place page ≡ first =
-    take_all (word_at o page) (drop o page) (omega (arith, length-drop o page, h.size, total_is, size_is)) ∙ sym (take_all n (drop o page) (omega (arith, length-drop o page, h.size))) in
-    let left_is : word_at o page - length (front_of place page) ≡ left = omega (arith, ap length front, first_is, total_is, size_is) in
+    take_all (u32_at o page) (drop o page) (omega (arith, length-drop o page, h.size, total_is, size_is)) ∙ sym (take_all n (drop o page) (omega (arith, length-drop o page, h.size))) in
+    let left_is : u32_at o page - length (front_of place page) ≡ left = omega (arith, ap length front, first_is, total_is, size_is) in
     let rest_is : rest_of size place page ≡ further size next left = ap (further size next) left_is in
     let P : List FurtherPage → Type 0 = AllByRecursion (λ f. stop_at (page_at log files) f ≡ None) in
     record {
@@ -140,7 +140,7 @@ back_far log files place last page bytes h head at carried total far inside anno
       announced = subst P (sym rest_is) walks.all;
       payload = is ∙ ap (λ xs. xs ++ rest) (sym front) ∙ sym (ap (λ xs. front_of place page ++ fm xs) rest_is);
       behind =
-          behind_parts size place (word_at o page) (length (front_of place page)) (word_at o page - length (front_of place page)) (first_size place (word_at o page) page h.size) refl
+          behind_parts size place (u32_at o page) (length (front_of place page)) (u32_at o page - length (front_of place page)) (first_size place (u32_at o page) page h.size) refl
           ∙ ap (behind_in size (place + length (front_of place page))) rest_is ∙ ap (λ m. behind_in size (place + m) (further size next left)) (ap length front ∙ first_is) ∙ walks.behind;
     }
 
@@ -156,10 +156,10 @@ parts_from log files before place r s =
     let size : ℕ = bytes_of log.size in
     let o : ℕ = place % 8192 in
     let page : List ℕ = s.begins.page in
-    let total : ℕ = word_at o page in
+    let total : ℕ = u32_at o page in
     let h = here log files (page_of place) page (pages_first place) s.begins.valid in
     let head : header_size size (page_of place) ≤ o = not_lt o (header_size size (page_of place)) s.first_byte in
-    let word : word_at 0 s.bytes ≡ length s.bytes = sym (ap (λ (x : RecordHeader). x.total) s.header) ∙ s.total in
+    let word : u32_at 0 s.bytes ≡ length s.bytes = sym (ap (λ (x : RecordHeader). x.total) s.header) ∙ s.total in
     let b : Back log files place s.last page s.bytes =
     (elim (cases_lt s.last (page_of place + 8192)) [
       | inl near ↦ back_near log files place s.last page s.bytes h head s.aligned s.spelled s.least word near

@@ -1,7 +1,7 @@
 -- The header of a record, and what can be wrong with it: PostgreSQL 16, src/include/access/xlogrecord.h, XLogRecord;
 -- src/backend/access/transam/xlogreader.c, ValidXLogRecordHeader and ValidXLogRecord.
 use Rattle.std.specs.Prelude.{ℕ, ◌==◌, ◌&&◌, Bool, List, ◌++◌, take, drop, Option, Some, None, nat_lt, nat_le, if◌then◌else◌}
-use Rattle.layout.specs.Readers.{byte_at, word_at, long_at}
+use Rattle.layout.specs.Readers.{u8_at, u32_at, u64_at}
 use Rattle.wal_base.specs.Crc.{crc32c}
 use Rattle.wal_records.specs.declared.header.RecordHeader.{RecordHeader}
 use Rattle.wal_records.specs.declared.why.Why.{Why}
@@ -10,12 +10,12 @@ use Rattle.wal_records.specs.declared.why.Why.TheVariants as why
 -- the header at the front of these bytes: xl_tot_len, xl_xid, xl_prev, xl_info, xl_rmid and xl_crc
 abbrev pub header_of : List ℕ → RecordHeader
 header_of bytes = record {
-  total = word_at 0 bytes;
-  xid = word_at 4 bytes;
-  prev = record { 0 = long_at 8 bytes };
-  info = byte_at 16 bytes;
-  manager = byte_at 17 bytes;
-  crc = word_at 20 bytes;
+  total = u32_at 0 bytes;
+  xid = u32_at 4 bytes;
+  prev = record { 0 = u64_at 8 bytes };
+  info = u8_at 16 bytes;
+  manager = u8_at 17 bytes;
+  crc = u32_at 20 bytes;
 }
 
 -- the longest record: 1020 MiB, XLogRecordMaxSize

@@ -1,7 +1,7 @@
 -- What a place of the log has: a record, a record that was dropped, or the one reason why the log ends there.
 -- PostgreSQL 16, src/backend/access/transam/xlogreader.c, XLogDecodeNextRecord. Own: "The order of the reasons".
 use Rattle.std.specs.Prelude.{ℕ, ◌+◌, ◌-◌, ◌%◌, ◌^◌, ◌==◌, ◌&&◌, Bool, List, ◌++◌, take, drop, length, Option, Some, None, Result, Ok, Err, nat_lt, nat_le, if◌then◌else◌}
-use Rattle.layout.specs.Readers.{word_at}
+use Rattle.layout.specs.Readers.{u32_at}
 use Rattle.wal_pages.specs.Header.{header_of as page_header, header_size, page_of, has_bit}
 use Rattle.wal_pages.specs.Page.{Refusal}
 use Rattle.wal_records.specs.declared.header.RecordHeader.{RecordHeader}
@@ -85,7 +85,7 @@ unfoldable pub reading_in : Pages → ℕ → Option ℕ → ℕ → Result (Lis
 reading_in pages size before place (Err refusal) = Stopped (Ends (why_refused refusal))
 reading_in pages size before place (Ok page) =
     if continues_at size place (page_header page).info then Stopped (Ends why.Continuation)
-    else let total = word_at (place % 8192) page in
+    else let total = u32_at (place % 8192) page in
     unless (ends (length_fault total)) (after_first pages size before place total (take total (drop (place % 8192) page)))
 
 -- what a place has, behind the start of the record before it, where there is one

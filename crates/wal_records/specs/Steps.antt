@@ -1,6 +1,6 @@
 -- What the steps of reading a record answer, held to the reading of its place.
 use Rattle.std.specs.Prelude.{◌≡◌, ℕ, ◌+◌, ◌-◌, ◌%◌, ◌≤◌, min, List, ◌++◌, length, take, Option, Some, None, Result, Ok, Err}
-use Rattle.layout.specs.Readers.{word_at}
+use Rattle.layout.specs.Readers.{u32_at}
 use Rattle.wal_pages.specs.Header.{header_of as page_header}
 use Rattle.wal_pages.specs.Page.{Refusal}
 use Rattle.wal_records.specs.declared.why.Why.{Why}
@@ -54,7 +54,7 @@ pub record IsPart (total : ℕ) (bytes : List ℕ) : Type 0 where
   pub least : 24 ≤ total
   pub greatest : total ≤ greatest_total
   pub front : 4 ≤ length bytes
-  pub total_at : word_at 0 bytes ≡ total
+  pub total_at : u32_at 0 bytes ≡ total
 
 -- a call gave why a place spells no record, or left what its first page has of one
 abbrev pub Begins : Pages → ℕ → Option ℕ → ℕ → Begun → List ℕ → Type 0
@@ -72,15 +72,15 @@ FirstFits place (begun.Stopped stop) bytes = Unit {0}
 FirstFits place (begun.Total total) bytes = HasFirst place total bytes
 
 -- a call gave why a place spells no record, or left the bytes of one and gave its end
-abbrev pub Reads : ℕ → Found → List ℕ → Reading → Type 0
-Reads place (found.Stopped stop) bytes reading = reading ≡ Stopped stop
-Reads place (found.Record end) bytes reading = reading ≡ Spelled (record_of place end bytes)
+abbrev pub Gives : ℕ → Found → List ℕ → Reading → Type 0
+Gives place (found.Stopped stop) bytes reading = reading ≡ Stopped stop
+Gives place (found.Record end) bytes reading = reading ≡ Spelled (record_of place end bytes)
 
 -- all bytes of a record at a place that ends there
 pub record IsAll (place end : ℕ) (bytes : List ℕ) : Type 0 where
   pub least : 24 ≤ length bytes
   pub greatest : length bytes ≤ greatest_total
-  pub total : word_at 0 bytes ≡ length bytes
+  pub total : u32_at 0 bytes ≡ length bytes
   pub longer : place + length bytes ≤ end
 
 abbrev pub AllFit : ℕ → Found → List ℕ → Type 0

@@ -1,7 +1,8 @@
 //! The records of a log, one after another.
 
 ghost use Rattle.std.specs.Prelude.{◌≡◌, ◌≤◌, [], None, Some, Ok, length, IsTrue, IfOk, IfSome, IfNone, OnErr, IsErrOf};
-ghost use Rattle.cluster_tree.specs.Causes.{OnlyReads, Rose};
+ghost use Rattle.cluster_tree.specs.Causes.{Rose};
+ghost use Rattle.cluster_tree.specs.Frame.{Reads};
 ghost use Rattle.cluster_tree.specs.Contents.{Contents};
 ghost use Rattle.wal_base.specs.Segment.{bytes_of};
 ghost use Rattle.wal_records.specs.declared.cursor.LogEnd.{LogEnd};
@@ -116,8 +117,7 @@ impl RecordCursor {
         ensures sticky { (end : LogEnd) → self.old.ended ≡ Some end →
             result ≡ Ok (Step.End end.place end.why) }
         ensures fault { OnErr result (self.new ≡ without_current self.old) }
-        ensures reads { OnlyReads F.contents F.calls F.failed_reads F.failed_changes
-            tree.old tree.new }
+        ensures reads { Reads F.Tree tree.old tree.new }
         ensures read_fault { IsErrOf result LogFault.ReadFault →
             Rose (F.failed_reads tree.old) (F.failed_reads tree.new) }
     {
@@ -140,8 +140,7 @@ impl RecordCursor {
         ensures sticky { (end : LogEnd) → self.old.ended ≡ Some end →
             result ≡ Ok (Step.End end.place end.why) }
         ensures fault { OnErr result (self.new ≡ without_current self.old) }
-        ensures reads { OnlyReads F.contents F.calls F.failed_reads F.failed_changes
-            tree.old tree.new }
+        ensures reads { Reads F.Tree tree.old tree.new }
         ensures read_fault { IsErrOf result LogFault.ReadFault →
             Rose (F.failed_reads tree.old) (F.failed_reads tree.new) }
     {

@@ -1,7 +1,8 @@
 //! The further pages of a record.
 
 ghost use Rattle.std.specs.Prelude.{◌≡◌, ◌+◌, ◌-◌, ◌*◌, ◌<◌, ◌≤◌, ◌^◌, ◌++◌, None, length, min, take, drop, IsTrue, IfOk, IsErrOf};
-ghost use Rattle.cluster_tree.specs.Causes.{OnlyReads, Rose};
+ghost use Rattle.cluster_tree.specs.Causes.{Rose};
+ghost use Rattle.cluster_tree.specs.Frame.{Reads};
 ghost use Rattle.wal_base.specs.Segment.{bytes_of};
 ghost use Rattle.wal_pages.specs.Cursor.{Knows};
 ghost use Rattle.wal_records.specs.Further.{pages_of, further_page, further, room, stop_of, stop_at, piece, gathered};
@@ -72,7 +73,7 @@ pub fn add_page<F: Tree>(
     ensures from { IfOk result (StopsFrom (number * 8192)) }
     ensures knows { IsTrue F.tells → Knows pages.old (F.contents tree.old) →
         Knows pages.new (F.contents tree.new) }
-    ensures reads { OnlyReads F.contents F.calls F.failed_reads F.failed_changes tree.old tree.new }
+    ensures reads { Reads F.Tree tree.old tree.new }
     ensures read_fault { IsErrOf result LogFault.ReadFault →
         Rose (F.failed_reads tree.old) (F.failed_reads tree.new) }
 {
@@ -110,7 +111,7 @@ pub fn add_rest<F: Tree>(
     ensures from { IfOk result (StopsFrom (number * 8192)) }
     ensures knows { IsTrue F.tells → Knows pages.old (F.contents tree.old) →
         Knows pages.new (F.contents tree.new) }
-    ensures reads { OnlyReads F.contents F.calls F.failed_reads F.failed_changes tree.old tree.new }
+    ensures reads { Reads F.Tree tree.old tree.new }
     ensures read_fault { IsErrOf result LogFault.ReadFault →
         Rose (F.failed_reads tree.old) (F.failed_reads tree.new) }
 {

@@ -1,7 +1,8 @@
 //! The page that reading goes on at.
 
 ghost use Rattle.std.specs.Prelude.{◌≡◌, length, IsTrue, IfOk, IsErrOf};
-ghost use Rattle.cluster_tree.specs.Causes.{OnlyReads, Rose};
+ghost use Rattle.cluster_tree.specs.Causes.{Rose};
+ghost use Rattle.cluster_tree.specs.Frame.{Reads};
 ghost use Rattle.wal_pages.specs.Cursor.{Knows};
 ghost use Rattle.wal_pages.specs.Header.{header_of, page_of};
 ghost use Rattle.wal_records.specs.Further.{pages_of};
@@ -30,7 +31,7 @@ pub fn open_page<F: Tree>(pages: &mut PageCursor, tree: &mut F, at: u64) -> Resu
     ensures page { IfOk result (λ opened. IsOpened opened pages.new.page) }
     ensures knows { IsTrue F.tells → Knows pages.old (F.contents tree.old) →
         Knows pages.new (F.contents tree.new) }
-    ensures reads { OnlyReads F.contents F.calls F.failed_reads F.failed_changes tree.old tree.new }
+    ensures reads { Reads F.Tree tree.old tree.new }
     ensures read_fault { IsErrOf result LogFault.ReadFault →
         Rose (F.failed_reads tree.old) (F.failed_reads tree.new) }
 {

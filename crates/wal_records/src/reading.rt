@@ -1,12 +1,13 @@
 //! What a place of the log has.
 
 ghost use Rattle.std.specs.Prelude.{◌≡◌, ℕ, ◌+◌, ◌*◌, ◌<◌, ◌≤◌, ◌^◌, [], None, Some, Option, length, IsTrue, IfOk, IfErr, IsErrOf};
-ghost use Rattle.cluster_tree.specs.Causes.{OnlyReads, Rose};
+ghost use Rattle.cluster_tree.specs.Causes.{Rose};
+ghost use Rattle.cluster_tree.specs.Frame.{Reads};
 ghost use Rattle.wal_base.specs.Segment.{bytes_of};
 ghost use Rattle.wal_pages.specs.Cursor.{Knows};
 ghost use Rattle.wal_records.specs.Further.{pages_of, further};
 ghost use Rattle.wal_records.specs.Reading.{sealed_end, seal_fault, after_header, reading};
-ghost use Rattle.wal_records.specs.Steps.{Begins, FirstFits, IsPart, Reads, AllFit, BeginsFrom, FindsFrom};
+ghost use Rattle.wal_records.specs.Steps.{Begins, FirstFits, IsPart, Gives, AllFit, BeginsFrom, FindsFrom};
 
 use crate::extent::{PAGES, end_at};
 use crate::fault::LogFault;
@@ -53,7 +54,7 @@ fn begin<F: Tree>(
     ensures from { IfOk result (BeginsFrom (place + 1)) }
     ensures knows { IsTrue F.tells → Knows pages.old (F.contents tree.old) →
         Knows pages.new (F.contents tree.new) }
-    ensures reads { OnlyReads F.contents F.calls F.failed_reads F.failed_changes tree.old tree.new }
+    ensures reads { Reads F.Tree tree.old tree.new }
     ensures read_fault { IsErrOf result LogFault.ReadFault →
         Rose (F.failed_reads tree.old) (F.failed_reads tree.new) }
 {
@@ -115,7 +116,7 @@ fn read_body<F: Tree>(
     requires low { number ≤ 2 ^ 51 }
     ensures log { pages.new.log ≡ pages.old.log }
     ensures read { IsTrue F.tells → Knows pages.old (F.contents tree.old) →
-        IfOk result (λ found. Reads place found bytes.new.items
+        IfOk result (λ found. Gives place found bytes.new.items
         (after_header (pages_of pages.old.log (F.contents tree.old)) (bytes_of pages.old.log.size)
         before place (length bytes.old.items + left)
         (further (bytes_of pages.old.log.size) (number * 8192) left) bytes.old.items)) }
@@ -123,7 +124,7 @@ fn read_body<F: Tree>(
     ensures from { IfOk result (FindsFrom (number * 8192)) }
     ensures knows { IsTrue F.tells → Knows pages.old (F.contents tree.old) →
         Knows pages.new (F.contents tree.new) }
-    ensures reads { OnlyReads F.contents F.calls F.failed_reads F.failed_changes tree.old tree.new }
+    ensures reads { Reads F.Tree tree.old tree.new }
     ensures read_fault { IsErrOf result LogFault.ReadFault →
         Rose (F.failed_reads tree.old) (F.failed_reads tree.new) }
 {
@@ -155,14 +156,14 @@ pub fn read_record<F: Tree>(
     requires empty { bytes.old.items ≡ [] }
     ensures log { pages.new.log ≡ pages.old.log }
     ensures read { IsTrue F.tells → Knows pages.old (F.contents tree.old) →
-        IfOk result (λ found. Reads place found bytes.new.items
+        IfOk result (λ found. Gives place found bytes.new.items
         (reading (pages_of pages.old.log (F.contents tree.old)) (bytes_of pages.old.log.size)
         before place)) }
     ensures fits { IfOk result (λ found. AllFit place found bytes.new.items) }
     ensures from { IfOk result (FindsFrom (place + 1)) }
     ensures knows { IsTrue F.tells → Knows pages.old (F.contents tree.old) →
         Knows pages.new (F.contents tree.new) }
-    ensures reads { OnlyReads F.contents F.calls F.failed_reads F.failed_changes tree.old tree.new }
+    ensures reads { Reads F.Tree tree.old tree.new }
     ensures read_fault { IsErrOf result LogFault.ReadFault →
         Rose (F.failed_reads tree.old) (F.failed_reads tree.new) }
 {

@@ -1,7 +1,8 @@
 //! The search for the next record.
 
 ghost use Rattle.std.specs.Prelude.{◌≡◌, IsTrue, IfOk, IsErrOf};
-ghost use Rattle.cluster_tree.specs.Causes.{OnlyReads, Rose};
+ghost use Rattle.cluster_tree.specs.Causes.{Rose};
+ghost use Rattle.cluster_tree.specs.Frame.{Reads};
 ghost use Rattle.wal_base.specs.Segment.{bytes_of};
 ghost use Rattle.wal_pages.specs.Cursor.{Knows};
 ghost use Rattle.wal_records.specs.Further.{pages_of};
@@ -40,7 +41,7 @@ pub fn find<F: Tree>(
     ensures fits { IfOk result (λ sought. SoughtFits place sought bytes.new.items) }
     ensures knows { IsTrue F.tells → Knows pages.old (F.contents tree.old) →
         Knows pages.new (F.contents tree.new) }
-    ensures reads { OnlyReads F.contents F.calls F.failed_reads F.failed_changes tree.old tree.new }
+    ensures reads { Reads F.Tree tree.old tree.new }
     ensures read_fault { IsErrOf result LogFault.ReadFault →
         Rose (F.failed_reads tree.old) (F.failed_reads tree.new) }
 {

@@ -1,5 +1,5 @@
 use Rattle.std.proofs.Common.{◌≡◌, ◌≤◌, ◌*◌, ◌^◌, ◌-◌, IsTrue}
-use Rattle.cluster_tree.specs.Causes.{OnlyReads}
+use Rattle.cluster_tree.specs.Frame.{Reads}
 use Rattle.wal_base.specs.Segment.{bytes_of}
 use Rattle.wal_pages.specs.Cursor.{Knows}
 use Rattle.wal_records.specs.Further.{pages_of, further, gathered}
@@ -12,7 +12,7 @@ invariant-loop-left g l =
     let size = bytes_of l.fn.pages.log.size in
     record {
       log : l.pages.log ≡ l.fn.pages.log;
-      reads : OnlyReads g.F.Tree.contents g.F.Tree.calls g.F.Tree.failed_reads g.F.Tree.failed_changes l.fn.tree l.tree;
+      reads : Reads g.F.Tree l.fn.tree l.tree;
       fewer : l.left ≤ l.fn.left;
       grows : Grows l.fn.bytes.items l.bytes.items (l.fn.left - l.left);
       later : l.fn.number ≤ l.number;

@@ -1,5 +1,5 @@
 use Rattle.std.proofs.Common.{◌≡◌, ◌%◌, ◌++◌, Some, take, drop, ap, sym, ◌∙◌, true, false}
-use Rattle.layout.specs.Readers.{word_at}
+use Rattle.layout.specs.Readers.{u32_at}
 use Rattle.wal_base.specs.Segment.{bytes_of}
 use Rattle.wal_pages.specs.declared.header.PageHeader.{PageHeader}
 use Rattle.wal_pages.specs.Header.{header_of as page_header}
@@ -44,8 +44,8 @@ returns-in-Some-clause-read g c = λ tells knows before.
     let on : continues_at (bytes_of log.size) c.args.place (page_header page).info ≡ false =
     sym (c.continues_at.ensures.value ∙ ap (λ s. continues_at (bytes_of s) c.args.place c.in-Page.header.info) c.size-size.ensures.value
     ∙ ap (λ (h : PageHeader). continues_at (bytes_of log.size) c.args.place h.info) opened.page.1) ∙ c.if-continues_at.false in
-    let total : c.u32_at-total.result ≡ word_at (c.args.place % 8192) page = c.u32_at-total.ensures ∙ ap (word_at (c.args.place % 8192)) c.page.ensures.value in
-    let fault : length_fault (word_at (c.args.place % 8192) page) ≡ Some c.in-Some.why = sym (ap length_fault total) ∙ sym c.length_fault.ensures.value ∙ c.in-Some.is in
+    let total : c.u32_at-total.result ≡ u32_at (c.args.place % 8192) page = c.u32_at-total.ensures ∙ ap (u32_at (c.args.place % 8192)) c.page.ensures.value in
+    let fault : length_fault (u32_at (c.args.place % 8192) page) ≡ Some c.in-Some.why = sym (ap length_fault total) ∙ sym c.length_fault.ensures.value ∙ c.in-Some.is in
     read_on (pages_of log (g.F.Tree.contents c.args.tree.now)) (bytes_of log.size) c.args.place before page (Some c.in-Some.why) here (opened.opened tells knows) on fault
 
 pub returns-clause-read : goal.returns-clause-read
@@ -57,7 +57,7 @@ returns-clause-read g c = λ tells knows before.
     let on : continues_at (bytes_of log.size) c.args.place (page_header page).info ≡ false =
     sym (c.continues_at.ensures.value ∙ ap (λ s. continues_at (bytes_of s) c.args.place c.in-Page.header.info) c.size-size.ensures.value
     ∙ ap (λ (h : PageHeader). continues_at (bytes_of log.size) c.args.place h.info) opened.page.1) ∙ c.if-continues_at.false in
-    let total : c.u32_at-total.result ≡ word_at (c.args.place % 8192) page = c.u32_at-total.ensures ∙ ap (word_at (c.args.place % 8192)) c.page.ensures.value in
+    let total : c.u32_at-total.result ≡ u32_at (c.args.place % 8192) page = c.u32_at-total.ensures ∙ ap (u32_at (c.args.place % 8192)) c.page.ensures.value in
     read_first (pages_of log (g.F.Tree.contents c.args.tree.now)) (bytes_of log.size) c.args.place before page c.u32_at-total.result _ here (opened.opened tells knows) on
     (sym c.length_fault.ensures.value ∙ c.in-None.is) total
     (c.in_ok-extend_from_slice.ensures.items ∙ ap (λ b. b ++ c.piece_of.result.now) c.requires.empty ∙ c.piece_of.ensures.value ∙ ap (λ p. take c.u32_at-total.result (drop (c.args.place % 8192) p)) c.page-2.ensures.value)
@@ -66,6 +66,6 @@ pub returns-clause-fits : goal.returns-clause-fits
 returns-clause-fits g c =
     let page = c.open_page.new.pages.page in
     let opened = rw c.in-Page.is at c.in_ok-header.ensures in
-    let total : c.u32_at-total.result ≡ word_at (c.args.place % 8192) page = c.u32_at-total.ensures ∙ ap (word_at (c.args.place % 8192)) c.page.ensures.value in
+    let total : c.u32_at-total.result ≡ u32_at (c.args.place % 8192) page = c.u32_at-total.ensures ∙ ap (u32_at (c.args.place % 8192)) c.page.ensures.value in
     first_part c.args.place c.u32_at-total.result page _ opened.page.0 (c.is_place.ensures.whole c.if-not-is_place.false) c.in-None.ensures.least c.in-None.ensures.greatest total
     (c.in_ok-extend_from_slice.ensures.items ∙ ap (λ b. b ++ c.piece_of.result.now) c.requires.empty ∙ c.piece_of.ensures.value ∙ ap (λ p. take c.u32_at-total.result (drop (c.args.place % 8192) p)) c.page-2.ensures.value)

@@ -4,7 +4,7 @@ use Rattle.wal_records.specs.declared.why.Stop.TheVariants.{Ends}
 use Rattle.wal_records.specs.declared.why.Why.TheVariants as why
 use Rattle.wal_records.specs.Further.{pages_of, further_page, room}
 use Rattle.wal_records.specs.Reading.{Reading}
-use Rattle.wal_records.specs.Steps.{Reads}
+use Rattle.wal_records.specs.Steps.{Gives}
 use Rattle.wal_records.proofs.FurtherLemmas.{past_end, same_further}
 use Rattle.wal_records.proofs.PlaceLemmas.{next_page}
 use Rattle.wal_records.proofs.ReadingLemmas.{first_whole, first_reaches, front_stops, front_on, header_at}
@@ -29,7 +29,7 @@ returns-then-len-ge-HEADER_SIZE-clause-read g c = λ tells knows.
     let is = begun.read tells knows c.args.before
     ∙ first_whole pages size c.args.place total page left c.args.before bytes (omega arith) (next_page c.args.place) (omega arith)
     ∙ header_at pages size c.args.place total (length bytes + left) c.args.before _ _ bytes bytes sum refl refl in
-    let P : Reading → Type 0 = λ r. IfOk c.read_body.result (λ found. Reads c.args.place found c.read_body.new.bytes.items r) in
+    let P : Reading → Type 0 = λ r. IfOk c.read_body.result (λ found. Gives c.args.place found c.read_body.new.bytes.items r) in
     subst P (sym is) held
 
 pub returns-then-number-eq-PAGES-clause-read : goal.returns-then-number-eq-PAGES-clause-read
@@ -95,5 +95,5 @@ returns-clause-read g c = λ tells knows.
     ∙ first_reaches pages size c.args.place total page left c.args.before bytes (omega arith) (next_page c.args.place) (omega arith)
     ∙ front_on pages size c.args.place total c.args.before (further_page page left) bytes added.stop_is
     ∙ header_at pages size c.args.place total (length all + c.saturating_sub-left.result) c.args.before _ _ _ all sum (same_further size _ _ _ _ next after) (sym (added.bytes refl)) in
-    let P : Reading → Type 0 = λ r. IfOk c.read_body-2.result (λ found. Reads c.args.place found c.read_body-2.new.bytes.items r) in
+    let P : Reading → Type 0 = λ r. IfOk c.read_body-2.result (λ found. Gives c.args.place found c.read_body-2.new.bytes.items r) in
     subst P (sym is) held

@@ -1,5 +1,5 @@
 use Rattle.std.proofs.Common.{◌≡◌, ◌++◌, ◌-◌, ◌^◌, None, map, IsTrue}
-use Rattle.cluster_tree.specs.Causes.{OnlyReads}
+use Rattle.cluster_tree.specs.Frame.{Reads}
 use Rattle.wal_records.specs.Reading.{LogRecord}
 use Rattle.wal_records.specs.Cursor.{to_come}
 use Rattle.wal_records.proofs.tests.callers.xids_of.Given as goal
@@ -9,7 +9,7 @@ invariant-records g l =
     let contents = g.F.Tree.contents l.fn.tree in
     record {
       opened : l.cursor.ended ≡ None;
-      reads : OnlyReads g.F.Tree.contents g.F.Tree.calls g.F.Tree.failed_reads g.F.Tree.failed_changes l.fn.tree l.tree;
+      reads : Reads g.F.Tree l.fn.tree l.tree;
       xids : IsTrue g.F.Tree.tells → l.xids.items ++ map (λ (r : LogRecord). r.header.xid) (to_come l.cursor contents).records ≡ l.fn.xids.items ++ map (λ (r : LogRecord). r.header.xid) (to_come l.fn.cursor contents).records;
       place : IsTrue g.F.Tree.tells → (to_come l.cursor contents).place ≡ (to_come l.fn.cursor contents).place;
       why : IsTrue g.F.Tree.tells → (to_come l.cursor contents).why ≡ (to_come l.fn.cursor contents).why;
