@@ -2,7 +2,7 @@
 use Rattle.std.proofs.Common.{◌≡◌, ℕ, zero, suc, ◌+◌, ◌*◌, ◌<◌, ◌≤◌, List, length, Some, None, refl, ap, ◌∙◌, arith}
 use Rattle.std.specs.Prelude.{slice_get, sum_by}
 use Rattle.std.proofs.lemmas.List.Sums.{sum_by-cons}
-use Rattle.layout.specs.Readers.{half_at}
+use Rattle.layout.specs.Readers.{u16_at}
 use Rattle.block_layouts.specs.declared.plan.FreezePlan.{FreezePlan}
 use Rattle.block_layouts.specs.Row.{row_of, end_of}
 use Rattle.block_layouts.specs.Places.{place_at, place_behind, places_from}
@@ -32,9 +32,9 @@ end_of-even : (size n : ℕ) (bytes : List ℕ) (at : ℕ) → end_of (λ (b : L
 end_of-even size zero bytes at = omega arith
 end_of-even size (suc n) bytes at = end_of-even size n bytes (at + size) ∙ grind arith
 
-pub place_at-index : (count at index : ℕ) (bytes : List ℕ) → index < count → slice_get (places_from count bytes at) index ≡ Some (half_at (at + 2 * index) bytes)
+pub place_at-index : (count at index : ℕ) (bytes : List ℕ) → index < count → slice_get (places_from count bytes at) index ≡ Some (u16_at (at + 2 * index) bytes)
 place_at-index count at index bytes lt =
-    slice_get-row_of place_at place_behind count index bytes at lt ∙ ap (λ (k : ℕ). Some (half_at k bytes)) (end_of-even 2 index bytes at)
+    slice_get-row_of place_at place_behind count index bytes at lt ∙ ap (λ (k : ℕ). Some (u16_at k bytes)) (end_of-even 2 index bytes at)
 
 pub redirect_at-index : (count at index : ℕ) (bytes : List ℕ) → index < count → slice_get (redirects_from count bytes at) index ≡ Some (redirect_at bytes (at + 4 * index))
 redirect_at-index count at index bytes lt =

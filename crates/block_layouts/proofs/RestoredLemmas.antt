@@ -7,7 +7,7 @@ use Rattle.std.proofs.lemmas.List.{drop_all, drop-drop, drop_at, take_at}
 use Rattle.block_layouts.specs.IndexTuples.{told_size, item_size, item_at, item_behind, item_stands, items_from, items_end, count_below, restored_tuples_of}
 use Rattle.block_layouts.specs.Laws.{IsIndexTuple, AreIndexTuples}
 use Rattle.block_layouts.proofs.IndexLemmas.{HasItem, item_stands-facts, items_end-count, count_below-next}
-use Rattle.block_layouts.proofs.PieceLemmas.{half_at-piece, half_at-front}
+use Rattle.block_layouts.proofs.PieceLemmas.{u16_at-piece, u16_at-front}
 
 up : (n : ℕ) → n ≤ (n + 7) / 8 * 8
 up n = omega arith
@@ -17,7 +17,7 @@ item_is bytes at has =
     let size = item_size bytes at in
     let big : 8 ≤ size = omega (arith, has.told, up (told_size bytes at)) in
     let len : length (item_at bytes at) ≡ size = length-take-le size (drop at bytes) (omega (arith, length-drop at bytes, has.whole)) in
-    let same : told_size (item_at bytes at) 0 ≡ told_size bytes at = ap (λ (n : ℕ). n % 8192) (half_at-piece bytes at size 6 big) in
+    let same : told_size (item_at bytes at) 0 ≡ told_size bytes at = ap (λ (n : ℕ). n % 8192) (u16_at-piece bytes at size 6 big) in
     record {
       header = omega (arith, len, big);
       told = omega (arith, same, has.told);
@@ -55,7 +55,7 @@ pub record GoesOn (bytes : List ℕ) (at : ℕ) (tuple rest : List ℕ) : Type 0
 
 pub goes_on : (bytes : List ℕ) (at : ℕ) (tuple rest : List ℕ) → at ≤ length bytes → drop at bytes ≡ tuple ++ rest → IsIndexTuple tuple → GoesOn bytes at tuple rest
 goes_on bytes at tuple rest le e is =
-    let told : told_size bytes at ≡ told_size tuple 0 = ap (λ (n : ℕ). n % 8192) (half_at-front bytes tuple rest at 6 e is.header) in
+    let told : told_size bytes at ≡ told_size tuple 0 = ap (λ (n : ℕ). n % 8192) (u16_at-front bytes tuple rest at 6 e is.header) in
     let size : item_size bytes at ≡ length tuple = ap (λ (n : ℕ). (n + 7) / 8 * 8) told ∙ sym is.size in
     let len : length bytes - at ≡ length tuple + length rest = sym (length-drop at bytes) ∙ ap length e ∙ length-append tuple rest in
     let front : leb (at + 8) (length bytes) ≡ true = grind (arith, nat_tests, len, is.header) in

@@ -1,7 +1,7 @@
 -- The bytes of a FREEZE_PAGE: PostgreSQL 16, src/include/access/heapam_xlog.h, xl_heap_freeze_page and
 -- xl_heap_freeze_plan, twelve bytes each; src/backend/access/heap/heapam.c, heap_xlog_freeze_page.
 use Rattle.std.specs.Prelude.{ℕ, ◌≤◌, ◌+◌, ◌*◌, List, length, Option, Some, None, nat_lt, if◌then◌else◌}
-use Rattle.layout.specs.Readers.{byte_at, half_at, word_at}
+use Rattle.layout.specs.Readers.{u8_at, u16_at, u32_at}
 use Rattle.block_layouts.specs.declared.plan.FreezePlan.{FreezePlan}
 use Rattle.block_layouts.specs.Row.{row_of, end_of}
 use Rattle.block_layouts.specs.Places.{places_from}
@@ -13,15 +13,15 @@ pub record PlanPlace : Type 0 where
 
 -- how many places a plan has
 abbrev pub place_count : List ℕ → ℕ → ℕ
-place_count bytes plan = half_at (plan + 10) bytes
+place_count bytes plan = u16_at (plan + 10) bytes
 
 -- one plan with its places
 abbrev pub plan_at : List ℕ → PlanPlace → FreezePlan
 plan_at bytes at = record {
-  xmax = word_at at.plan bytes;
-  infomask2 = half_at (at.plan + 4) bytes;
-  infomask = half_at (at.plan + 6) bytes;
-  flags = byte_at (at.plan + 8) bytes;
+  xmax = u32_at at.plan bytes;
+  infomask2 = u16_at (at.plan + 4) bytes;
+  infomask = u16_at (at.plan + 6) bytes;
+  flags = u8_at (at.plan + 8) bytes;
   places = places_from (place_count bytes at.plan) bytes at.places;
 }
 

@@ -1,12 +1,12 @@
 -- Index tuples in a block's bytes: PostgreSQL 16, src/include/access/itup.h, IndexTupleData, IndexTupleSize;
 -- src/backend/access/nbtree/nbtxlog.c, _bt_restore_page.
 use Rattle.std.specs.Prelude.{ℕ, zero, suc, ◌+◌, ◌*◌, ◌/◌, ◌%◌, ◌==◌, ◌&&◌, Bool, List, length, take, drop, Option, Some, None, option_map, nat_le, if◌then◌else◌}
-use Rattle.layout.specs.Readers.{half_at}
+use Rattle.layout.specs.Readers.{u16_at}
 use Rattle.block_layouts.specs.Row.{row_of, whole_end}
 
 -- the size that a tuple's own header tells: the low 13 bits of the two bytes at 6 (INDEX_SIZE_MASK)
 abbrev pub told_size : List ℕ → ℕ → ℕ
-told_size bytes at = half_at (at + 6) bytes % 8192
+told_size bytes at = u16_at (at + 6) bytes % 8192
 
 -- how many bytes the tuple takes: its size, rounded up to 8 (MAXALIGN)
 abbrev pub item_size : List ℕ → ℕ → ℕ

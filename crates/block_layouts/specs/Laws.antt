@@ -4,7 +4,7 @@ use Rattle.std.specs.Option.{option_to_list}
 use Rattle.std.specs.List.{AllByRecursion, concat}
 use Rattle.block_layouts.specs.declared.prune.PrunePlaces.{PrunePlaces}
 use Rattle.block_layouts.specs.declared.update.OldParts.{OldParts}
-use Rattle.layout.specs.Readers.{half_at}
+use Rattle.layout.specs.Readers.{u16_at}
 use Rattle.block_layouts.specs.Tuple.{TupleView, header_at}
 use Rattle.block_layouts.specs.MultiInsert.{even}
 use Rattle.block_layouts.specs.Split.{SplitView}
@@ -26,7 +26,7 @@ pub record AreIndexTuples (bytes : List ℕ) (tuples : List (List ℕ)) : Type 0
 -- a heap tuple stands at an offset: the length of its bytes, its header, its bytes
 pub record IsTupleAt (bytes : List ℕ) (at : ℕ) (tuple : TupleView) : Type 0 where
   pub room : at + 7 + length tuple.bytes ≤ length bytes
-  pub size : half_at at bytes ≡ length tuple.bytes
+  pub size : u16_at at bytes ≡ length tuple.bytes
   pub header : header_at (at + 2) bytes ≡ tuple.header
   pub body : take (length tuple.bytes) (drop (at + 7) bytes) ≡ tuple.bytes
 

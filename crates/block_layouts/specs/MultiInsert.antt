@@ -1,7 +1,7 @@
 -- The tuples of a MULTI_INSERT: PostgreSQL 16, src/include/access/heapam_xlog.h, xl_multi_insert_tuple;
 -- src/backend/access/heap/heapam.c, heap_xlog_multi_insert.
 use Rattle.std.specs.Prelude.{ℕ, ◌+◌, ◌%◌, ◌==◌, ◌&&◌, Bool, false, List, length, take, drop, Option, Some, None, nat_le, if◌then◌else◌}
-use Rattle.layout.specs.Readers.{half_at}
+use Rattle.layout.specs.Readers.{u16_at}
 use Rattle.block_layouts.specs.Row.{row_of, whole_end}
 use Rattle.block_layouts.specs.Tuple.{TupleView, header_at}
 
@@ -11,7 +11,7 @@ even at = at + at % 2
 
 -- the length that stands in front of a tuple: that of its bytes from 23 on
 abbrev pub tuple_length : List ℕ → ℕ → ℕ
-tuple_length bytes at = half_at (even at) bytes
+tuple_length bytes at = u16_at (even at) bytes
 
 -- the offset behind a tuple, whose length and header have seven bytes
 abbrev pub tuple_behind : List ℕ → ℕ → ℕ

@@ -1,12 +1,12 @@
 -- Places of lines in a block's bytes: PostgreSQL 16, src/include/storage/off.h, OffsetNumber, two bytes each.
 use Rattle.std.specs.Prelude.{ℕ, ◌+◌, ◌*◌, List, Option}
-use Rattle.layout.specs.Readers.{half_at}
+use Rattle.layout.specs.Readers.{u16_at}
 use Rattle.block_layouts.specs.Fields.{whole}
 use Rattle.block_layouts.specs.Row.{row_of}
 
 -- one place, and the offset behind it
 abbrev pub place_at : List ℕ → ℕ → ℕ
-place_at bytes at = half_at at bytes
+place_at bytes at = u16_at at bytes
 
 abbrev pub place_behind : List ℕ → ℕ → ℕ
 place_behind bytes at = at + 2

@@ -1,12 +1,12 @@
 -- Pairs of places in a block's bytes: PostgreSQL 16, src/include/access/heapam_xlog.h, xl_heap_prune.
 use Rattle.std.specs.Prelude.{ℕ, ◌+◌, List}
-use Rattle.layout.specs.Readers.{half_at}
+use Rattle.layout.specs.Readers.{u16_at}
 use Rattle.block_layouts.specs.declared.redirects.Redirect.{Redirect}
 use Rattle.block_layouts.specs.Row.{row_of}
 
 -- one pair, and the offset behind it
 abbrev pub redirect_at : List ℕ → ℕ → Redirect
-redirect_at bytes at = record { from = half_at at bytes; to = half_at (at + 2) bytes }
+redirect_at bytes at = record { from = u16_at at bytes; to = u16_at (at + 2) bytes }
 
 abbrev pub redirect_behind : List ℕ → ℕ → ℕ
 redirect_behind bytes at = at + 4

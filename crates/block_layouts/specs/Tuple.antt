@@ -1,7 +1,7 @@
 -- A heap tuple in a block's bytes: PostgreSQL 16, src/include/access/heapam_xlog.h, xl_heap_header; of the tuple's
 -- own header the record holds three fields, and then its bytes from 23 on (SizeofHeapTupleHeader).
 use Rattle.std.specs.Prelude.{ℕ, ◌+◌, List, drop, Option}
-use Rattle.layout.specs.Readers.{byte_at, half_at}
+use Rattle.layout.specs.Readers.{u8_at, u16_at}
 use Rattle.block_layouts.specs.declared.tuple.HeapTuple.{HeapTuple}
 use Rattle.block_layouts.specs.declared.tuple.TupleHeader.{TupleHeader}
 use Rattle.block_layouts.specs.Fields.{whole}
@@ -18,9 +18,9 @@ tuple_seen tuple = record { header = tuple.header; bytes = tuple.bytes.now }
 -- the five bytes of a tuple's header
 abbrev pub header_at : ℕ → List ℕ → TupleHeader
 header_at at bytes = record {
-  infomask2 = half_at at bytes;
-  infomask = half_at (at + 2) bytes;
-  hoff = byte_at (at + 4) bytes;
+  infomask2 = u16_at at bytes;
+  infomask = u16_at (at + 2) bytes;
+  hoff = u8_at (at + 4) bytes;
 }
 
 -- the tuple of an INSERT: its header, and all that follows

@@ -1,7 +1,7 @@
 -- The new tuple of an UPDATE or a HOT_UPDATE: PostgreSQL 16, src/include/access/heapam_xlog.h, xl_heap_update;
 -- src/backend/access/heap/heapam.c, heap_xlog_update.
 use Rattle.std.specs.Prelude.{ℕ, ◌+◌, ◌-◌, ◌||◌, Bool, List, length, take, drop, Option, Some, None, option_and_then, nat_lt, if◌then◌else◌}
-use Rattle.layout.specs.Readers.{half_at}
+use Rattle.layout.specs.Readers.{u16_at}
 use Rattle.block_layouts.specs.declared.tuple.TupleHeader.{TupleHeader}
 use Rattle.block_layouts.specs.declared.update.OldParts.{OldParts}
 use Rattle.block_layouts.specs.declared.update.UpdateTuple.{UpdateTuple}
@@ -32,7 +32,7 @@ length_size there = if there then 2 else 0
 
 -- the length of a part, 0 where none is there
 abbrev pub length_at : Bool → ℕ → List ℕ → ℕ
-length_at there at bytes = if there then half_at at bytes else 0
+length_at there at bytes = if there then u16_at at bytes else 0
 
 -- where the header stands: behind the lengths of the prefix and the suffix
 abbrev pub header_place : OldParts → ℕ

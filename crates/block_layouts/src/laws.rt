@@ -1,7 +1,7 @@
 //! Laws: what holds of the definitions, whatever calls them.
 
 ghost use Rattle.std.specs.Prelude.{◌≡◌, ◌↔◌, ◌+◌, ◌*◌, ◌<◌, ℕ, Bool, List, Some, length, slice_get, sum_by};
-ghost use Rattle.layout.specs.Readers.{half_at};
+ghost use Rattle.layout.specs.Readers.{u16_at};
 ghost use Rattle.block_layouts.specs.declared.prune.PrunePlaces.{PrunePlaces};
 ghost use Rattle.block_layouts.specs.declared.update.OldParts.{OldParts};
 ghost use Rattle.block_layouts.specs.Freeze.{first_plan, plan_at, plans_from};
@@ -19,7 +19,7 @@ ghost use Rattle.block_layouts.specs.Update.{UpdateView, update_tuple_of};
 /// stands at its offset.
 pub fn places_stand()
     ensures places { (count at index : ℕ) (bytes : List ℕ) → index < count →
-        slice_get (places_from count bytes at) index ≡ Some (half_at (at + 2 * index) bytes) }
+        slice_get (places_from count bytes at) index ≡ Some (u16_at (at + 2 * index) bytes) }
     ensures redirects { (count at index : ℕ) (bytes : List ℕ) → index < count →
         slice_get (redirects_from count bytes at) index
         ≡ Some (redirect_at bytes (at + 4 * index)) }

@@ -3,7 +3,7 @@ use Rattle.std.proofs.Common.{◌≡◌, ℕ, ◌+◌, ◌-◌, ◌<◌, ◌≤�
 use Rattle.std.specs.Prelude.{bit_and, IfSome}
 use Rattle.std.proofs.lemmas.Bool.{ltb-false, le-ltb, and_parts, and_from}
 use Rattle.std.proofs.lemmas.Bool.Decides.{nat_tests}
-use Rattle.layout.specs.Readers.{byte_at, half_at, word_at}
+use Rattle.layout.specs.Readers.{u8_at, u16_at, u32_at}
 use Rattle.block_refs.specs.declared.names.Fork.{Fork}
 use Rattle.block_refs.specs.declared.names.Fork.TheVariants.{Main, FreeSpace, Visibility, Init}
 use Rattle.block_refs.specs.declared.names.RelName.{RelName}
@@ -90,26 +90,26 @@ unfolding image_at image_of
 image_found body at flags image e = by (has_image flags) refl e
   where
     by : (b : Bool) → has_image flags ≡ b
-        → cond b (cond (ltb (length body) (at + 5)) None (image_of (half_at at body) (half_at (at + 2) body) (byte_at (at + 4) body))) (Some Missing) ≡ Some image → IsImage body at flags image
+        → cond b (cond (ltb (length body) (at + 5)) None (image_of (u16_at at body) (u16_at (at + 2) body) (u8_at (at + 4) body))) (Some Missing) ≡ Some image → IsImage body at flags image
     by false h e = subst (λ i. IsImage body at flags i) (some_is Missing image e) h
     by true h e =
-        let info = byte_at (at + 4) body in
+        let info = u8_at (at + 4) body in
         let g = else_some (ltb (length body) (at + 5)) _ image e in
         let room : at + 5 ≤ length body = ltb-false _ _ g.0 in
-        let size = half_at at body in
-        let c = chosen (has_unknown info) (is_compressed info) (fills_page (has_hole info) size (half_at (at + 2) body)) record { apply = is_applied info; hole_at = half_at (at + 2) body; hole = 8192 - size } image g.1 in
+        let size = u16_at at body in
+        let c = chosen (has_unknown info) (is_compressed info) (fills_page (has_hole info) size (u16_at (at + 2) body)) record { apply = is_applied info; hole_at = u16_at (at + 2) body; hole = 8192 - size } image g.1 in
         elim c.1 [
           | inl d ↦ subst (λ i. IsImage body at flags i) d.1 (h, room, c.0, d.0)
           | inr d ↦ subst (λ i. IsImage body at flags i) d.2 (
             h,
             room,
             record {
-              size = size_found (has_hole info) size (half_at (at + 2) body) d.1;
+              size = size_found (has_hole info) size (u16_at (at + 2) body) d.1;
               hole_at = refl;
               apply = refl;
               known = c.0;
               plain = d.0;
-              hole = hole_found (has_hole info) size (half_at (at + 2) body) d.1;
+              hole = hole_found (has_hole info) size (u16_at (at + 2) body) d.1;
             },
           )
         ]
@@ -119,8 +119,8 @@ unfolding image_at image_of
 image_again body at flags Missing h = rw h refl
 image_again body at flags Compressed h = rw (h.0, le-ltb (length body) (at + 5) h.1, h.2, h.3) refl
 image_again body at flags (Plain image) h =
-    let size = half_at at body in
-    let fills = fills_again (has_hole (byte_at (at + 4) body)) size (half_at (at + 2) body) image.hole h.2.size (rw h.2.hole_at h.2.hole) in
+    let size = u16_at at body in
+    let fills = fills_again (has_hole (u8_at (at + 4) body)) size (u16_at (at + 2) body) image.hole h.2.size (rw h.2.hole_at h.2.hole) in
     let hole : 8192 - size ≡ image.hole = omega (arith, h.2.size) in
     rw (h.0, le-ltb (length body) (at + 5) h.1, h.2.known, h.2.plain, fills, h.2.apply, h.2.hole_at, hole) refl
 
@@ -170,24 +170,24 @@ unfolding head_at head_behind head_from
 head_found body at before head e =
     let flags = flags_at body at in
     let a = else_some (ltb (length body) (at + 4)) _ head e in
-    let b = then_some (is_id_after before (byte_at at body) && bytes_agree flags (half_at (at + 2) body)) _ head a.1 in
-    let tests = and_parts (is_id_after before (byte_at at body)) (bytes_agree flags (half_at (at + 2) body)) b.0 in
-    let ids = and_parts (leb (byte_at at body) 32) (is_above before (byte_at at body)) tests.0 in
+    let b = then_some (is_id_after before (u8_at at body) && bytes_agree flags (u16_at (at + 2) body)) _ head a.1 in
+    let tests = and_parts (is_id_after before (u8_at at body)) (bytes_agree flags (u16_at (at + 2) body)) b.0 in
+    let ids = and_parts (leb (u8_at at body) 32) (is_above before (u8_at at body)) tests.0 in
     let f = bind_some (head_behind body at before) (fork_of (bit_and flags 0x0F)) head b.1 in
     let i = bind_some (head_from body at (behind_image body at) before f.0) (image_at body (at + 4) flags) head f.2 in
     let r = bind_some (head_whole body at (behind_relation body at) f.0 i.0) (relation_of body (behind_image body at) flags before) head i.2 in
     let w = else_some (ltb (length body) (behind_relation body at + 4)) (Some (head_with body at (behind_relation body at) f.0 i.0 r.0)) head r.2 in
     subst (λ h. IsHead body at before h) (some_is (head_with body at (behind_relation body at) f.0 i.0 r.0) head w.1) (record {
-      id = refl {a = byte_at at body};
+      id = refl {a = u8_at at body};
       greatest = grind (arith, nat_tests, ids.0);
-      rises = rises_found before (byte_at at body) ids.1;
+      rises = rises_found before (u8_at at body) ids.1;
       fork = fork_found (bit_and flags 0x0F) f.0 f.1;
       will_init = refl {a = will_init (flags_at body at)};
-      size = refl {a = half_at (at + 2) body};
-      bytes = agree_found (has_bytes flags) (half_at (at + 2) body) tests.1;
+      size = refl {a = u16_at (at + 2) body};
+      bytes = agree_found (has_bytes flags) (u16_at (at + 2) body) tests.1;
       image = image_found body (at + 4) flags i.0 i.1;
       relation = relation_found body (behind_image body at) flags before r.0 r.1;
-      block = refl {a = word_at (behind_relation body at) body};
+      block = refl {a = u32_at (behind_relation body at) body};
       next = refl {a = behind_relation body at + 4};
       within = ltb-false (length body) (behind_relation body at + 4) w.0;
     })
@@ -197,7 +197,7 @@ head_is : (body : List ℕ) (at : ℕ) (before : Option BlockRef) (head : Head) 
 head_is body at before head h = rw (h.id, h.block, h.will_init, h.size, ← h.next) refl
 
 pub image_end_above : (body : List ℕ) (at flags : ℕ) → at ≤ image_end body at flags
-image_end_above body at flags = by (has_image flags) (is_compressed (byte_at (at + 4) body) && has_hole (byte_at (at + 4) body))
+image_end_above body at flags = by (has_image flags) (is_compressed (u8_at (at + 4) body) && has_hole (u8_at (at + 4) body))
   where
     by : (image long : Bool) → at ≤ cond image (at + cond long 7 5) at
     by true true = omega arith
@@ -226,9 +226,9 @@ head_again body at before head h =
     let next = h.next in
     let within = h.within in
     let room : ltb (length body) (at + 4) ≡ false = le-ltb (length body) (at + 4) (omega arith) in
-    let small : leb (byte_at at body) 32 ≡ true = rw h.id (grind (arith, nat_tests, h.greatest)) in
-    let rises : is_above before (byte_at at body) ≡ true = rw h.id (rises_again before head.id h.rises) in
-    let bytes : bytes_agree flags (half_at (at + 2) body) ≡ true = rw h.size (agree_again (has_bytes flags) head.size h.bytes) in
+    let small : leb (u8_at at body) 32 ≡ true = rw h.id (grind (arith, nat_tests, h.greatest)) in
+    let rises : is_above before (u8_at at body) ≡ true = rw h.id (rises_again before head.id h.rises) in
+    let bytes : bytes_agree flags (u16_at (at + 2) body) ≡ true = rw h.size (agree_again (has_bytes flags) head.size h.bytes) in
     let fork : fork_of (bit_and flags 0x0F) ≡ Some head.name.fork = ap fork_of h.fork ∙ fork_again head.name.fork in
     let image : image_at body (at + 4) flags ≡ Some head.image = image_again body (at + 4) flags head.image h.image in
     let relation : relation_of body (behind_image body at) flags before ≡ Some head.name.rel = relation_again body (behind_image body at) flags before head.name.rel h.relation (omega arith) in

@@ -7,3 +7,4 @@ pub mod PlaceLemmas
 pub mod OutcomeLemmas
 pub mod FillLemmas
 pub mod RiseLemmas
+pub mod OrderLemmas

@@ -2,7 +2,7 @@
 use Rattle.std.proofs.Common.{◌≡◌, ℕ, ◌+◌, ◌≤◌, true, false, ltb, eqb, ◌⊎◌, inl, inr, List, length, Option, Some, None, Result, Ok, Err, refl, subst, ◌∙◌, arith}
 use Rattle.std.proofs.lemmas.Bool.{ltb-false, le-ltb, eqb-true}
 use Rattle.std.proofs.lemmas.Bool.Decides.{nat_tests}
-use Rattle.layout.specs.Readers.{byte_at, word_at}
+use Rattle.layout.specs.Readers.{u8_at, u32_at}
 use Rattle.block_refs.specs.declared.block_ref.BlockRef.{BlockRef}
 use Rattle.block_refs.specs.declared.block_ref.ImageRef.{ImageRef}
 use Rattle.block_refs.specs.declared.fault.Flaw.{Flaw}
@@ -92,10 +92,10 @@ head_route body at before head h =
     let id = h.id in
     let small = h.greatest in
     let there : ltb at (length body) ≡ true = grind (arith, nat_tests) in
-    let no_short : eqb (byte_at at body) 255 ≡ false = grind (arith, nat_tests) in
-    let no_long : eqb (byte_at at body) 254 ≡ false = grind (arith, nat_tests) in
-    let no_origin : eqb (byte_at at body) 253 ≡ false = grind (arith, nat_tests) in
-    let no_top : eqb (byte_at at body) 252 ≡ false = grind (arith, nat_tests) in
+    let no_short : eqb (u8_at at body) 255 ≡ false = grind (arith, nat_tests) in
+    let no_long : eqb (u8_at at body) 254 ≡ false = grind (arith, nat_tests) in
+    let no_origin : eqb (u8_at at body) 253 ≡ false = grind (arith, nat_tests) in
+    let no_top : eqb (u8_at at body) 252 ≡ false = grind (arith, nat_tests) in
     rw (there, no_short, no_long, no_origin, no_top, head_again body at before head h) refl
 
 block_again : (body : List ℕ) (at : ℕ) (before : Option BlockRef) (block : BlockRef) (size next : ℕ) → IsHead body at before (head_of block size next)
@@ -130,14 +130,14 @@ fixed_again body at size fragment h = rw (le-ltb (length body) (at + size) h) re
 pub fragment_found : (body : List ℕ) (at : ℕ) (before : Option BlockRef) (piece : Piece) → fragment_at body at before ≡ Ok piece → Stands body at before piece
 unfolding fragment_at
 fragment_found body at before piece e =
-    let id = byte_at at body in
+    let id = u8_at at body in
     elim (either_way (ltb at (length body)) _ (Err (flaw.Bad at)) (Ok piece) e) [
       | inr a ↦ absurd cc
-      | inl a ↦ elim (either_way (eqb id 255) (fixed body at 2 (Main (byte_at (at + 1) body))) _ (Ok piece) a.1) [
-        | inl b ↦ let f = fixed_found body at 2 (Main (byte_at (at + 1) body)) piece b.1 in
+      | inl a ↦ elim (either_way (eqb id 255) (fixed body at 2 (Main (u8_at (at + 1) body))) _ (Ok piece) a.1) [
+        | inl b ↦ let f = fixed_found body at 2 (Main (u8_at (at + 1) body)) piece b.1 in
             subst (λ p. Stands body at before p) f.1 (record { stands = inl (eqb-true _ _ b.0, refl, refl); within = f.0 })
-        | inr b ↦ elim (either_way (eqb id 254) (fixed body at 5 (Main (word_at (at + 1) body))) _ (Ok piece) b.1) [
-          | inl c ↦ let f = fixed_found body at 5 (Main (word_at (at + 1) body)) piece c.1 in
+        | inr b ↦ elim (either_way (eqb id 254) (fixed body at 5 (Main (u32_at (at + 1) body))) _ (Ok piece) b.1) [
+          | inl c ↦ let f = fixed_found body at 5 (Main (u32_at (at + 1) body)) piece c.1 in
               subst (λ p. Stands body at before p) f.1 (record { stands = inr (eqb-true _ _ c.0, refl, refl); within = f.0 })
           | inr c ↦ elim (either_way (eqb id 253) (fixed body at 3 Other) _ (Ok piece) c.1) [
             | inl d ↦ let f = fixed_found body at 3 Other piece d.1 in
@@ -156,13 +156,13 @@ fragment_found body at before piece e =
 flaw_found : (body : List ℕ) (at : ℕ) (before : Option BlockRef) (d : Flaw) → fragment_at body at before ≡ Err d → (d ≡ flaw.Bad at) ⊎ (block_piece at (head_at body at before) ≡ Err d)
 unfolding fragment_at
 flaw_found body at before d e =
-    let id = byte_at at body in
+    let id = u8_at at body in
     elim (either_way (ltb at (length body)) _ (Err (flaw.Bad at)) (Err d) e) [
       | inr a ↦ inl cc
-      | inl a ↦ elim (either_way (eqb id 255) (fixed body at 2 (Main (byte_at (at + 1) body))) _ (Err d) a.1) [
-        | inl b ↦ inl (fixed_flawed body at 2 (Main (byte_at (at + 1) body)) d b.1)
-        | inr b ↦ elim (either_way (eqb id 254) (fixed body at 5 (Main (word_at (at + 1) body))) _ (Err d) b.1) [
-          | inl c ↦ inl (fixed_flawed body at 5 (Main (word_at (at + 1) body)) d c.1)
+      | inl a ↦ elim (either_way (eqb id 255) (fixed body at 2 (Main (u8_at (at + 1) body))) _ (Err d) a.1) [
+        | inl b ↦ inl (fixed_flawed body at 2 (Main (u8_at (at + 1) body)) d b.1)
+        | inr b ↦ elim (either_way (eqb id 254) (fixed body at 5 (Main (u32_at (at + 1) body))) _ (Err d) b.1) [
+          | inl c ↦ inl (fixed_flawed body at 5 (Main (u32_at (at + 1) body)) d c.1)
           | inr c ↦ elim (either_way (eqb id 253) (fixed body at 3 Other) _ (Err d) c.1) [
             | inl g ↦ inl (fixed_flawed body at 3 Other d g.1)
             | inr g ↦ elim (either_way (eqb id 252) (fixed body at 5 Other) _ (Err d) g.1) [
@@ -187,10 +187,10 @@ unfolding fragment_at
 fragment_again body at before (Block block size) next h within = block_again body at before block size next h
 fragment_again body at before (Main size) next (inl h) within =
     let there : ltb at (length body) ≡ true = let e = h.2 in grind (arith, nat_tests) in
-    rw (there, h.0, h.1, h.2, fixed_again body at 2 (Main (byte_at (at + 1) body)) (omega (arith, h.2, within))) refl
+    rw (there, h.0, h.1, h.2, fixed_again body at 2 (Main (u8_at (at + 1) body)) (omega (arith, h.2, within))) refl
 fragment_again body at before (Main size) next (inr h) within =
     let there : ltb at (length body) ≡ true = let e = h.2 in grind (arith, nat_tests) in
-    rw (there, h.0, h.1, h.2, fixed_again body at 5 (Main (word_at (at + 1) body)) (omega (arith, h.2, within))) refl
+    rw (there, h.0, h.1, h.2, fixed_again body at 5 (Main (u32_at (at + 1) body)) (omega (arith, h.2, within))) refl
 fragment_again body at before Other next (inl h) within =
     let there : ltb at (length body) ≡ true = let e = h.1 in grind (arith, nat_tests) in
     rw (there, h.0, h.1, fixed_again body at 3 Other (omega (arith, h.1, within))) refl

@@ -1,8 +1,9 @@
 -- Where the parts of a body stand: within it.
-use Rattle.std.proofs.Common.{◌≡◌, ℕ, ◌+◌, ◌-◌, ◌≤◌, eqb, inl, inr, List, [], ◌∷◌, ◌++◌, length, take, drop, replicate, Option, Some, None, Ok, refl, sym, ap, subst, ◌∙◌, append_assoc, arith, option_map, option_and_then}
+use Rattle.std.proofs.Common.{◌≡◌, ℕ, ◌+◌, ◌-◌, ◌≤◌, eqb, inl, inr, List, [], ◌∷◌, ◌++◌, length, take, drop, replicate, Option, Some, None, Ok, refl, sym, ap, subst, ◌∙◌, arith, option_map, option_and_then}
 use Rattle.std.specs.Prelude.{IfSome}
 use Rattle.std.specs.List.{AllByRecursion}
 use Rattle.std.proofs.lemmas.List.{length-append, length-take, length-take-le, length-drop, length-replicate, take_at, drop_at, drop-drop}
+use Rattle.layout.specs.Splice.{splice}
 use Rattle.block_refs.specs.declared.block_ref.BlockRef.{BlockRef}
 use Rattle.block_refs.specs.declared.block_ref.ImageRef.{ImageRef}
 use Rattle.block_refs.specs.declared.fragment.Fragment.{Fragment}
@@ -12,7 +13,7 @@ use Rattle.block_refs.specs.declared.fragment.Placed.{Placed}
 use Rattle.block_refs.specs.declared.fragment.Seen.{Seen}
 use Rattle.block_refs.specs.Fragment.{image_size, announced_by}
 use Rattle.block_refs.specs.Parts.{PartsView, nothing_seen, after, placed_by, parts_of}
-use Rattle.block_refs.specs.Bytes.{block_with, stored_image, laid_over, filled, placed_page, page_of}
+use Rattle.block_refs.specs.Bytes.{block_with, stored_image, filled, placed_page, page_of}
 use Rattle.block_refs.specs.Standing.{IsHole, IsImage, image_as, IsFragment}
 use Rattle.block_refs.specs.Spelling.{AreHeaders, placed_in}
 use Rattle.block_refs.proofs.Steps.{either_some}
@@ -132,14 +133,15 @@ main_stands body parts e = let h = has_parts body parts e in let main = h.main i
 -- ---- a page, piece by piece
 
 -- bytes laid over what stands behind a text
-behind : (text rest bytes : List ℕ) (at : ℕ) → length text ≡ at → laid_over at bytes (text ++ rest) ≡ (text ++ bytes) ++ drop (length bytes) rest
+behind : (text rest bytes : List ℕ) (at : ℕ) → length text ≡ at → splice (text ++ rest) at bytes ≡ (text ++ bytes) ++ drop (length bytes) rest
+unfolding splice
 behind text rest bytes at size =
     let over : drop (at + length bytes) (text ++ rest) ≡ drop (length bytes) rest = sym (drop-drop (length bytes) at (text ++ rest)) ∙ ap (drop (length bytes)) (drop_at text rest at size) in
-    rw (take_at text rest at size, over) (sym (append_assoc text bytes (drop (length bytes) rest)))
+    rw (take_at text rest at size, over) refl
 
 pub pieces_fill : (image : ImageRef) (stored old first second third : List ℕ) → image.hole_at + image.hole ≤ 8192 → length stored + image.hole ≡ 8192
-    → first ≡ laid_over 0 (take image.hole_at stored) old → second ≡ laid_over image.hole_at (replicate image.hole 0) first
-    → third ≡ laid_over (image.hole_at + image.hole) (drop image.hole_at stored) second → third ≡ filled image stored ++ drop 8192 old
+    → first ≡ splice old 0 (take image.hole_at stored) → second ≡ splice first image.hole_at (replicate image.hole 0)
+    → third ≡ splice second (image.hole_at + image.hole) (drop image.hole_at stored) → third ≡ filled image stored ++ drop 8192 old
 pieces_fill image stored old first second third within whole a b c =
     let front = take image.hole_at stored in
     let zeros : List ℕ = replicate image.hole 0 in
@@ -149,9 +151,9 @@ pieces_fill image stored old first second third within whole a b c =
     let back_size : length back ≡ length stored - image.hole_at = length-drop image.hole_at stored in
     let both_size : length (front ++ zeros) ≡ image.hole_at + image.hole = length-append front zeros ∙ omega arith in
     let one : first ≡ front ++ drop (length front) old = a ∙ behind [] old front 0 refl in
-    let two : second ≡ (front ++ zeros) ++ drop (length zeros) (drop (length front) old) = b ∙ ap (laid_over image.hole_at zeros) one ∙ behind front (drop (length front) old) zeros image.hole_at front_size in
+    let two : second ≡ (front ++ zeros) ++ drop (length zeros) (drop (length front) old) = b ∙ ap (λ bytes. splice bytes image.hole_at zeros) one ∙ behind front (drop (length front) old) zeros image.hole_at front_size in
     let three : third ≡ ((front ++ zeros) ++ back) ++ drop (length back) (drop (length zeros) (drop (length front) old))
-    = c ∙ ap (laid_over (image.hole_at + image.hole) back) two ∙ behind (front ++ zeros) (drop (length zeros) (drop (length front) old)) back (image.hole_at + image.hole) both_size in
+    = c ∙ ap (λ bytes. splice bytes (image.hole_at + image.hole) back) two ∙ behind (front ++ zeros) (drop (length zeros) (drop (length front) old)) back (image.hole_at + image.hole) both_size in
     let sum : (length front + length zeros) + length back ≡ 8192 = omega arith in
     let rest : drop (length back) (drop (length zeros) (drop (length front) old)) ≡ drop 8192 old
     = ap (drop (length back)) (drop-drop (length zeros) (length front) old) ∙ drop-drop (length back) (length front + length zeros) old ∙ ap (λ n. drop n old) sum in

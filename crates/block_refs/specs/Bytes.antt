@@ -1,6 +1,6 @@
 -- The bytes of a record's parts, and an image as a page: PostgreSQL 16, src/backend/access/transam/xlogreader.c,
 -- XLogRecGetBlockData and RestoreBlockImage.
-use Rattle.std.specs.Prelude.{ℕ, ◌+◌, ◌==◌, List, ◌++◌, length, take, drop, replicate, find, sum_by, Option, Some, None, option_map, option_and_then}
+use Rattle.std.specs.Prelude.{ℕ, ◌+◌, ◌==◌, List, ◌++◌, take, drop, replicate, find, sum_by, Option, Some, None, option_map, option_and_then}
 use Rattle.block_refs.specs.declared.block_ref.ImageRef.{ImageRef}
 use Rattle.block_refs.specs.declared.fragment.Placed.{Placed}
 use Rattle.block_refs.specs.Fragment.{image_size}
@@ -36,10 +36,6 @@ main_bytes body parts = drop parts.main body
 -- how many bytes the images have
 abbrev pub image_total : List Placed → ℕ
 image_total blocks = sum_by (λ placed. image_size placed.block) blocks
-
--- bytes laid over others from an offset on
-abbrev pub laid_over : ℕ → List ℕ → List ℕ → List ℕ
-laid_over at bytes old = take at old ++ (bytes ++ drop (at + length bytes) old)
 
 -- the page of an image: its bytes, with zeros in its hole
 abbrev pub filled : ImageRef → List ℕ → List ℕ

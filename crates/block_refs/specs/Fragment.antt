@@ -1,7 +1,7 @@
 -- The fragments at the front of a record's body: PostgreSQL 16, src/include/access/xlogrecord.h, XLR_BLOCK_ID_.. and
 -- XLogRecordDataHeaderShort and ..Long; src/backend/access/transam/xlogreader.c, DecodeXLogRecord.
 use Rattle.std.specs.Prelude.{ℕ, ◌+◌, ◌-◌, ◌==◌, Bool, List, length, Option, Some, None, Result, Ok, Err, nat_lt, nat_le, if◌then◌else◌}
-use Rattle.layout.specs.Readers.{byte_at, word_at}
+use Rattle.layout.specs.Readers.{u8_at, u32_at}
 use Rattle.block_refs.specs.declared.block_ref.BlockRef.{BlockRef}
 use Rattle.block_refs.specs.declared.block_ref.ImageRef.{ImageRef}
 use Rattle.block_refs.specs.declared.fault.Flaw.{Flaw}
@@ -61,10 +61,10 @@ fixed body at size fragment =
 -- in four, an origin, a transaction, or a block reference
 abbrev pub fragment_by : List ℕ → ℕ → Option BlockRef → Result Piece Flaw
 fragment_by body at before =
-    if byte_at at body == 255 then fixed body at 2 (Main (byte_at (at + 1) body))
-    else if byte_at at body == 254 then fixed body at 5 (Main (word_at (at + 1) body))
-    else if byte_at at body == 253 then fixed body at 3 Other
-    else if byte_at at body == 252 then fixed body at 5 Other
+    if u8_at at body == 255 then fixed body at 2 (Main (u8_at (at + 1) body))
+    else if u8_at at body == 254 then fixed body at 5 (Main (u32_at (at + 1) body))
+    else if u8_at at body == 253 then fixed body at 3 Other
+    else if u8_at at body == 252 then fixed body at 5 Other
     else block_piece at (head_at body at before)
 
 -- the fragment at an offset, behind a block reference, or its flaw

@@ -1,7 +1,7 @@
 -- The header of a full-page image: PostgreSQL 16, src/include/access/xlogrecord.h, XLogRecordBlockImageHeader and
 -- XLogRecordBlockCompressHeader; src/backend/access/transam/xlogreader.c, DecodeXLogRecord.
 use Rattle.std.specs.Prelude.{ℕ, ◌+◌, ◌-◌, ◌==◌, ◌&&◌, Bool, List, length, Option, Some, None, nat_lt, nat_le, if◌then◌else◌}
-use Rattle.layout.specs.Readers.{byte_at, half_at}
+use Rattle.layout.specs.Readers.{u8_at, u16_at}
 use Rattle.block_refs.specs.declared.image.Image.{Image}
 use Rattle.block_refs.specs.declared.image.Image.TheVariants.{Missing, Plain, Compressed}
 use Rattle.block_refs.specs.Bits.{has_image, has_hole, is_applied, is_compressed, has_unknown}
@@ -31,7 +31,7 @@ image_of size hole_at info =
 abbrev pub image_there : List ℕ → ℕ → Option Image
 image_there body at =
     if nat_lt (length body) (at + 5) then None
-    else image_of (half_at at body) (half_at (at + 2) body) (byte_at (at + 4) body)
+    else image_of (u16_at at body) (u16_at (at + 2) body) (u8_at (at + 4) body)
 
 -- the image of a block reference with these flags, whose header stands at an offset where there is one
 unfoldable pub image_at : List ℕ → ℕ → ℕ → Option Image
@@ -39,4 +39,4 @@ image_at body at flags = if has_image flags then image_there body at else Some M
 
 -- where the header of that image ends
 abbrev pub image_end : List ℕ → ℕ → ℕ → ℕ
-image_end body at flags = if has_image flags then at + image_header_size (byte_at (at + 4) body) else at
+image_end body at flags = if has_image flags then at + image_header_size (u8_at (at + 4) body) else at

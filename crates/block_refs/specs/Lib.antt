@@ -1,4 +1,5 @@
 pub mod Names
+pub mod Order
 pub mod Bits
 pub mod Image
 pub mod Header

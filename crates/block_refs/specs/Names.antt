@@ -1,6 +1,7 @@
 -- Relations and their forks: PostgreSQL 16, src/include/common/relpath.h, ForkNumber; src/common/relpath.c, forkNames;
 -- src/backend/access/rmgrdesc/xlogdesc.c, XLogRecGetBlockRefInfo.
 use Rattle.std.specs.Prelude.{ℕ, ◌==◌, List, ◌++◌, codes, decimal, Option, Some, None, if◌then◌else◌}
+use Rattle.block_refs.specs.declared.names.BlockName.{BlockName}
 use Rattle.block_refs.specs.declared.names.Fork.{Fork}
 use Rattle.block_refs.specs.declared.names.Fork.TheVariants.{Main, FreeSpace, Visibility, Init}
 use Rattle.block_refs.specs.declared.names.RelName.{RelName}
@@ -15,6 +16,10 @@ fork_name Main = codes "main"
 fork_name FreeSpace = codes "fsm"
 fork_name Visibility = codes "vm"
 fork_name Init = codes "init"
+
+-- a block: its relation, the name of its fork, its number
+abbrev pub block_text : BlockName → List ℕ
+block_text name = rel_text name.rel ++ (codes " " ++ (fork_name name.fork ++ (codes " " ++ decimal name.block)))
 
 -- the number of a fork
 abbrev pub fork_number : Fork → ℕ

@@ -1,7 +1,7 @@
 -- How a fragment stands at an offset of a body, field by field and in no order: PostgreSQL 16,
 -- src/include/access/xlogrecord.h.
 use Rattle.std.specs.Prelude.{◌≡◌, ℕ, ◌+◌, ◌<◌, ◌≤◌, ◌⊎◌, ◌↔◌, true, false, List, length, Option, Some, None, bit_and, IfSome}
-use Rattle.layout.specs.Readers.{byte_at, half_at, word_at}
+use Rattle.layout.specs.Readers.{u8_at, u16_at, u32_at}
 use Rattle.block_refs.specs.declared.names.RelName.{RelName}
 use Rattle.block_refs.specs.declared.block_ref.BlockRef.{BlockRef}
 use Rattle.block_refs.specs.declared.block_ref.ImageRef.{ImageRef}
@@ -23,20 +23,20 @@ IsHole image info =
 
 -- the header of an image that isn't compressed
 pub record IsPlain (body : List ℕ) (at : ℕ) (image : ImageRef) : Type 0 where
-  pub size : half_at at body + image.hole ≡ 8192
-  pub hole_at : half_at (at + 2) body ≡ image.hole_at
-  pub apply : is_applied (byte_at (at + 4) body) ≡ image.apply
-  pub known : has_unknown (byte_at (at + 4) body) ≡ false
-  pub plain : is_compressed (byte_at (at + 4) body) ≡ false
-  pub hole : IsHole image (byte_at (at + 4) body)
+  pub size : u16_at at body + image.hole ≡ 8192
+  pub hole_at : u16_at (at + 2) body ≡ image.hole_at
+  pub apply : is_applied (u8_at (at + 4) body) ≡ image.apply
+  pub known : has_unknown (u8_at (at + 4) body) ≡ false
+  pub plain : is_compressed (u8_at (at + 4) body) ≡ false
+  pub hole : IsHole image (u8_at (at + 4) body)
 
 -- the image of a block reference with these flags, whose header stands at an offset
 abbrev pub IsImage : List ℕ → ℕ → ℕ → Image → Type 0
 IsImage body at flags Missing = has_image flags ≡ false
 IsImage body at flags (Plain image) = (has_image flags ≡ true) × (at + 5 ≤ length body) × IsPlain body at image
 IsImage body at flags Compressed =
-    (has_image flags ≡ true) × (at + 5 ≤ length body) × (has_unknown (byte_at (at + 4) body) ≡ false)
-    × (is_compressed (byte_at (at + 4) body) ≡ true)
+    (has_image flags ≡ true) × (at + 5 ≤ length body) × (has_unknown (u8_at (at + 4) body) ≡ false)
+    × (is_compressed (u8_at (at + 4) body) ≡ true)
 
 -- the relation of a block reference with these flags: that of the block before, or the one at an offset
 abbrev pub IsRelation : List ℕ → ℕ → ℕ → Option BlockRef → RelName → Type 0
@@ -46,7 +46,7 @@ IsRelation body at flags before rel =
 
 -- where the header's image and relation end
 abbrev pub flags_at : List ℕ → ℕ → ℕ
-flags_at body at = byte_at (at + 1) body
+flags_at body at = u8_at (at + 1) body
 
 abbrev pub behind_image : List ℕ → ℕ → ℕ
 behind_image body at = image_end body (at + 4) (flags_at body at)
@@ -56,16 +56,16 @@ behind_relation body at = relation_end (behind_image body at) (flags_at body at)
 
 -- the header of a block reference stands at an offset, behind another one
 pub record IsHead (body : List ℕ) (at : ℕ) (before : Option BlockRef) (head : Head) : Type 0 where
-  pub id : byte_at at body ≡ head.id
+  pub id : u8_at at body ≡ head.id
   pub greatest : head.id ≤ 32
   pub rises : IfSome before (λ last. last.id < head.id)
   pub fork : bit_and (flags_at body at) 0x0F ≡ fork_number head.name.fork
   pub will_init : will_init (flags_at body at) ≡ head.will_init
-  pub size : half_at (at + 2) body ≡ head.size
+  pub size : u16_at (at + 2) body ≡ head.size
   pub bytes : (has_bytes (flags_at body at) ≡ true) ↔ (0 < head.size)
   pub image : IsImage body (at + 4) (flags_at body at) head.image
   pub relation : IsRelation body (behind_image body at) (flags_at body at) before head.name.rel
-  pub block : word_at (behind_relation body at) body ≡ head.name.block
+  pub block : u32_at (behind_relation body at) body ≡ head.name.block
   pub next : head.next ≡ behind_relation body at + 4
   pub within : head.next ≤ length body
 
@@ -87,12 +87,12 @@ head_of block size next = record {
 -- main bytes: their number in one byte behind 255, or in four behind 254
 abbrev pub IsMain : List ℕ → ℕ → ℕ → ℕ → Type 0
 IsMain body at size next =
-    ((byte_at at body ≡ 255) × (size ≡ byte_at (at + 1) body) × (next ≡ at + 2))
-    ⊎ ((byte_at at body ≡ 254) × (size ≡ word_at (at + 1) body) × (next ≡ at + 5))
+    ((u8_at at body ≡ 255) × (size ≡ u8_at (at + 1) body) × (next ≡ at + 2))
+    ⊎ ((u8_at at body ≡ 254) × (size ≡ u32_at (at + 1) body) × (next ≡ at + 5))
 
 -- an origin of two bytes behind 253, or a transaction of four behind 252
 abbrev pub IsOther : List ℕ → ℕ → ℕ → Type 0
-IsOther body at next = ((byte_at at body ≡ 253) × (next ≡ at + 3)) ⊎ ((byte_at at body ≡ 252) × (next ≡ at + 5))
+IsOther body at next = ((u8_at at body ≡ 253) × (next ≡ at + 3)) ⊎ ((u8_at at body ≡ 252) × (next ≡ at + 5))
 
 -- a fragment stands at an offset, behind a block reference, and ends at another offset
 abbrev pub IsFragment : List ℕ → ℕ → Option BlockRef → Fragment → ℕ → Type 0

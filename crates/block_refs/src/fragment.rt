@@ -1,7 +1,7 @@
 //! The fragments at the front of a record's body.
 
 ghost use Rattle.std.specs.Prelude.{◌≡◌, ◌≤◌, ◌+◌, ◌<◌, ◌^◌, ◌++◌, IfOk, length};
-ghost use Rattle.layout.specs.Readers.{byte_at, word_at};
+ghost use Rattle.layout.specs.Readers.{u8_at, u32_at};
 ghost use Rattle.block_refs.specs.declared.fault.Flaw.TheVariants as flaws;
 ghost use Rattle.block_refs.specs.declared.fragment.Fragment.TheVariants as fragments;
 ghost use Rattle.block_refs.specs.Fragment.{announced_by, piece_with, block_piece, fixed, fragment_at, fits, piece_at};
@@ -127,7 +127,7 @@ fn fixed(body: &[u8], at: usize, size: usize, fragment: Fragment) -> Result<Piec
 /// The length of the main bytes in one byte, at an offset.
 fn main_short(body: &[u8], at: usize) -> Result<Piece, Flaw>
     requires low { at < 2 ^ 31 }
-    ensures { result ≡ fixed body.now at 2 (fragments.Main (byte_at (at + 1) body.now)) }
+    ensures { result ≡ fixed body.now at 2 (fragments.Main (u8_at (at + 1) body.now)) }
 {
     if body.len() < at + 2 {
         return Err(bad(at));
@@ -142,7 +142,7 @@ fn main_short(body: &[u8], at: usize) -> Result<Piece, Flaw>
 /// The length of the main bytes in four bytes, at an offset.
 fn main_long(body: &[u8], at: usize) -> Result<Piece, Flaw>
     requires low { at < 2 ^ 31 }
-    ensures { result ≡ fixed body.now at 5 (fragments.Main (word_at (at + 1) body.now)) }
+    ensures { result ≡ fixed body.now at 5 (fragments.Main (u32_at (at + 1) body.now)) }
 {
     if body.len() < at + 5 {
         return Err(bad(at));

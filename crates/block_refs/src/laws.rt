@@ -4,6 +4,8 @@ ghost use Rattle.std.specs.Prelude.{◌≡◌, ◌↔◌, ℕ, List, ◌++◌, N
 ghost use Rattle.std.specs.List.{flat_map, slice_get};
 ghost use Rattle.block_refs.specs.declared.fault.Flaw.{Flaw};
 ghost use Rattle.block_refs.specs.declared.fragment.Placed.{Placed};
+ghost use Rattle.block_refs.specs.declared.names.BlockName.{BlockName};
+ghost use Rattle.block_refs.specs.Order.{block_cmp, compared};
 ghost use Rattle.block_refs.specs.Parts.{PartsView, parts_of};
 ghost use Rattle.block_refs.specs.Spelling.{HasParts, IsFirstFlaw, IdsRise};
 ghost use Rattle.block_refs.specs.Bytes.{block_with, block_part, main_bytes};
@@ -36,4 +38,9 @@ pub fn ids_rise()
     ensures named { (body : List ℕ) (parts : PartsView) (at : ℕ) (placed : Placed) →
         HasParts body parts → slice_get parts.blocks at ≡ Some placed →
         block_with placed.block.id parts.blocks ≡ Some placed }
+{}
+
+/// Blocks are ordered by tablespace, database, relation, fork and number.
+pub fn blocks_are_ordered()
+    ensures { (a b : BlockName) → compared a b ≡ block_cmp a b }
 {}

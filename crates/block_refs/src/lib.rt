@@ -15,7 +15,7 @@ mod split;
 
 pub use block_ref::{BlockRef, ImageRef};
 pub use fault::PartsFault;
-pub use laws::{bodies_have_one_reading, ids_rise, parts_fill_a_body};
+pub use laws::{blocks_are_ordered, bodies_have_one_reading, ids_rise, parts_fill_a_body};
 pub use names::{BlockName, Fork, RelName};
 pub use page::image_page;
 pub use parts::Parts;

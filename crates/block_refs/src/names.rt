@@ -1,13 +1,13 @@
 //! Names of relations, of their forks and blocks.
 
-ghost use Rattle.std.specs.Prelude.{◌≡◌};
-ghost use Rattle.block_refs.specs.Names.{fork_name, fork_of};
+ghost use Rattle.std.specs.Prelude.{◌≡◌, ◌≤◌, ◌↔◌, IsSome, IfSome};
+ghost use Rattle.block_refs.specs.Names.{fork_name, fork_number, fork_of};
 
 use std::fmt;
 
 /// A relation by its files (`RelFileLocator`). It shows as its tablespace, its database and its
 /// number, as `1663/5/16384`.
-#[derive(Clone, Copy, Debug, PartialEq, Eq)]
+#[derive(Clone, Copy, Debug, PartialEq, Eq, PartialOrd, Ord)]
 pub struct RelName {
     /// Its tablespace (`spcOid`).
     pub space: u32,
@@ -34,7 +34,7 @@ impl fmt::Display for RelName {
 }
 
 /// A fork of a relation (`ForkNumber`).
-#[derive(Clone, Copy, Debug, PartialEq, Eq)]
+#[derive(Clone, Copy, Debug, PartialEq, Eq, PartialOrd, Ord)]
 pub enum Fork {
     /// The relation's own blocks.
     Main,
@@ -47,10 +47,14 @@ pub enum Fork {
 }
 
 impl Fork {
-    /// The fork of a number, or `None` above 3.
+    ghost use Rattle.std.specs.Prelude.{Some};
+
+    /// The fork of a number (`ForkNumber`), or `None` above 3.
     #[tactic(auto, unfolding(crate::specs::Names::fork_of))]
-    pub(crate) fn from_number(number: u8) -> Option<Fork>
-        ensures { result ≡ fork_of number }
+    pub fn from_number(number: u8) -> Option<Fork>
+        ensures exact { result ≡ fork_of number }
+        ensures known { IsSome result ↔ (number ≤ 3) }
+        ensures value { IfSome result (λ fork. fork_number fork ≡ number) }
     {
         match number {
             0 => Some(Fork::Main),
@@ -58,6 +62,20 @@ impl Fork {
             2 => Some(Fork::Visibility),
             3 => Some(Fork::Init),
             _ => None,
+        }
+    }
+
+    /// Its number (`ForkNumber`), from 0 to 3.
+    #[tactic(auto, unfolding(crate::specs::Names::fork_of))]
+    pub fn number(self) -> u8
+        ensures value { result ≡ fork_number self }
+        ensures again { fork_of result ≡ Some self }
+    {
+        match self {
+            Fork::Main => 0,
+            Fork::FreeSpace => 1,
+            Fork::Visibility => 2,
+            Fork::Init => 3,
         }
     }
 
@@ -74,8 +92,9 @@ impl Fork {
     }
 }
 
-/// A block of a relation.
-#[derive(Clone, Copy, Debug, PartialEq, Eq)]
+/// A block of a relation. Blocks are ordered by tablespace, database, relation, fork and number. It
+/// shows as its relation, the name of its fork and its number, as `1663/5/16384 main 0`.
+#[derive(Clone, Copy, Debug, PartialEq, Eq, PartialOrd, Ord)]
 pub struct BlockName {
     /// The relation.
     pub rel: RelName,
@@ -83,4 +102,17 @@ pub struct BlockName {
     pub fork: Fork,
     /// Its number in that fork, from 0.
     pub block: u32,
+}
+
+impl fmt::Display for BlockName {
+    ghost use Rattle.std.specs.Prelude.{Some};
+    ghost use Rattle.block_refs.specs.Names.{block_text};
+
+    ghost output = { λ name. Some (block_text name) };
+
+    fn fmt<W: fmt::Write>(&self, f: &mut fmt::Formatter<W>) -> fmt::Result {
+        let BlockName { rel, fork, block } = *self;
+        let fork = fork.name();
+        write!(f, "{rel} {fork} {block}")
+    }
 }

@@ -1,26 +1,29 @@
 //! Full-page images as pages.
 
 ghost use Rattle.std.specs.Prelude.{◌≡◌, ◌≤◌, ◌+◌, ◌++◌, drop, length, replicate, is_some, IfSome};
-ghost use Rattle.block_refs.specs.Bytes.{laid_over, filled, page_of, overwritten};
+ghost use Rattle.block_refs.specs.Bytes.{filled, page_of, overwritten};
 ghost use Rattle.block_refs.specs.Parts.{ArePartsOf};
+ghost use Rattle.layout.specs.Splice.{splice};
 
 use crate::block_ref::ImageRef;
 use crate::parts::Parts;
 use wal_records::Record;
 
 /// Lays bytes over others from an offset on.
+#[tactic(auto, unfolding(layout::specs::Splice::splice))]
 fn put(into: &mut [u8], at: usize, bytes: &[u8])
     requires { at + length bytes.now ≤ length into.old }
-    ensures { into.new ≡ laid_over at bytes.now into.old }
+    ensures { into.new ≡ splice into.old at bytes.now }
 {
     let end = at + bytes.len();
     into[at..end].copy_from_slice(bytes);
 }
 
 /// Lays so many zeros over bytes from an offset on.
+#[tactic(auto, unfolding(layout::specs::Splice::splice))]
 fn clear(into: &mut [u8], at: usize, size: usize)
     requires { at + size ≤ length into.old }
-    ensures { into.new ≡ laid_over at (replicate size 0) into.old }
+    ensures { into.new ≡ splice into.old at (replicate size 0) }
 {
     let end = at + size;
     into[at..end].fill(0);

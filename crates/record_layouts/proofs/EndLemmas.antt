@@ -5,7 +5,7 @@ use Rattle.std.specs.List.{AllByRecursion, list_any, position, position_or_len}
 use Rattle.std.proofs.lemmas.Bool.{lt-ltb}
 use Rattle.std.proofs.lemmas.List.{drop_at, take_at}
 use Rattle.layout.specs.declared.value.Value.TheVariants.{Word, Long, Signed}
-use Rattle.layout.specs.Readers.{word_at}
+use Rattle.layout.specs.Readers.{u32_at}
 use Rattle.layout.specs.Writing.{value_bytes}
 use Rattle.layout.proofs.PutLemmas.{length-value_bytes}
 use Rattle.block_refs.specs.Bits.{has_bits}
@@ -34,15 +34,15 @@ three_len : (a b c : ℕ) → IsWord a → IsWord b → IsWord c → length (wor
 three_len a b c fa fb fc = omega (arith, length-append (word_bytes a) (word_bytes b ++ word_bytes c), length-append (word_bytes b) (word_bytes c), word_len a fa, word_len b fb, word_len c fc)
 
 -- a word behind others of which so many are the item's own
-word_behind : (n : ℕ) (before front after bytes : List ℕ) (at : ℕ) → IsWord n → bytes ≡ (before ++ front) ++ (word_bytes n ++ after) → length front ≡ at → word_at (length before + at) bytes ≡ n
+word_behind : (n : ℕ) (before front after bytes : List ℕ) (at : ℕ) → IsWord n → bytes ≡ (before ++ front) ++ (word_bytes n ++ after) → length front ≡ at → u32_at (length before + at) bytes ≡ n
 word_behind n before front after bytes at fits e len =
-    ap (λ (k : ℕ). word_at k bytes) (ap (λ (k : ℕ). length before + k) (sym len) ∙ sym (length-append before front))
-    ∙ ap (word_at (length (before ++ front))) e ∙ word_in n (before ++ front) after fits
+    ap (λ (k : ℕ). u32_at k bytes) (ap (λ (k : ℕ). length before + k) (sym len) ∙ sym (length-append before front))
+    ∙ ap (u32_at (length (before ++ front))) e ∙ word_in n (before ++ front) after fits
 
 record Three (a b c : ℕ) (before bytes : List ℕ) : Type 0 where
-  first : word_at (length before) bytes ≡ a
-  second : word_at (length before + 4) bytes ≡ b
-  third : word_at (length before + 8) bytes ≡ c
+  first : u32_at (length before) bytes ≡ a
+  second : u32_at (length before + 4) bytes ≡ b
+  third : u32_at (length before + 8) bytes ≡ c
 
 three_in : (a b c : ℕ) (before after : List ℕ) → IsWord a → IsWord b → IsWord c → Three a b c before (before ++ ((word_bytes a ++ (word_bytes b ++ word_bytes c)) ++ after))
 three_in a b c before after fa fb fc =
@@ -52,13 +52,13 @@ three_in a b c before after fa fb fc =
     let e2 : bytes ≡ (before ++ (word_bytes a ++ word_bytes b)) ++ (word_bytes c ++ after) = simp append_assoc in
     let eight : length (word_bytes a ++ word_bytes b) ≡ 8 = omega (arith, length-append (word_bytes a) (word_bytes b), word_len a fa, word_len b fb) in
     record {
-      first = ap (word_at (length before)) e0 ∙ word_in a before ((word_bytes b ++ word_bytes c) ++ after) fa;
+      first = ap (u32_at (length before)) e0 ∙ word_in a before ((word_bytes b ++ word_bytes c) ++ after) fa;
       second = word_behind b before (word_bytes a) (word_bytes c ++ after) bytes 4 fb e1 (word_len a fa);
       third = word_behind c before (word_bytes a ++ word_bytes b) after bytes 8 fc e2 eight;
     }
 
 -- each kind of item
-word_written : (n : ℕ) → IsWord n → Writes 4 word_at word_bytes n
+word_written : (n : ℕ) → IsWord n → Writes 4 u32_at word_bytes n
 word_written n fits = record { len = word_len n fits; again = λ before after. word_in n before after fits }
 
 rel_written : (rel : RelName) → IsRel rel → Writes 12 relation rel_bytes rel
@@ -170,7 +170,7 @@ end_again outcome end rest is =
     rw (signed_again end.time r2 is.time) (
     rw (word_again end.xinfo r3 is.xinfo) (
     rw (there_by (has_bits end.xinfo 0x01) IsDatabase database database_bytes end.database r4 is.database.flag is.database.it (λ x it. database_again x r4 it)) (
-    rw (listed_again end.xinfo 0x02 4 word_at word_bytes IsWord end.subxacts r5 word_written is.subxacts) (
+    rw (listed_again end.xinfo 0x02 4 u32_at word_bytes IsWord end.subxacts r5 word_written is.subxacts) (
     rw (listed_again end.xinfo 0x04 12 relation rel_bytes IsRel end.dropped r6 rel_written is.dropped) (
     rw (listed_again end.xinfo 0x100 12 stats_item stats_bytes IsStats end.stats r7 stats_written is.stats) (
     rw (messages_again outcome end.xinfo end.messages r8 is.messages) (

@@ -9,10 +9,11 @@ use Rattle.std.proofs.lemmas.List.{get_or_append_left, get_or-append_right}
 use Rattle.std.proofs.lemmas.Bool.Decides.{nat_tests}
 use Rattle.layout.specs.declared.value.Value.{Value}
 use Rattle.layout.specs.declared.value.Value.TheVariants.{Byte, Half, Word, Long, Signed, Raw}
-use Rattle.layout.specs.Readers.{word_at, long_at, signed_at, value_at}
+use Rattle.layout.specs.Readers.{u32_at, u64_at, i64_at, value_at}
 use Rattle.layout.specs.Values.{ValueFits, number, width}
 use Rattle.layout.specs.Writing.{value_bytes}
-use Rattle.layout.proofs.PutLemmas.{Stands, value_again, length-value_bytes}
+use Rattle.layout.proofs.PutLemmas.{value_again, length-value_bytes}
+use Rattle.layout.proofs.SpliceLemmas.{Stands}
 use Rattle.record_layouts.specs.Fields.{taken, word, long, signed, count}
 use Rattle.record_layouts.specs.Items.{items, item_list}
 use Rattle.record_layouts.specs.Spelling.{word_bytes, list_bytes}
@@ -35,10 +36,10 @@ value_in v before after fits =
     let room : length before + width v ≤ length (before ++ (value_bytes v ++ after)) = omega (arith, length-append before (value_bytes v ++ after), length-append (value_bytes v) after, length-value_bytes v fits) in
     value_again v (length before) (before ++ (value_bytes v ++ after)) fits room (stands_in v before after)
 
-pub word_in : (n : ℕ) (before after : List ℕ) → n < 2 ^ 32 → word_at (length before) (before ++ (word_bytes n ++ after)) ≡ n
+pub word_in : (n : ℕ) (before after : List ℕ) → n < 2 ^ 32 → u32_at (length before) (before ++ (word_bytes n ++ after)) ≡ n
 word_in n before after fits = ap number (value_in (Word n) before after fits)
 
-long_in : (n : ℕ) (after : List ℕ) → n < 2 ^ 64 → long_at 0 (value_bytes (Long n) ++ after) ≡ n
+long_in : (n : ℕ) (after : List ℕ) → n < 2 ^ 64 → u64_at 0 (value_bytes (Long n) ++ after) ≡ n
 long_in n after fits = ap number (value_in (Long n) [] after fits)
 
 signed_of : Value → ℤ
@@ -49,22 +50,22 @@ signed_of (Word n) = pos n
 signed_of (Long n) = pos n
 signed_of (Raw bytes) = pos 0
 
-signed_in : (z : ℤ) (after : List ℕ) → ValueFits (Signed z) → signed_at 0 (value_bytes (Signed z) ++ after) ≡ z
+signed_in : (z : ℤ) (after : List ℕ) → ValueFits (Signed z) → i64_at 0 (value_bytes (Signed z) ++ after) ≡ z
 unfolding signed_of
 signed_in z after fits = ap signed_of (value_in (Signed z) [] after fits)
 
 -- numbers from the front
 pub word_again : (n : ℕ) (rest : List ℕ) → n < 2 ^ 32 → word (word_bytes n ++ rest) ≡ Some record { value = n; rest = rest }
 unfolding word
-word_again n rest fits = taken_again 4 (word_bytes n) rest (word_at 0 (word_bytes n ++ rest)) n (length-value_bytes (Word n) fits) (word_in n [] rest fits)
+word_again n rest fits = taken_again 4 (word_bytes n) rest (u32_at 0 (word_bytes n ++ rest)) n (length-value_bytes (Word n) fits) (word_in n [] rest fits)
 
 pub long_again : (n : ℕ) (rest : List ℕ) → n < 2 ^ 64 → long (value_bytes (Long n) ++ rest) ≡ Some record { value = n; rest = rest }
 unfolding long
-long_again n rest fits = taken_again 8 (value_bytes (Long n)) rest (long_at 0 (value_bytes (Long n) ++ rest)) n (length-value_bytes (Long n) fits) (long_in n rest fits)
+long_again n rest fits = taken_again 8 (value_bytes (Long n)) rest (u64_at 0 (value_bytes (Long n) ++ rest)) n (length-value_bytes (Long n) fits) (long_in n rest fits)
 
 pub signed_again : (z : ℤ) (rest : List ℕ) → ValueFits (Signed z) → signed (value_bytes (Signed z) ++ rest) ≡ Some record { value = z; rest = rest }
 unfolding signed
-signed_again z rest fits = taken_again 8 (value_bytes (Signed z)) rest (signed_at 0 (value_bytes (Signed z) ++ rest)) z (length-value_bytes (Signed z) fits) (signed_in z rest fits)
+signed_again z rest fits = taken_again 8 (value_bytes (Signed z)) rest (i64_at 0 (value_bytes (Signed z) ++ rest)) z (length-value_bytes (Signed z) fits) (signed_in z rest fits)
 
 pub count_again : (n : ℕ) (rest : List ℕ) → n < 2 ^ 31 → count (word_bytes n ++ rest) ≡ Some record { value = n; rest = rest }
 unfolding count

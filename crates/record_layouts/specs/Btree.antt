@@ -1,6 +1,6 @@
 -- The manager Btree: PostgreSQL 16, src/include/access/nbtxlog.h.
 use Rattle.std.specs.Prelude.{ℕ, List, ◌==◌, bit_and, if◌then◌else◌, Option, slice_get}
-use Rattle.layout.specs.Readers.{half_at, word_at}
+use Rattle.layout.specs.Readers.{u16_at, u32_at}
 use Rattle.record_layouts.specs.Fields.{whole}
 use Rattle.record_layouts.specs.declared.btree.BtreeOp.{BtreeOp}
 use Rattle.record_layouts.specs.declared.btree.BtreeOp.TheVariants as op
@@ -38,43 +38,43 @@ btree_op_of info = btree_op_numbered (bit_and info 0xF0)
 -- INSERT_LEAF, INSERT_UPPER, INSERT_META and INSERT_POST: xl_btree_insert
 abbrev pub btree_insert_of : List ℕ → Option BtreeInsert
 btree_insert_of bytes = whole 2 bytes record {
-  off = half_at 0 bytes;
+  off = u16_at 0 bytes;
 }
 
 -- SPLIT_L and SPLIT_R: xl_btree_split
 abbrev pub btree_split_of : List ℕ → Option BtreeSplit
 btree_split_of bytes = whole 10 bytes record {
-  level = word_at 0 bytes;
-  first_right = half_at 4 bytes;
-  new_item = half_at 6 bytes;
-  posting = half_at 8 bytes;
+  level = u32_at 0 bytes;
+  first_right = u16_at 4 bytes;
+  new_item = u16_at 6 bytes;
+  posting = u16_at 8 bytes;
 }
 
 -- DEDUP: xl_btree_dedup
 abbrev pub btree_dedup_of : List ℕ → Option BtreeDedup
 btree_dedup_of bytes = whole 2 bytes record {
-  nintervals = half_at 0 bytes;
+  nintervals = u16_at 0 bytes;
 }
 
 -- DELETE: xl_btree_delete, whose last byte may be missing
 abbrev pub btree_delete_of : List ℕ → Option BtreeDelete
 btree_delete_of bytes = whole 8 bytes record {
-  horizon = word_at 0 bytes;
-  ndeleted = half_at 4 bytes;
-  nupdated = half_at 6 bytes;
+  horizon = u32_at 0 bytes;
+  ndeleted = u16_at 4 bytes;
+  nupdated = u16_at 6 bytes;
   catalog = slice_get bytes 8;
 }
 
 -- VACUUM: xl_btree_vacuum
 abbrev pub btree_vacuum_of : List ℕ → Option BtreeVacuum
 btree_vacuum_of bytes = whole 4 bytes record {
-  ndeleted = half_at 0 bytes;
-  nupdated = half_at 2 bytes;
+  ndeleted = u16_at 0 bytes;
+  nupdated = u16_at 2 bytes;
 }
 
 -- NEWROOT: xl_btree_newroot
 abbrev pub btree_new_root_of : List ℕ → Option BtreeNewRoot
 btree_new_root_of bytes = whole 8 bytes record {
-  root = word_at 0 bytes;
-  level = word_at 4 bytes;
+  root = u32_at 0 bytes;
+  level = u32_at 4 bytes;
 }

@@ -1,6 +1,6 @@
 -- The manager CLOG: PostgreSQL 16, src/include/access/clog.h.
 use Rattle.std.specs.Prelude.{ℕ, List, ◌==◌, bit_and, if◌then◌else◌, Option}
-use Rattle.layout.specs.Readers.{word_at}
+use Rattle.layout.specs.Readers.{u32_at}
 use Rattle.record_layouts.specs.Fields.{whole}
 use Rattle.record_layouts.specs.declared.clog.ClogOp.{ClogOp}
 use Rattle.record_layouts.specs.declared.clog.ClogOp.TheVariants as op
@@ -21,13 +21,13 @@ clog_op_of info = clog_op_numbered (bit_and info 0xF0)
 -- ZEROPAGE, in src/backend/access/transam/clog.c
 abbrev pub clog_zero_page_of : List ℕ → Option ClogZeroPage
 clog_zero_page_of bytes = whole 4 bytes record {
-  page = word_at 0 bytes;
+  page = u32_at 0 bytes;
 }
 
 -- TRUNCATE: xl_clog_truncate
 abbrev pub clog_truncate_of : List ℕ → Option ClogTruncate
 clog_truncate_of bytes = whole 12 bytes record {
-  page = word_at 0 bytes;
-  oldest_xid = word_at 4 bytes;
-  oldest_xid_db = word_at 8 bytes;
+  page = u32_at 0 bytes;
+  oldest_xid = u32_at 4 bytes;
+  oldest_xid_db = u32_at 8 bytes;
 }

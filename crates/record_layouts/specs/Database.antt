@@ -1,6 +1,6 @@
 -- The manager Database: PostgreSQL 16, src/include/commands/dbcommands_xlog.h.
 use Rattle.std.specs.Prelude.{ℕ, List, ◌==◌, bit_and, if◌then◌else◌, Option, None, Some, []}
-use Rattle.layout.specs.Readers.{word_at}
+use Rattle.layout.specs.Readers.{u32_at}
 use Rattle.record_layouts.specs.Fields.{whole, word_if, given, given_or, word}
 use Rattle.record_layouts.specs.Items.{item_list, item_prefix}
 use Rattle.record_layouts.specs.declared.database.DatabaseDrop.{DatabaseDrop}
@@ -28,7 +28,7 @@ database_op_of info = database_op_numbered (bit_and info 0xF0)
 abbrev pub database_drop_of : List ℕ → Option DatabaseDrop
 database_drop_of bytes =
     given (word bytes) (λ database rest.
-    given (item_list 4 word_at rest) (λ spaces rest.
+    given (item_list 4 u32_at rest) (λ spaces rest.
     Some record { database = database; spaces = spaces }))
 
 -- what is there of the three, also where they are not whole
@@ -46,20 +46,20 @@ create_prefix_of bytes = record { database = word_if 0 bytes; space = word_if 4 
 abbrev pub drop_prefix_of : List ℕ → DatabaseDropPrefix
 drop_prefix_of bytes =
     given_or record { database = None; spaces = [] } (word bytes) (λ database rest.
-    record { database = Some database; spaces = item_prefix 4 word_at rest })
+    record { database = Some database; spaces = item_prefix 4 u32_at rest })
 
 -- CREATE_FILE_COPY: xl_dbase_create_file_copy_rec
 abbrev pub database_copy_of : List ℕ → Option DatabaseCopy
 database_copy_of bytes = whole 16 bytes record {
-  database = word_at 0 bytes;
-  space = word_at 4 bytes;
-  from_database = word_at 8 bytes;
-  from_space = word_at 12 bytes;
+  database = u32_at 0 bytes;
+  space = u32_at 4 bytes;
+  from_database = u32_at 8 bytes;
+  from_space = u32_at 12 bytes;
 }
 
 -- CREATE_WAL_LOG: xl_dbase_create_wal_log_rec
 abbrev pub database_create_of : List ℕ → Option DatabaseCreate
 database_create_of bytes = whole 8 bytes record {
-  database = word_at 0 bytes;
-  space = word_at 4 bytes;
+  database = u32_at 0 bytes;
+  space = u32_at 4 bytes;
 }

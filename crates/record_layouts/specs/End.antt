@@ -1,6 +1,6 @@
 -- A commit or an abort: PostgreSQL 16, src/backend/access/rmgrdesc/xactdesc.c, ParseCommitRecord and ParseAbortRecord.
 use Rattle.std.specs.Prelude.{ℕ, Bool, List, [], Option, Some, None, if◌then◌else◌}
-use Rattle.layout.specs.Readers.{word_at}
+use Rattle.layout.specs.Readers.{u32_at}
 use Rattle.block_refs.specs.Bits.{has_bits}
 use Rattle.block_refs.specs.declared.names.RelName.{RelName}
 use Rattle.record_layouts.specs.declared.bytes.Read.{Read}
@@ -16,7 +16,7 @@ end_of outcome has_xinfo bytes =
     given (signed bytes) (λ time rest.
     given (xinfo_part has_xinfo rest) (λ xinfo rest.
     given (part xinfo 0x01 None (database rest) rest) (λ database rest.
-    given (part xinfo 0x02 [] (item_list 4 word_at rest) rest) (λ subxacts rest.
+    given (part xinfo 0x02 [] (item_list 4 u32_at rest) rest) (λ subxacts rest.
     given (part xinfo 0x04 [] (item_list 12 relation rest) rest) (λ dropped rest.
     given (part xinfo 0x100 [] (item_list 12 stats_item rest) rest) (λ stats rest.
     given (messages_part outcome xinfo rest) (λ messages rest.
@@ -40,7 +40,7 @@ before_dropped has_xinfo bytes =
     given (signed bytes) (λ time rest.
     given (xinfo_part has_xinfo rest) (λ xinfo rest.
     given (part xinfo 0x01 None (database rest) rest) (λ database rest.
-    given (part xinfo 0x02 [] (item_list 4 word_at rest) rest) (λ subxacts rest.
+    given (part xinfo 0x02 [] (item_list 4 u32_at rest) rest) (λ subxacts rest.
     Some record { value = xinfo; rest = rest }))))
 
 -- those that are there

@@ -3,7 +3,7 @@ use Rattle.std.specs.Prelude.{ℕ, ◌+◌, ◌==◌, ℤ, Bool, List, length, t
 use Rattle.std.specs.Int.{w32, cast_signed}
 use Rattle.std.specs.List.{position}
 use Rattle.wal_base.specs.declared.lsn.Lsn.{Lsn}
-use Rattle.layout.specs.Readers.{word_at, long_at, signed_at}
+use Rattle.layout.specs.Readers.{u32_at, u64_at, i64_at}
 use Rattle.block_refs.specs.declared.names.RelName.{RelName}
 use Rattle.block_refs.specs.Header.{relation_at}
 use Rattle.record_layouts.specs.declared.bytes.Read.{Read}
@@ -14,10 +14,10 @@ whole size bytes value = if nat_lt (length bytes) size then None else Some value
 
 -- at an offset: a signed number of four bytes, a position of the log, a relation
 unfoldable pub int_at : ℕ → List ℕ → ℤ
-int_at at bytes = cast_signed w32 (word_at at bytes)
+int_at at bytes = cast_signed w32 (u32_at at bytes)
 
 abbrev pub lsn_at : ℕ → List ℕ → Lsn
-lsn_at at bytes = record { 0 = long_at at bytes }
+lsn_at at bytes = record { 0 = u64_at at bytes }
 
 abbrev pub relation : ℕ → List ℕ → RelName
 relation at bytes = relation_at bytes at
@@ -27,16 +27,16 @@ abbrev pub byte_if : ℕ → List ℕ → Option ℕ
 byte_if at bytes = slice_get bytes at
 
 abbrev pub word_if : ℕ → List ℕ → Option ℕ
-word_if at bytes = whole (at + 4) bytes (word_at at bytes)
+word_if at bytes = whole (at + 4) bytes (u32_at at bytes)
 
 abbrev pub int_if : ℕ → List ℕ → Option ℤ
 int_if at bytes = whole (at + 4) bytes (int_at at bytes)
 
 abbrev pub long_if : ℕ → List ℕ → Option ℕ
-long_if at bytes = whole (at + 8) bytes (long_at at bytes)
+long_if at bytes = whole (at + 8) bytes (u64_at at bytes)
 
 abbrev pub signed_if : ℕ → List ℕ → Option ℤ
-signed_if at bytes = whole (at + 8) bytes (signed_at at bytes)
+signed_if at bytes = whole (at + 8) bytes (i64_at at bytes)
 
 abbrev pub relation_if : ℕ → List ℕ → Option RelName
 relation_if at bytes = whole (at + 12) bytes (relation at bytes)
@@ -57,13 +57,13 @@ taken size bytes value = whole size bytes record { value = value; rest = drop si
 
 -- a number of four bytes, of eight, and a signed one of eight
 unfoldable pub word : List ℕ → Option (Read ℕ)
-word bytes = taken 4 bytes (word_at 0 bytes)
+word bytes = taken 4 bytes (u32_at 0 bytes)
 
 unfoldable pub long : List ℕ → Option (Read ℕ)
-long bytes = taken 8 bytes (long_at 0 bytes)
+long bytes = taken 8 bytes (u64_at 0 bytes)
 
 unfoldable pub signed : List ℕ → Option (Read ℤ)
-signed bytes = taken 8 bytes (signed_at 0 bytes)
+signed bytes = taken 8 bytes (i64_at 0 bytes)
 
 -- how many of something follow: a signed number of four bytes that is not negative
 abbrev pub if_not_negative : ℕ → List ℕ → Option (Read ℕ)

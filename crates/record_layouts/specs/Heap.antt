@@ -1,6 +1,6 @@
 -- The manager Heap: PostgreSQL 16, src/include/access/heapam_xlog.h.
 use Rattle.std.specs.Prelude.{ℕ, List, ◌==◌, bit_and, if◌then◌else◌, Option, Bool}
-use Rattle.layout.specs.Readers.{byte_at, half_at, word_at}
+use Rattle.layout.specs.Readers.{u8_at, u16_at, u32_at}
 use Rattle.record_layouts.specs.Fields.{whole}
 use Rattle.block_refs.specs.Bits.{has_bits}
 use Rattle.record_layouts.specs.declared.heap.HeapOp.{HeapOp}
@@ -32,54 +32,54 @@ heap_op_of info = heap_op_numbered (has_bits info 0x80) (bit_and info 0x70)
 -- INSERT: xl_heap_insert
 abbrev pub heap_insert_of : List ℕ → Option HeapInsert
 heap_insert_of bytes = whole 3 bytes record {
-  off = half_at 0 bytes;
-  flags = byte_at 2 bytes;
+  off = u16_at 0 bytes;
+  flags = u8_at 2 bytes;
 }
 
 -- DELETE: xl_heap_delete
 abbrev pub heap_delete_of : List ℕ → Option HeapDelete
 heap_delete_of bytes = whole 8 bytes record {
-  xmax = word_at 0 bytes;
-  off = half_at 4 bytes;
-  infobits = byte_at 6 bytes;
-  flags = byte_at 7 bytes;
+  xmax = u32_at 0 bytes;
+  off = u16_at 4 bytes;
+  infobits = u8_at 6 bytes;
+  flags = u8_at 7 bytes;
 }
 
 -- UPDATE and HOT_UPDATE: xl_heap_update
 abbrev pub heap_update_of : List ℕ → Option HeapUpdate
 heap_update_of bytes = whole 14 bytes record {
-  old_xmax = word_at 0 bytes;
-  old_off = half_at 4 bytes;
-  old_infobits = byte_at 6 bytes;
-  flags = byte_at 7 bytes;
-  new_xmax = word_at 8 bytes;
-  new_off = half_at 12 bytes;
+  old_xmax = u32_at 0 bytes;
+  old_off = u16_at 4 bytes;
+  old_infobits = u8_at 6 bytes;
+  flags = u8_at 7 bytes;
+  new_xmax = u32_at 8 bytes;
+  new_off = u16_at 12 bytes;
 }
 
 -- TRUNCATE: xl_heap_truncate, but for its flags and relations
 abbrev pub heap_truncate_of : List ℕ → Option HeapTruncate
 heap_truncate_of bytes = whole 8 bytes record {
-  database = word_at 0 bytes;
-  nrelids = word_at 4 bytes;
+  database = u32_at 0 bytes;
+  nrelids = u32_at 4 bytes;
 }
 
 -- CONFIRM: xl_heap_confirm
 abbrev pub heap_confirm_of : List ℕ → Option HeapConfirm
 heap_confirm_of bytes = whole 2 bytes record {
-  off = half_at 0 bytes;
+  off = u16_at 0 bytes;
 }
 
 -- LOCK, and LOCK_UPDATED of the second manager: xl_heap_lock and xl_heap_lock_updated
 abbrev pub heap_lock_of : List ℕ → Option HeapLock
 heap_lock_of bytes = whole 8 bytes record {
-  xmax = word_at 0 bytes;
-  off = half_at 4 bytes;
-  infobits = byte_at 6 bytes;
-  flags = byte_at 7 bytes;
+  xmax = u32_at 0 bytes;
+  off = u16_at 4 bytes;
+  infobits = u8_at 6 bytes;
+  flags = u8_at 7 bytes;
 }
 
 -- INPLACE: xl_heap_inplace
 abbrev pub heap_inplace_of : List ℕ → Option HeapInplace
 heap_inplace_of bytes = whole 2 bytes record {
-  off = half_at 0 bytes;
+  off = u16_at 0 bytes;
 }

@@ -1,6 +1,6 @@
 -- The manager Heap2: PostgreSQL 16, src/include/access/heapam_xlog.h.
 use Rattle.std.specs.Prelude.{ℕ, List, ◌==◌, bit_and, if◌then◌else◌, Option, slice_get, Bool, nat_lt, length, drop, None, option_map}
-use Rattle.layout.specs.Readers.{byte_at, half_at, word_at}
+use Rattle.layout.specs.Readers.{u8_at, u16_at, u32_at}
 use Rattle.record_layouts.specs.Fields.{whole}
 use Rattle.block_refs.specs.Bits.{has_bits}
 use Rattle.record_layouts.specs.Items.{places_of}
@@ -30,39 +30,39 @@ heap2_op_of info = heap2_op_numbered (has_bits info 0x80) (bit_and info 0x70)
 
 -- MULTI_INSERT: xl_heap_multi_insert, flags, an unused byte, the number of tuples, and their places
 abbrev pub multi_insert_with : List ℕ → List ℕ → HeapMultiInsert
-multi_insert_with bytes places = record { flags = byte_at 0 bytes; places = places }
+multi_insert_with bytes places = record { flags = u8_at 0 bytes; places = places }
 
 abbrev pub multi_insert_of : Bool → List ℕ → Option HeapMultiInsert
 multi_insert_of init bytes =
     if nat_lt (length bytes) 4 then None
-    else option_map (multi_insert_with bytes) (places_of init (half_at 2 bytes) (drop 4 bytes))
+    else option_map (multi_insert_with bytes) (places_of init (u16_at 2 bytes) (drop 4 bytes))
 
 -- PRUNE: xl_heap_prune, whose last byte may be missing
 abbrev pub heap_prune_of : List ℕ → Option HeapPrune
 heap_prune_of bytes = whole 8 bytes record {
-  horizon = word_at 0 bytes;
-  nredirected = half_at 4 bytes;
-  ndead = half_at 6 bytes;
+  horizon = u32_at 0 bytes;
+  nredirected = u16_at 4 bytes;
+  ndead = u16_at 6 bytes;
   catalog = slice_get bytes 8;
 }
 
 -- VACUUM: xl_heap_vacuum
 abbrev pub heap_vacuum_of : List ℕ → Option HeapVacuum
 heap_vacuum_of bytes = whole 2 bytes record {
-  nunused = half_at 0 bytes;
+  nunused = u16_at 0 bytes;
 }
 
 -- FREEZE_PAGE: xl_heap_freeze_page, whose last byte may be missing
 abbrev pub heap_freeze_page_of : List ℕ → Option HeapFreezePage
 heap_freeze_page_of bytes = whole 6 bytes record {
-  horizon = word_at 0 bytes;
-  nplans = half_at 4 bytes;
+  horizon = u32_at 0 bytes;
+  nplans = u16_at 4 bytes;
   catalog = slice_get bytes 6;
 }
 
 -- VISIBLE: xl_heap_visible
 abbrev pub heap_visible_of : List ℕ → Option HeapVisible
 heap_visible_of bytes = whole 5 bytes record {
-  horizon = word_at 0 bytes;
-  flags = byte_at 4 bytes;
+  horizon = u32_at 0 bytes;
+  flags = u8_at 4 bytes;
 }

@@ -1,7 +1,7 @@
 -- Lists in a layout: items of one size, one behind the other.
 use Rattle.std.specs.Prelude.{ℕ, ◌+◌, ◌*◌, ◌/◌, Bool, true, false, List, [], length, take, drop, map, min, Option, if◌then◌else◌}
 use Rattle.std.specs.List.{range_with_len}
-use Rattle.layout.specs.Readers.{word_at, half_at}
+use Rattle.layout.specs.Readers.{u32_at, u16_at}
 use Rattle.record_layouts.specs.declared.bytes.Read.{Read}
 use Rattle.record_layouts.specs.declared.kinds.Member.{Member}
 use Rattle.record_layouts.specs.declared.kinds.Message.{Message}
@@ -23,11 +23,11 @@ item_prefix size item bytes =
 
 -- a member of a multixact: MultiXactMember of src/include/access/multixact.h
 abbrev pub member : ℕ → List ℕ → Member
-member at bytes = record { xid = word_at at bytes; status = word_at (at + 4) bytes }
+member at bytes = record { xid = u32_at at bytes; status = u32_at (at + 4) bytes }
 
 -- statistics that are dropped: xl_xact_stats_item of src/include/access/xact.h
 abbrev pub stats_item : ℕ → List ℕ → StatsItem
-stats_item at bytes = record { kind = word_at at bytes; database = word_at (at + 4) bytes; object = word_at (at + 8) bytes }
+stats_item at bytes = record { kind = u32_at at bytes; database = u32_at (at + 4) bytes; object = u32_at (at + 8) bytes }
 
 -- a message: SharedInvalidationMessage of src/include/storage/sinval.h, whose sixteen bytes are not looked into
 abbrev pub message : ℕ → List ℕ → Message
@@ -36,7 +36,7 @@ message at bytes = record { bytes = take 16 (drop at bytes) }
 -- so many places of tuples: 1, 2 and so on, or those that stand there
 abbrev pub listed_places : Bool → ℕ → List ℕ → List ℕ
 listed_places true n bytes = range_with_len 1 n
-listed_places false n bytes = items 2 half_at n bytes
+listed_places false n bytes = items 2 u16_at n bytes
 
 -- the same where they are there
 abbrev pub places_of : Bool → ℕ → List ℕ → Option (List ℕ)

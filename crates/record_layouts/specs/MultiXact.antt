@@ -1,6 +1,6 @@
 -- The manager MultiXact: PostgreSQL 16, src/include/access/multixact.h.
 use Rattle.std.specs.Prelude.{ℕ, List, ◌==◌, bit_and, if◌then◌else◌, Option, Some}
-use Rattle.layout.specs.Readers.{word_at}
+use Rattle.layout.specs.Readers.{u32_at}
 use Rattle.record_layouts.specs.Fields.{whole, given, word}
 use Rattle.record_layouts.specs.Items.{item_list, member}
 use Rattle.record_layouts.specs.declared.multixact.MultiXactCreate.{MultiXactCreate}
@@ -33,15 +33,15 @@ multixact_create_of bytes =
 -- ZERO_OFF_PAGE and ZERO_MEM_PAGE, in src/backend/access/transam/multixact.c
 abbrev pub multixact_zero_page_of : List ℕ → Option MultiXactZeroPage
 multixact_zero_page_of bytes = whole 4 bytes record {
-  page = word_at 0 bytes;
+  page = u32_at 0 bytes;
 }
 
 -- TRUNCATE_ID: xl_multixact_truncate
 abbrev pub multixact_truncate_of : List ℕ → Option MultiXactTruncate
 multixact_truncate_of bytes = whole 20 bytes record {
-  database = word_at 0 bytes;
-  first_multi = word_at 4 bytes;
-  end_multi = word_at 8 bytes;
-  first_offset = word_at 12 bytes;
-  end_offset = word_at 16 bytes;
+  database = u32_at 0 bytes;
+  first_multi = u32_at 4 bytes;
+  end_multi = u32_at 8 bytes;
+  first_offset = u32_at 12 bytes;
+  end_offset = u32_at 16 bytes;
 }

@@ -1,6 +1,6 @@
 -- The manager Standby: PostgreSQL 16, src/include/storage/standbydefs.h.
 use Rattle.std.specs.Prelude.{ℕ, List, ◌==◌, bit_and, if◌then◌else◌, Option}
-use Rattle.layout.specs.Readers.{byte_at, word_at}
+use Rattle.layout.specs.Readers.{u8_at, u32_at}
 use Rattle.record_layouts.specs.Fields.{int_at, whole}
 use Rattle.record_layouts.specs.declared.standby.StandbyOp.{StandbyOp}
 use Rattle.record_layouts.specs.declared.standby.StandbyOp.TheVariants as op
@@ -23,8 +23,8 @@ abbrev pub running_xacts_of : List ℕ → Option RunningXacts
 running_xacts_of bytes = whole 24 bytes record {
   count = int_at 0 bytes;
   subcount = int_at 4 bytes;
-  overflow = byte_at 8 bytes;
-  next_xid = word_at 12 bytes;
-  oldest_xid = word_at 16 bytes;
-  latest_xid = word_at 20 bytes;
+  overflow = u8_at 8 bytes;
+  next_xid = u32_at 12 bytes;
+  oldest_xid = u32_at 16 bytes;
+  latest_xid = u32_at 20 bytes;
 }

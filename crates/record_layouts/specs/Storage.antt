@@ -1,10 +1,9 @@
 -- The manager Storage: PostgreSQL 16, src/include/catalog/storage_xlog.h.
-use Rattle.std.specs.Prelude.{ℕ, List, ◌==◌, bit_and, if◌then◌else◌, Option, nat_lt, length, None, option_map, find, [], ◌∷◌}
-use Rattle.layout.specs.Readers.{word_at}
+use Rattle.std.specs.Prelude.{ℕ, List, ◌==◌, bit_and, if◌then◌else◌, Option, nat_lt, length, None, option_map}
+use Rattle.layout.specs.Readers.{u32_at}
 use Rattle.record_layouts.specs.Fields.{relation, whole, relation_if}
-use Rattle.block_refs.specs.Names.{fork_number}
+use Rattle.block_refs.specs.Names.{fork_of}
 use Rattle.block_refs.specs.declared.names.Fork.{Fork}
-use Rattle.block_refs.specs.declared.names.Fork.TheVariants.{Main, FreeSpace, Visibility, Init}
 use Rattle.block_refs.specs.declared.names.RelName.{RelName}
 use Rattle.record_layouts.specs.declared.storage.StorageCreate.{StorageCreate}
 use Rattle.record_layouts.specs.declared.storage.StorageOp.{StorageOp}
@@ -22,10 +21,6 @@ storage_op_numbered number =
 unfoldable pub storage_op_of : ℕ → StorageOp
 storage_op_of info = storage_op_numbered (bit_and info 0xF0)
 
--- the fork of a number, of which there are four
-unfoldable pub fork_numbered : ℕ → Option Fork
-fork_numbered number = find (λ fork. fork_number fork == number) (Main ∷ FreeSpace ∷ Visibility ∷ Init ∷ [])
-
 -- CREATE: xl_smgr_create, a relation and the number of a fork
 abbrev pub storage_create_with : List ℕ → Fork → StorageCreate
 storage_create_with bytes fork = record { rel = relation 0 bytes; fork = fork }
@@ -33,7 +28,7 @@ storage_create_with bytes fork = record { rel = relation 0 bytes; fork = fork }
 abbrev pub storage_create_of : List ℕ → Option StorageCreate
 storage_create_of bytes =
     if nat_lt (length bytes) 16 then None
-    else option_map (storage_create_with bytes) (fork_numbered (word_at 12 bytes))
+    else option_map (storage_create_with bytes) (fork_of (u32_at 12 bytes))
 
 -- the relation that a CREATE names, and the one that a TRUNCATE names, also where the layout isn't whole
 abbrev pub created_name_of : List ℕ → Option RelName
@@ -45,7 +40,7 @@ cut_name_of bytes = relation_if 4 bytes
 -- TRUNCATE: xl_smgr_truncate
 abbrev pub storage_truncate_of : List ℕ → Option StorageTruncate
 storage_truncate_of bytes = whole 20 bytes record {
-  blocks = word_at 0 bytes;
+  blocks = u32_at 0 bytes;
   rel = relation 4 bytes;
-  flags = word_at 16 bytes;
+  flags = u32_at 16 bytes;
 }

@@ -1,6 +1,6 @@
 -- The manager Transaction: PostgreSQL 16, src/include/access/xact.h.
 use Rattle.std.specs.Prelude.{ℕ, List, ◌==◌, bit_and, if◌then◌else◌, Option, Bool}
-use Rattle.layout.specs.Readers.{word_at}
+use Rattle.layout.specs.Readers.{u32_at}
 use Rattle.record_layouts.specs.Fields.{whole}
 use Rattle.block_refs.specs.Bits.{has_bits}
 use Rattle.record_layouts.specs.declared.transaction.TransactionOp.{TransactionOp}
@@ -26,5 +26,5 @@ transaction_op_of info = transaction_op_numbered (has_bits info 0x80) (bit_and i
 -- ASSIGNMENT: xl_xact_assignment, but for the transactions behind it
 abbrev pub assignment_of : List ℕ → Option Assignment
 assignment_of bytes = whole 4 bytes record {
-  top = word_at 0 bytes;
+  top = u32_at 0 bytes;
 }

@@ -1,6 +1,6 @@
 -- The manager XLOG: PostgreSQL 16, src/include/catalog/pg_control.h, XLOG_..; src/include/access/xlog_internal.h.
 use Rattle.std.specs.Prelude.{ℕ, List, ◌==◌, bit_and, if◌then◌else◌, Option, slice_range}
-use Rattle.layout.specs.Readers.{byte_at, word_at, signed_at}
+use Rattle.layout.specs.Readers.{u8_at, u32_at, i64_at}
 use Rattle.record_layouts.specs.Fields.{int_at, lsn_at, whole}
 use Rattle.record_layouts.specs.declared.xlog.RestorePoint.{RestorePoint}
 use Rattle.record_layouts.specs.declared.xlog.XlogOp.{XlogOp}
@@ -37,14 +37,14 @@ xlog_op_of info = xlog_op_numbered (bit_and info 0xF0)
 -- RESTORE_POINT: xl_restore_point, whose name has MAXFNAMELEN bytes, 64
 abbrev pub restore_point_of : List ℕ → Option RestorePoint
 restore_point_of bytes = whole 72 bytes record {
-  time = signed_at 0 bytes;
+  time = i64_at 0 bytes;
   name = slice_range bytes 8 72;
 }
 
 -- NEXTOID, in src/backend/access/transam/xlog.c
 abbrev pub next_oid_of : List ℕ → Option NextOid
 next_oid_of bytes = whole 4 bytes record {
-  oid = word_at 0 bytes;
+  oid = u32_at 0 bytes;
 }
 
 -- BACKUP_END, in src/backend/access/transam/xlog.c
@@ -62,27 +62,27 @@ parameter_change_of bytes = whole 26 bytes record {
   max_prepared = int_at 12 bytes;
   max_locks = int_at 16 bytes;
   wal_level = int_at 20 bytes;
-  wal_log_hints = byte_at 24 bytes;
-  track_commit_ts = byte_at 25 bytes;
+  wal_log_hints = u8_at 24 bytes;
+  track_commit_ts = u8_at 25 bytes;
 }
 
 -- FPW_CHANGE, in src/backend/access/transam/xlog.c
 abbrev pub fpw_change_of : List ℕ → Option FpwChange
 fpw_change_of bytes = whole 1 bytes record {
-  fpw = byte_at 0 bytes;
+  fpw = u8_at 0 bytes;
 }
 
 -- END_OF_RECOVERY: xl_end_of_recovery
 abbrev pub end_of_recovery_of : List ℕ → Option EndOfRecovery
 end_of_recovery_of bytes = whole 16 bytes record {
-  time = signed_at 0 bytes;
-  tli = word_at 8 bytes;
-  prev_tli = word_at 12 bytes;
+  time = i64_at 0 bytes;
+  tli = u32_at 8 bytes;
+  prev_tli = u32_at 12 bytes;
 }
 
 -- OVERWRITE_CONTRECORD: xl_overwrite_contrecord
 abbrev pub overwrite_contrecord_of : List ℕ → Option OverwriteContrecord
 overwrite_contrecord_of bytes = whole 16 bytes record {
   lsn = lsn_at 0 bytes;
-  time = signed_at 8 bytes;
+  time = i64_at 8 bytes;
 }

@@ -33,11 +33,11 @@ pub struct Message {
 }
 
 impl Item for u32 {
-    ghost use Rattle.layout.specs.Readers.{word_at};
+    ghost use Rattle.layout.specs.Readers.{u32_at};
 
     ghost width = { 4 };
 
-    ghost item = { word_at };
+    ghost item = { u32_at };
 
     fn size() -> usize {
         4

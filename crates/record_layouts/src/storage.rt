@@ -1,7 +1,8 @@
 //! Operations of the manager Storage, and their layouts.
 
 ghost use Rattle.std.specs.Prelude.{◌≡◌};
-ghost use Rattle.record_layouts.specs.Storage.{storage_truncate_of, storage_op_of, fork_numbered, storage_create_of, created_name_of, cut_name_of};
+ghost use Rattle.block_refs.specs.Names.{fork_of};
+ghost use Rattle.record_layouts.specs.Storage.{storage_truncate_of, storage_op_of, storage_create_of, created_name_of, cut_name_of};
 
 use crate::fields::{relation_at, relation_if};
 use block_refs::{Fork, RelName};
@@ -32,18 +33,15 @@ impl StorageOp {
     }
 }
 
-/// The fork of a number, or `None` above 3.
-#[tactic(auto, unfolding(crate::specs::Storage::fork_numbered))]
-fn fork_numbered(number: u32) -> Option<Fork>
-    ensures { result ≡ fork_numbered number }
+/// The fork of a number of four bytes, or `None` above 3.
+#[tactic(auto, unfolding(block_refs::specs::Names::fork_of))]
+fn fork_of(number: u32) -> Option<Fork>
+    ensures { result ≡ fork_of number }
 {
-    match number {
-        0 => Some(Fork::Main),
-        1 => Some(Fork::FreeSpace),
-        2 => Some(Fork::Visibility),
-        3 => Some(Fork::Init),
-        _ => None,
+    if number > 3 {
+        return None;
     }
+    Fork::from_number(number as u8)
 }
 
 /// What CREATE says (`xl_smgr_create`).
@@ -65,7 +63,7 @@ impl StorageCreate {
             return None;
         }
         let rel = relation_at(bytes, 0);
-        let fork = fork_numbered(u32_at(bytes, 12))?;
+        let fork = fork_of(u32_at(bytes, 12))?;
         Some(StorageCreate { rel, fork })
     }
 

@@ -2,4 +2,3 @@ pub mod ZeroLemmas
 pub mod ListLemmas
 pub mod NamingLemmas
 pub mod DistinctNames
-pub mod HexLemmas

@@ -2,7 +2,7 @@
 use Rattle.std.specs.Prelude.{ℕ, ◌==◌, ◌&&◌, ◌||◌, Bool, false, List, [], ◌∷◌, ◌++◌, Option, None, Some, codes, bit_and, nat_le, if◌then◌else◌}
 use Rattle.std.specs.Fmt.{digits}
 use Rattle.block_refs.specs.Bits.{has_bits}
-use Rattle.rmgr_desc.specs.Pieces.{hex2}
+use Rattle.wal_base.specs.Hex.{hex2}
 
 -- an operation of a manager: its number in a record's info, and its name
 pub record Named : Type 0 where

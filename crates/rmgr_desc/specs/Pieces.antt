@@ -1,10 +1,6 @@
 -- Pieces that the texts of records are made of. Own: "Names and texts of operations".
-use Rattle.std.specs.Prelude.{ℕ, ◌/◌, ◌%◌, ◌==◌, List, [], ◌∷◌, ◌++◌, Option, None, Some, codes, decimal, if◌then◌else◌}
-use Rattle.wal_base.specs.Hex.{hex_text}
-
--- %02X of a byte: its two digits
-abbrev pub hex2 : ℕ → List ℕ
-hex2 byte = hex_text (byte / 16) ++ hex_text (byte % 16)
+use Rattle.std.specs.Prelude.{ℕ, ◌==◌, List, [], ◌∷◌, ◌++◌, Option, None, Some, codes, decimal, if◌then◌else◌}
+use Rattle.wal_base.specs.Hex.{hex2}
 
 -- a byte of flags: 0x%02X
 abbrev pub flags_text : ℕ → List ℕ

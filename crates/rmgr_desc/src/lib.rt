@@ -25,7 +25,6 @@ pub use description::{add_description, describe};
 pub use managers::{add_manager_name, manager_name};
 pub use naming::{a_name_is_one_manager, manager_named};
 pub use operations::{add_operation_name, operation_name};
-pub use pieces::hex_digit;
 
 #[cfg(test)]
 mod tests;

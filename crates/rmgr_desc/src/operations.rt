@@ -4,9 +4,9 @@ ghost use Rattle.std.specs.Prelude.{◌≡◌, ◌++◌, [], IfOk, OnErr, string
 ghost use Rattle.rmgr_desc.specs.Operations.{has_flag, init_mark, is_unnamed, may_init, name_of, number_of, operation_name_of};
 
 use crate::names::listed_name;
-use crate::pieces::{HexByte, or_emptied};
+use crate::pieces::or_emptied;
 use std::alloc::{AllocError, Global};
-use wal_base::{OutOfMemory, Text};
+use wal_base::{HexByte, OutOfMemory, Text};
 
 /// The bit of `info` that says that a page is made anew (`XLOG_HEAP_INIT_PAGE`).
 const INIT: u8 = 0x80;

@@ -1,55 +1,11 @@
 //! Pieces that the texts of records are made of.
 
-ghost use Rattle.std.specs.Prelude.{◌≡◌, ◌<◌, ◌++◌, [], IfOk, OnErr, codes, is_ok, string_bytes};
-ghost use Rattle.wal_base.specs.Hex.{hex_text};
+ghost use Rattle.std.specs.Prelude.{◌≡◌, ◌++◌, [], IfOk, OnErr, codes, is_ok, string_bytes};
 ghost use Rattle.rmgr_desc.specs.Pieces.{switch_text};
 
 use std::alloc::AllocError;
 use std::fmt;
-use wal_base::OutOfMemory;
-
-/// The digit of a number below 16 in hexadecimal, `0` to `F`.
-#[tactic(auto, using(crate::proofs::HexLemmas::digit_steps))]
-pub fn hex_digit(number: u8) -> &'static str
-    requires { number < 16 }
-    ensures { result.now ≡ hex_text number }
-{
-    match number {
-        0 => "0",
-        1 => "1",
-        2 => "2",
-        3 => "3",
-        4 => "4",
-        5 => "5",
-        6 => "6",
-        7 => "7",
-        8 => "8",
-        9 => "9",
-        10 => "A",
-        11 => "B",
-        12 => "C",
-        13 => "D",
-        14 => "E",
-        _ => "F",
-    }
-}
-
-/// A byte, which shows as its two hexadecimal digits.
-#[derive(Clone, Copy)]
-pub struct HexByte(pub u8);
-
-impl fmt::Display for HexByte {
-    ghost use Rattle.std.specs.Prelude.{Some};
-    ghost use Rattle.rmgr_desc.specs.Pieces.{hex2};
-
-    ghost output = { λ byte. Some (hex2 byte.0) };
-
-    fn fmt<W: fmt::Write>(&self, f: &mut fmt::Formatter<W>) -> fmt::Result {
-        let high = hex_digit(self.0 / 16);
-        let low = hex_digit(self.0 % 16);
-        write!(f, "{high}{low}")
-    }
-}
+use wal_base::{HexByte, OutOfMemory};
 
 /// A byte of flags, which shows as `0x` and two hexadecimal digits.
 #[derive(Clone, Copy)]
@@ -62,9 +18,8 @@ impl fmt::Display for Flags {
     ghost output = { λ flags. Some (flags_text flags.0) };
 
     fn fmt<W: fmt::Write>(&self, f: &mut fmt::Formatter<W>) -> fmt::Result {
-        let high = hex_digit(self.0 / 16);
-        let low = hex_digit(self.0 % 16);
-        write!(f, "0x{high}{low}")
+        let digits = HexByte(self.0);
+        write!(f, "0x{digits}")
     }
 }
 

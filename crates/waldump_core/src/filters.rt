@@ -2,7 +2,6 @@
 
 ghost use Rattle.std.specs.Prelude.{◌≡◌, option_to_list};
 ghost use Rattle.std.specs.List.{list_any, slice_get};
-ghost use Rattle.block_refs.specs.Names.{fork_number};
 ghost use Rattle.waldump_core.specs.Selecting.{admits, admits_fork, admits_rel, has_image, is_same_rel, is_wanted, meets, meets_blocks, meets_images, wants_block};
 
 use crate::selection::Selection;
@@ -45,24 +44,13 @@ fn admits_rel(wanted: Option<RelName>, rel: RelName) -> bool
     }
 }
 
-fn fork_number(fork: Fork) -> u8
-    ensures { result ≡ fork_number fork }
-{
-    match fork {
-        Fork::Main => 0,
-        Fork::FreeSpace => 1,
-        Fork::Visibility => 2,
-        Fork::Init => 3,
-    }
-}
-
 /// Whether a filter admits a fork.
 fn admits_fork(wanted: Option<Fork>, fork: Fork) -> bool
     ensures { result ≡ admits_fork wanted fork }
 {
     match wanted {
         None => true,
-        Some(wanted) => fork_number(wanted) == fork_number(fork),
+        Some(wanted) => wanted.number() == fork.number(),
     }
 }
 

@@ -1,7 +1,8 @@
 //! The first place from a position on at which a record can begin.
 
 ghost use Rattle.std.specs.Prelude.{◌≡◌, ◌≤◌, ◌%◌, IfErr, IfOk, IsErrOf, IsTrue, length};
-ghost use Rattle.cluster_tree.specs.Causes.{OnlyReads, Rose};
+ghost use Rattle.cluster_tree.specs.Causes.{Rose};
+ghost use Rattle.cluster_tree.specs.Frame.{Reads};
 ghost use Rattle.wal_base.specs.Segment.{bytes_of};
 ghost use Rattle.wal_pages.specs.Header.{page_of};
 ghost use Rattle.wal_records.specs.Further.{pages_of};
@@ -51,7 +52,7 @@ fn header_at<F: Tree>(
     ensures header { IsTrue F.tells → IfOk result (λ header. header
         ≡ header_in (pages_of pages.old.log (F.contents tree.old) at)) }
     ensures free { IfErr result IsOfReads }
-    ensures reads { OnlyReads F.contents F.calls F.failed_reads F.failed_changes tree.old tree.new }
+    ensures reads { Reads F.Tree tree.old tree.new }
     ensures read_fault { IsErrOf result DumpFault.ReadFault →
         Rose (F.failed_reads tree.old) (F.failed_reads tree.new) }
 {
@@ -74,7 +75,7 @@ fn first_place<F: Tree>(
     ensures place { IsTrue F.tells → IfOk result (λ place. place ≡ first_place
         (pages_of pages.old.log (F.contents tree.old)) (bytes_of pages.old.log.size) from) }
     ensures free { IfErr result IsOfReads }
-    ensures reads { OnlyReads F.contents F.calls F.failed_reads F.failed_changes tree.old tree.new }
+    ensures reads { Reads F.Tree tree.old tree.new }
     ensures read_fault { IsErrOf result DumpFault.ReadFault →
         Rose (F.failed_reads tree.old) (F.failed_reads tree.new) }
 {
@@ -123,7 +124,7 @@ pub fn place_from<F: Tree>(
     ensures place { IsTrue F.tells → IfOk result (λ place. place ≡ first_place
         (pages_of log.now (F.contents tree.old)) (bytes_of log.now.size) (page_of start.0)) }
     ensures free { IfErr result IsOfReads }
-    ensures reads { OnlyReads F.contents F.calls F.failed_reads F.failed_changes tree.old tree.new }
+    ensures reads { Reads F.Tree tree.old tree.new }
     ensures read_fault { IsErrOf result DumpFault.ReadFault →
         Rose (F.failed_reads tree.old) (F.failed_reads tree.new) }
 {

@@ -1,46 +1,12 @@
 //! Positions as lines show them.
 
-ghost use Rattle.std.specs.Prelude.{◌≡◌, ◌<◌, ◌%◌, ◌++◌, IfOk, string_bytes, true};
-ghost use Rattle.std.specs.Fmt.{digit_glyph};
-ghost use Rattle.std.specs.Str.{IsAscii};
+ghost use Rattle.std.specs.Prelude.{◌≡◌, ◌++◌, IfOk, string_bytes};
 ghost use Rattle.wal_base.specs.Hex.{hex8, hex_text};
 ghost use Rattle.wal_base.specs.Lsn.{lsn_padded};
 
-use rmgr_desc::hex_digit;
 use std::alloc::AllocError;
 use std::str;
-use wal_base::Lsn;
-
-/// The last digit of a number in hexadecimal.
-fn last_digit(number: u32) -> u8
-    ensures value { result ≡ digit_glyph true (number % 16) }
-    ensures ascii { result < 128 }
-{
-    let digit = (number % 16) as u8;
-    if digit < 10 {
-        b'0' + digit
-    } else {
-        b'A' + (digit - 10)
-    }
-}
-
-/// The eight digits of a number in hexadecimal.
-#[tactic(auto, unfolding(wal_base::specs::Hex::hex_digits))]
-fn eight_digits(number: u32) -> [u8; 8]
-    ensures value { result ≡ hex8 number }
-    ensures ascii { IsAscii result }
-{
-    [
-        last_digit(number / 0x1000_0000),
-        last_digit(number / 0x100_0000),
-        last_digit(number / 0x10_0000),
-        last_digit(number / 0x1_0000),
-        last_digit(number / 0x1000),
-        last_digit(number / 0x100),
-        last_digit(number / 0x10),
-        last_digit(number),
-    ]
-}
+use wal_base::{Lsn, eight_digits, hex_digit};
 
 /// Adds the eight digits of a number in hexadecimal.
 #[tactic(auto, using(crate::proofs::LineLemmas::text_of_ascii))]

@@ -1,7 +1,8 @@
 //! The dump of a log.
 
 ghost use Rattle.std.specs.Prelude.{◌≡◌, ◌≢◌, ◌⊎◌, ◌≤◌, ◌++◌, [], Err, IfErr, IfOk, IsErrOf, IsTrue, MatchResult, None, Ok, OnOk, Some, length};
-ghost use Rattle.cluster_tree.specs.Causes.{Meets, OnlyReads, Rose};
+ghost use Rattle.cluster_tree.specs.Causes.{Meets, Rose};
+ghost use Rattle.cluster_tree.specs.Frame.{Reads};
 ghost use Rattle.wal_base.specs.Segment.{bytes_of};
 ghost use Rattle.wal_records.specs.Cursor.{Knows};
 ghost use Rattle.wal_records.specs.Further.{pages_of};
@@ -63,7 +64,7 @@ fn advance<F: Tree, O: Sink>(
     ensures goes_up { IfOk result (GoesUp cursor.old cursor.new) }
     ensures quiet { IsTrue asked.now.sel.quiet → (out.new ≡ out.old) × (lines.new ≡ lines.old) }
     ensures unfailed { IsTrue asked.now.sel.quiet → result ≢ Err DumpFault.SinkFault }
-    ensures reads { OnlyReads F.contents F.calls F.failed_reads F.failed_changes tree.old tree.new }
+    ensures reads { Reads F.Tree tree.old tree.new }
     ensures read_fault { IsErrOf result DumpFault.ReadFault →
         Rose (F.failed_reads tree.old) (F.failed_reads tree.new) }
     ensures later { O.failed_writes out.old ≤ O.failed_writes out.new }
@@ -105,7 +106,7 @@ fn walk<F: Tree, O: Sink>(
     ensures extends { IsTrue O.tells → Extends (O.written out.old) (O.written out.new) }
     ensures quiet { IsTrue asked.now.sel.quiet → (out.new ≡ out.old) × (lines.new ≡ lines.old) }
     ensures unfailed { IsTrue asked.now.sel.quiet → result ≢ Err DumpFault.SinkFault }
-    ensures reads { OnlyReads F.contents F.calls F.failed_reads F.failed_changes tree.old tree.new }
+    ensures reads { Reads F.Tree tree.old tree.new }
     ensures read_fault { IsErrOf result DumpFault.ReadFault →
         Rose (F.failed_reads tree.old) (F.failed_reads tree.new) }
     ensures later { O.failed_writes out.old ≤ O.failed_writes out.new }
@@ -143,7 +144,7 @@ fn dump_at<F: Tree, O: Sink>(
     ensures extends { IsTrue O.tells → Extends (O.written out.old) (O.written out.new) }
     ensures quiet { IsTrue sel.now.quiet → out.new ≡ out.old }
     ensures unfailed { IsTrue sel.now.quiet → result ≢ Err DumpFault.SinkFault }
-    ensures reads { OnlyReads F.contents F.calls F.failed_reads F.failed_changes tree.old tree.new }
+    ensures reads { Reads F.Tree tree.old tree.new }
     ensures read_fault { IsErrOf result DumpFault.ReadFault →
         Rose (F.failed_reads tree.old) (F.failed_reads tree.new) }
     ensures sink_fault { IsErrOf result DumpFault.SinkFault →
@@ -202,7 +203,7 @@ pub fn dump<F: Tree, O: Sink>(
     ensures quiet { IsTrue sel.now.quiet → out.new ≡ out.old }
     ensures unfailed { IsTrue sel.now.quiet → result ≢ Err DumpFault.SinkFault }
 
-    ensures reads { OnlyReads F.contents F.calls F.failed_reads F.failed_changes tree.old tree.new }
+    ensures reads { Reads F.Tree tree.old tree.new }
     ensures read_fault { IsErrOf result DumpFault.ReadFault →
         Rose (F.failed_reads tree.old) (F.failed_reads tree.new) }
     ensures sink_fault { IsErrOf result DumpFault.SinkFault →

@@ -1,5 +1,5 @@
 use Rattle.std.proofs.Common.{◌≡◌, ◌%◌, ◌^◌, ◌<◌, IsTrue}
-use Rattle.cluster_tree.specs.Causes.{OnlyReads}
+use Rattle.cluster_tree.specs.Frame.{Reads}
 use Rattle.wal_base.specs.Segment.{bytes_of}
 use Rattle.wal_records.specs.Further.{pages_of}
 use Rattle.waldump_core.specs.FirstPlace.{place_within}
@@ -13,7 +13,7 @@ invariant-pages g l =
       same : l.pages.log ≡ log;
       whole : l.at % 8192 ≡ 0;
       within : l.at < 2 ^ 64;
-      reads : OnlyReads g.F.Tree.contents g.F.Tree.calls g.F.Tree.failed_reads g.F.Tree.failed_changes l.fn.tree l.tree;
+      reads : Reads g.F.Tree l.fn.tree l.tree;
       place : IsTrue g.F.Tree.tells → place_within (pages_of log contents) (bytes_of log.size) l.left l.at
           ≡ place_within (pages_of log contents) (bytes_of log.size) (2 ^ 51) l.fn.from;
     }

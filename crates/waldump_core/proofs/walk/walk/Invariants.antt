@@ -1,5 +1,5 @@
 use Rattle.std.proofs.Common.{◌≡◌, ◌++◌, ◌-◌, ◌^◌, ◌≤◌, None, IsTrue}
-use Rattle.cluster_tree.specs.Causes.{OnlyReads}
+use Rattle.cluster_tree.specs.Frame.{Reads}
 use Rattle.wal_records.specs.Cursor.{Knows}
 use Rattle.waldump_core.specs.Dump.{nothing_shown}
 use Rattle.waldump_core.specs.Steps.{left}
@@ -14,7 +14,7 @@ invariant-records g l =
       opened : l.cursor.ended ≡ None;
       log : l.cursor.log ≡ l.fn.cursor.log;
       few : l.progress.shown ≤ l.cursor.place;
-      reads : OnlyReads g.F.Tree.contents g.F.Tree.calls g.F.Tree.failed_reads g.F.Tree.failed_changes l.fn.tree l.tree;
+      reads : Reads g.F.Tree l.fn.tree l.tree;
       knows : IsTrue g.F.Tree.tells → Knows l.cursor (g.F.Tree.contents l.tree);
       answer : IsTrue g.F.Tree.tells → (left sel l.progress l.cursor contents).answer ≡ (left sel nothing_shown l.fn.cursor contents).answer;
       text : IsTrue g.F.Tree.tells → IsTrue g.O.Sink.tells → g.O.Sink.written l.out ++ (l.lines ++ (left sel l.progress l.cursor contents).text)
