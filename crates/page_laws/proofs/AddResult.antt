@@ -2,12 +2,14 @@
 use Rattle.std.proofs.Common.{◌≡◌, ℕ, ◌+◌, ◌-◌, ◌*◌, ◌<◌, ◌≤◌, ◌&&◌, ◌||◌, inl, inr, ⊎_elim, List, Bool, true, false, Option, Some, None, length, refl, sym, ◌∙◌, ap, subst, arith}
 use Rattle.std.specs.Prelude.{if◌then◌else◌, nat_lt, nat_le}
 use Rattle.std.proofs.lemmas.Bool.Decides.{nat_tests, leb_tells}
-use Rattle.page_layout.specs.Bytes.{splice, up8, cut}
+use Rattle.layout.specs.Splice.{splice}
+use Rattle.page_layout.specs.Bytes.{up8, cut}
 use Rattle.page_layout.specs.Page.{pd_lower, pd_upper, pd_special, count, lp_len, IsFormed}
 use Rattle.page_layout.specs.Edits.{is_free, lower_after, add_refusal, opened_at, added_at, added}
 use Rattle.page_layout.specs.declared.refusal.PageRefusal.{PageRefusal}
 use Rattle.page_layout.specs.declared.refusal.PageRefusal.TheVariants.{BadPlace, NoRoom}
-use Rattle.page_layout.proofs.BytesLemmas.{length-splice, length-cut, byte-splice_below, byte-splice_above, same_pages}
+use Rattle.layout.proofs.SpliceLemmas.{length-splice, byte-splice_below, byte-splice_above}
+use Rattle.page_layout.proofs.BytesLemmas.{length-cut, same_pages}
 use Rattle.page_masks.specs.Mask.{mask}
 use Rattle.page_masks.specs.Shapes.{HeapPage, IsHeap}
 use Rattle.page_masks.proofs.Unshown.{heap_mask_is, is_heap, well}

@@ -3,7 +3,7 @@ use Rattle.std.proofs.Common.{◌≡◌, ◌≢◌, ℕ, ◌+◌, ◌*◌, ◌%�
 use Rattle.std.specs.Prelude.{nat_le}
 use Rattle.std.proofs.lemmas.Bool.Decides.{eqb_tells, leb_tells}
 use Rattle.std.proofs.lemmas.List.{ext_get_or}
-use Rattle.page_layout.specs.Bytes.{byte, word, up8, cut}
+use Rattle.page_layout.specs.Bytes.{byte, u16_at, up8, cut}
 use Rattle.page_layout.specs.Page.{pd_lower, pd_upper, pd_special, count, lp_off, lp_flags, lp_len, item, line_fits, IsFormed}
 use Rattle.page_layout.specs.Edits.{added_at}
 use Rattle.page_layout.proofs.BytesLemmas.{length-cut, byte-cut}
@@ -45,21 +45,21 @@ module _ (p bytes : List ℕ) (k lower upper : ℕ) (a : Adds p bytes k lower up
   pub old_or_new : (j : ℕ) → j < count new → j ≢ k → j < count p
   old_or_new j lt ne = ⊎_elim (λ (o : (k < count p) × (lower ≡ pd_lower p) × (lp_len p k ≡ 0)). omega (arith, lt, added_lower p bytes k lower upper lays, o.1)) (λ (n : (k ≡ count p) × (lower ≡ pd_lower p + 4)). omega (arith, lt, added_lower p bytes k lower upper lays, n.0, n.1, ne, f.head.low, f.head.by4)) a.line
 
-  other_word : (j e : ℕ) → e ≤ 2 → j ≢ k → j < count p → word new (24 + e + 4 * j) ≡ word p (24 + e + 4 * j)
-  other_word j e le ne lt =
+  other_u16 : (j e : ℕ) → e ≤ 2 → j ≢ k → j < count p → u16_at new (24 + e + 4 * j) ≡ u16_at p (24 + e + 4 * j)
+  other_u16 j e le ne lt =
       let room : 28 + 4 * j ≤ upper = omega (arith, lt, f.head.low, f.head.by4, old_lower, a.room) in
       let out : (28 + 4 * j ≤ 24 + 4 * k) ⊎ (28 + 4 * k ≤ 24 + 4 * j) = ⊎_elim (λ (t : (nat_le k j ≡ true) × (k ≤ j)). inr (omega (arith, t.1, ne))) (λ (u : (nat_le k j ≡ false) × (j < k)). inl (omega (arith, u.1))) (leb_tells k j) in
       λ t. added_other_line p bytes k lower upper lays (24 + e + 4 * j) (omega arith) (omega (arith, room, le)) (⊎_elim (λ (l : 28 + 4 * j ≤ 24 + 4 * k). inl (omega (arith, l, le))) (λ (r : 28 + 4 * k ≤ 24 + 4 * j). inr (omega (arith, r))) out) t
       + 256 * added_other_line p bytes k lower upper lays (24 + e + 4 * j + 1) (omega arith) (omega (arith, room, le)) (⊎_elim (λ (l : 28 + 4 * j ≤ 24 + 4 * k). inl (omega (arith, l, le))) (λ (r : 28 + 4 * k ≤ 24 + 4 * j). inr (omega (arith, r))) out) t
 
   pub kept_off : (j : ℕ) → j ≢ k → j < count p → lp_off new j ≡ lp_off p j
-  kept_off j ne lt = off_same new p j j (other_word j 0 (omega arith) ne lt)
+  kept_off j ne lt = off_same new p j j (other_u16 j 0 (omega arith) ne lt)
 
   pub kept_len : (j : ℕ) → j ≢ k → j < count p → lp_len new j ≡ lp_len p j
-  kept_len j ne lt = len_same new p j j (other_word j 2 (omega arith) ne lt)
+  kept_len j ne lt = len_same new p j j (other_u16 j 2 (omega arith) ne lt)
 
   pub kept_flags : (j : ℕ) → j ≢ k → j < count p → lp_flags new j ≡ lp_flags p j
-  kept_flags j ne lt = flags_same new p j j (other_word j 0 (omega arith) ne lt) (other_word j 2 (omega arith) ne lt)
+  kept_flags j ne lt = flags_same new p j j (other_u16 j 0 (omega arith) ne lt) (other_u16 j 2 (omega arith) ne lt)
 
   pub kept_item : (j : ℕ) → j ≢ k → j < count p → 0 < lp_len p j → item new j ≡ item p j
   kept_item j ne lt some =

@@ -2,7 +2,7 @@
 use Rattle.std.proofs.Common.{◌≡◌, ℕ, ◌+◌, ◌-◌, ◌*◌, ◌/◌, ◌%◌, ◌<◌, ◌≤◌, ◌==◌, ◌&&◌, inl, inr, ⊎_elim, List, ◌++◌, Bool, true, false, Option, Some, None, Result, Ok, length, refl, sym, ◌∙◌, ap, subst, arith}
 use Rattle.std.specs.Prelude.{if◌then◌else◌, nat_lt, nat_le, replicate}
 use Rattle.std.proofs.lemmas.Bool.Decides.{nat_tests, leb_tells}
-use Rattle.page_layout.specs.Bytes.{byte, word_bytes, up8}
+use Rattle.page_layout.specs.Bytes.{byte, u16_bytes, up8}
 use Rattle.page_layout.specs.Page.{pd_lower, pd_upper, pd_special, count, IsFormed}
 use Rattle.page_layout.specs.Edits.{with_pointer, opened_at, added_at, added, add_refusal, add_item, refuse_or}
 use Rattle.page_layout.specs.declared.refusal.PageRefusal.{PageRefusal}
@@ -76,9 +76,9 @@ module _ (p q bytes : List ℕ) (k : ℕ) (ip : Inserts p bytes k) (iq : Inserts
     head = λ i le lt. ⊎_elim
         (λ (x : (nat_le 16 i ≡ true) × (16 ≤ i)). inserted_head p bytes k ip i (inr x.1) (omega (arith, lt)) ∙ a.head i le lt ∙ sym (inserted_head q bytes k iq i (inr x.1) (omega (arith, lt))))
         (λ (f : (nat_le 16 i ≡ false) × (i < 16)). ⊎_elim
-        (λ (x : (nat_le 14 i ≡ true) × (14 ≤ i)). inserted_top p bytes k ip i x.1 f.1 ∙ ap (λ u. byte (word_bytes (u - up8 len)) (i - 14)) uppers ∙ sym (inserted_top q bytes k iq i x.1 f.1))
+        (λ (x : (nat_le 14 i ≡ true) × (14 ≤ i)). inserted_top p bytes k ip i x.1 f.1 ∙ ap (λ u. byte (u16_bytes (u - up8 len)) (i - 14)) uppers ∙ sym (inserted_top q bytes k iq i x.1 f.1))
         (λ (g : (nat_le 14 i ≡ false) × (i < 14)). ⊎_elim
-        (λ (x : (nat_le 12 i ≡ true) × (12 ≤ i)). inserted_bound p bytes k ip i x.1 g.1 ∙ ap (λ n. byte (word_bytes (n + 4)) (i - 12)) lowers ∙ sym (inserted_bound q bytes k iq i x.1 g.1))
+        (λ (x : (nat_le 12 i ≡ true) × (12 ≤ i)). inserted_bound p bytes k ip i x.1 g.1 ∙ ap (λ n. byte (u16_bytes (n + 4)) (i - 12)) lowers ∙ sym (inserted_bound q bytes k iq i x.1 g.1))
         (λ (l : (nat_le 12 i ≡ false) × (i < 12)). inserted_head p bytes k ip i (inl l.1) (omega (arith, l.1)) ∙ a.head i le lt ∙ sym (inserted_head q bytes k iq i (inl l.1) (omega (arith, l.1))))
         (leb_tells 12 i))
         (leb_tells 14 i))

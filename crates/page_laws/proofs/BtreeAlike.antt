@@ -2,10 +2,10 @@
 use Rattle.std.proofs.Common.{◌≡◌, ℕ, ◌+◌, ◌-◌, ◌*◌, ◌/◌, ◌%◌, ◌<◌, ◌≤◌, ◌==◌, ◌&&◌, ⊎_elim, List, Bool, true, false, refl, sym, ◌∙◌, ap, subst, arith}
 use Rattle.std.specs.Prelude.{if◌then◌else◌, nat_lt, nat_le}
 use Rattle.std.proofs.lemmas.Bool.Decides.{nat_tests, leb_tells}
-use Rattle.page_layout.specs.Bytes.{byte, word, page_of}
+use Rattle.page_layout.specs.Bytes.{byte, u16_at, page_of}
 use Rattle.page_layout.specs.Page.{pd_lower, pd_upper, count, lp_off, lp_flags, lp_len}
 use Rattle.page_layout.proofs.BytesLemmas.{byte-page_of, length-page_of, same_pages}
-use Rattle.page_layout.proofs.ReadLemmas.{lower_word, upper_word, off_word, len_word, flags_same}
+use Rattle.page_layout.proofs.ReadLemmas.{lower_u16, upper_u16, off_u16, len_u16, flags_same}
 use Rattle.page_masks.specs.Mask.{mask, btree_byte, btree_front, is_leaf}
 use Rattle.page_masks.specs.Shapes.{IsBtree}
 use Rattle.page_masks.proofs.LsnUnshown.{btree_open, btree_front_open}
@@ -53,7 +53,7 @@ module _ (leaf : Bool) (lower : ℕ) (p q : List ℕ) (s : LinesAlike leaf lower
       let five : (24 + 4 * k + 1) % 4 ≡ 1 = omega arith in
       let a : byte p (24 + 4 * k) ≡ byte q (24 + 4 * k) = sym (shown_0 leaf (24 + 4 * k) (byte p (24 + 4 * k)) four) ∙ s (24 + 4 * k) (omega arith) (omega arith) ∙ shown_0 leaf (24 + 4 * k) (byte q (24 + 4 * k)) four in
       let b = sym (shown_1 leaf (24 + 4 * k + 1) (byte p (24 + 4 * k + 1)) five) ∙ s (24 + 4 * k + 1) (omega arith) (omega arith) ∙ shown_1 leaf (24 + 4 * k + 1) (byte q (24 + 4 * k + 1)) five in
-      off_word p k ∙ pick leaf (byte p (24 + 4 * k)) (byte q (24 + 4 * k)) (byte p (24 + 4 * k + 1)) (byte q (24 + 4 * k + 1)) a b ∙ sym (off_word q k)
+      off_u16 p k ∙ pick leaf (byte p (24 + 4 * k)) (byte q (24 + 4 * k)) (byte p (24 + 4 * k + 1)) (byte q (24 + 4 * k + 1)) a b ∙ sym (off_u16 q k)
     where
       pick : (l : Bool) (x y u v : ℕ) → x ≡ y → (if l then u % 128 else u) ≡ (if l then v % 128 else v) → (x + 256 * u) % 32768 ≡ (y + 256 * v) % 32768
       pick true x y u v e f = omega (arith, e, f)
@@ -65,7 +65,7 @@ module _ (leaf : Bool) (lower : ℕ) (p q : List ℕ) (s : LinesAlike leaf lower
       let seven : (26 + 4 * k + 1) % 4 ≡ 3 = omega arith in
       let a = sym (shown_2 leaf (26 + 4 * k) (byte p (26 + 4 * k)) six) ∙ s (26 + 4 * k) (omega arith) (omega arith) ∙ shown_2 leaf (26 + 4 * k) (byte q (26 + 4 * k)) six in
       let b : byte p (26 + 4 * k + 1) ≡ byte q (26 + 4 * k + 1) = sym (shown_3 leaf (26 + 4 * k + 1) (byte p (26 + 4 * k + 1)) seven) ∙ s (26 + 4 * k + 1) (omega arith) (omega arith) ∙ shown_3 leaf (26 + 4 * k + 1) (byte q (26 + 4 * k + 1)) seven in
-      len_word p k ∙ pick leaf (byte p (26 + 4 * k)) (byte q (26 + 4 * k)) (byte p (26 + 4 * k + 1)) (byte q (26 + 4 * k + 1)) a b ∙ sym (len_word q k)
+      len_u16 p k ∙ pick leaf (byte p (26 + 4 * k)) (byte q (26 + 4 * k)) (byte p (26 + 4 * k + 1)) (byte q (26 + 4 * k + 1)) a b ∙ sym (len_u16 q k)
     where
       pick : (l : Bool) (x y u v : ℕ) → (if l then x / 2 * 2 else x) ≡ (if l then y / 2 * 2 else y) → u ≡ v → (x + 256 * u) / 2 ≡ (y + 256 * v) / 2
       pick true x y u v e f = omega (arith, e, f)
@@ -78,14 +78,14 @@ flags_alike lower p q s k room = flags_same p q k k
     (λ t. s (26 + 4 * k) (omega arith) (omega arith) t + 256 * s (26 + 4 * k + 1) (omega arith) (omega arith) t)
 
 module _ (p q : List ℕ) (a : BtreeAlike p q) where
-  head_word : (i : ℕ) → 11 ≤ i → i < 19 → word p i ≡ word q i
-  head_word i le lt = λ t. a.head i le (omega arith) t + 256 * a.head (i + 1) (omega arith) (omega arith) t
+  head_u16 : (i : ℕ) → 11 ≤ i → i < 19 → u16_at p i ≡ u16_at q i
+  head_u16 i le lt = λ t. a.head i le (omega arith) t + 256 * a.head (i + 1) (omega arith) (omega arith) t
 
   pub lower_same : pd_lower p ≡ pd_lower q
-  lower_same = lower_word p ∙ head_word 12 (omega arith) (omega arith) ∙ sym (lower_word q)
+  lower_same = lower_u16 p ∙ head_u16 12 (omega arith) (omega arith) ∙ sym (lower_u16 q)
 
   pub upper_same : pd_upper p ≡ pd_upper q
-  upper_same = upper_word p ∙ head_word 14 (omega arith) (omega arith) ∙ sym (upper_word q)
+  upper_same = upper_u16 p ∙ head_u16 14 (omega arith) (omega arith) ∙ sym (upper_u16 q)
 
   pub count_same : count p ≡ count q
   count_same = ap (λ n. (n - 24) / 4) lower_same
@@ -173,10 +173,10 @@ btree_alike block p q hp hq same = record {
     head i le lt = sym (btree_head p hp.page i le lt) ∙ at i ∙ btree_head q hq.page i le lt
 
     lowers : pd_lower p ≡ pd_lower q
-    lowers = lower_word p ∙ (λ t. head 12 (omega arith) (omega arith) t + 256 * head 13 (omega arith) (omega arith) t) ∙ sym (lower_word q)
+    lowers = lower_u16 p ∙ (λ t. head 12 (omega arith) (omega arith) t + 256 * head 13 (omega arith) (omega arith) t) ∙ sym (lower_u16 q)
 
     uppers : pd_upper p ≡ pd_upper q
-    uppers = upper_word p ∙ (λ t. head 14 (omega arith) (omega arith) t + 256 * head 15 (omega arith) (omega arith) t) ∙ sym (upper_word q)
+    uppers = upper_u16 p ∙ (λ t. head 14 (omega arith) (omega arith) t + 256 * head 15 (omega arith) (omega arith) t) ∙ sym (upper_u16 q)
 
     flags : byte p 8188 / 128 * 128 + byte p 8188 % 32 ≡ byte q 8188 / 128 * 128 + byte q 8188 % 32
     flags = sym (end_at p hp.page 8188 (omega arith) (omega arith)) ∙ at 8188 ∙ end_at q hq.page 8188 (omega arith) (omega arith)

@@ -2,9 +2,10 @@
 use Rattle.std.proofs.Common.{◌≡◌, ◌≢◌, ℕ, ◌+◌, ◌-◌, ◌%◌, ◌<◌, ◌≤◌, ◌&&◌, inl, inr, ⊎_elim, List, [], ◌∷◌, true, false, length, sym, ◌∙◌, ap, arith}
 use Rattle.std.specs.Prelude.{if◌then◌else◌, nat_lt, nat_le}
 use Rattle.std.proofs.lemmas.Bool.Decides.{leb_tells}
-use Rattle.page_layout.specs.Bytes.{byte, splice, with_word, word_bytes}
-use Rattle.page_layout.proofs.BytesLemmas.{length-splice, byte-splice, byte-splice_in, byte-splice_out, byte-splice_below, byte-splice_above}
-use Rattle.page_layout.proofs.LineViews.{word-with_word}
+use Rattle.layout.specs.Splice.{splice}
+use Rattle.page_layout.specs.Bytes.{byte, with_u16, u16_bytes}
+use Rattle.layout.proofs.SpliceLemmas.{length-splice, byte-splice, byte-splice_in, byte-splice_out, byte-splice_below, byte-splice_above}
+use Rattle.page_layout.proofs.LineViews.{u16_at-with_u16}
 use Rattle.page_laws.specs.Btree.{shown_flags, SpecialChange, StaysLeaf}
 use Rattle.page_laws.proofs.BtreeSpecial.{same_special, special_same}
 
@@ -63,25 +64,25 @@ module _ (f : ℕ → ℕ) (same : (b c : ℕ) → shown_flags b ≡ shown_flags
 -- another cycle id
 module _ (n : ℕ) (small : n ≤ 0xFF7F) where
   abbrev cycled : List ℕ → List ℕ
-  cycled x = with_word x 14 n
+  cycled x = with_u16 x 14 n
 
   cycled_size : (x : List ℕ) → length x ≡ 16 → length (cycled x) ≡ 16
-  cycled_size x size = length-splice x 14 (word_bytes n) (omega (arith, size)) ∙ size
+  cycled_size x size = length-splice x 14 (u16_bytes n) (omega (arith, size)) ∙ size
 
   cycled_below : (x : List ℕ) → length x ≡ 16 → (i : ℕ) → i < 14 → byte (cycled x) i ≡ byte x i
-  cycled_below x size i lt = byte-splice_below x 14 (word_bytes n) i (omega (arith, size)) lt
+  cycled_below x size i lt = byte-splice_below x 14 (u16_bytes n) i (omega (arith, size)) lt
 
-  pub cycle_change : SpecialChange (λ x. with_word x 14 n)
+  pub cycle_change : SpecialChange (λ x. with_u16 x 14 n)
   cycle_change = record {
     size = cycled_size;
     shown = λ x y sx sy e. let s = same_special x y sx sy e in special_same (cycled x) (cycled y) (cycled_size x sx) (cycled_size y sy) (record {
       plain = λ i lt ne. cycled_below x sx i lt ∙ s.plain i lt ne ∙ sym (cycled_below y sy i lt);
       flags = ap shown_flags (cycled_below x sx 12 (omega arith)) ∙ s.flags ∙ ap shown_flags (sym (cycled_below y sy 12 (omega arith)));
     });
-    cycle = λ x sx le. omega (arith, word-with_word x 14 n (omega (arith, sx)), small);
+    cycle = λ x sx le. omega (arith, u16_at-with_u16 x 14 n (omega (arith, sx)), small);
   }
 
-  pub cycle_leaf : StaysLeaf (λ x. with_word x 14 n)
+  pub cycle_leaf : StaysLeaf (λ x. with_u16 x 14 n)
   cycle_leaf = λ x sx odd. ap (λ b. b % 2) (cycled_below x sx 12 (omega arith)) ∙ odd
 
 pub both_change : (f g : List ℕ → List ℕ) → SpecialChange f → SpecialChange g → SpecialChange (λ x. g (f x))
@@ -94,5 +95,5 @@ both_change f g a b = record {
 pub links : (at : ℕ) (bytes : List ℕ) → at + length bytes ≤ 12 → SpecialChange (λ x. splice x at bytes) × StaysLeaf (λ x. splice x at bytes)
 links at bytes low = (link_change at bytes low, link_leaf at bytes low)
 
-pub cycles : (n : ℕ) → n ≤ 0xFF7F → SpecialChange (λ x. with_word x 14 n) × StaysLeaf (λ x. with_word x 14 n)
+pub cycles : (n : ℕ) → n ≤ 0xFF7F → SpecialChange (λ x. with_u16 x 14 n) × StaysLeaf (λ x. with_u16 x 14 n)
 cycles n small = (cycle_change n small, cycle_leaf n small)

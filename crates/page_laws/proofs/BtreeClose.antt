@@ -2,11 +2,13 @@
 use Rattle.std.proofs.Common.{◌≡◌, ◌≢◌, ℕ, zero, suc, ◌+◌, ◌-◌, ◌*◌, ◌/◌, ◌%◌, ◌<◌, ◌≤◌, ◌==◌, ◌&&◌, inl, inr, ⊎_elim, List, Bool, true, false, length, refl, sym, ◌∙◌, ap, subst, arith}
 use Rattle.std.specs.Prelude.{if◌then◌else◌, nat_lt, nat_le}
 use Rattle.std.proofs.lemmas.Bool.Decides.{nat_tests, eqb_tells, leb_tells}
-use Rattle.page_layout.specs.Bytes.{byte, splice, word_bytes, cut, up8}
+use Rattle.layout.specs.Splice.{splice}
+use Rattle.page_layout.specs.Bytes.{byte, u16_bytes, cut, up8}
 use Rattle.page_layout.specs.Page.{pd_lower, pd_upper, count, lp_off, lp_flags, lp_len, ItemIn}
 use Rattle.page_layout.specs.Edits.{with_pointer}
 use Rattle.page_layout.specs.Deletes.{raised, moved_line, moved_lines, closed_up}
-use Rattle.page_layout.proofs.BytesLemmas.{length-splice, length-cut, byte-splice_in, byte-splice_out, byte-splice_below}
+use Rattle.layout.proofs.SpliceLemmas.{length-splice, byte-splice_in, byte-splice_out, byte-splice_below}
+use Rattle.page_layout.proofs.BytesLemmas.{length-cut}
 use Rattle.page_layout.proofs.LineViews.{byte_other, pointer_size}
 use Rattle.page_layout.proofs.ShapeLemmas.{held_in, flags_small}
 use Rattle.page_layout.proofs.ClosedUp.{ClosedUp, closed_up_is}
@@ -35,13 +37,13 @@ module _ (p : List ℕ) (at size : ℕ) (size_p : length p ≡ 8192) (low : 24 �
   laid_size = length-splice p (pd_upper p + size) part part_fits ∙ size_p
 
   raised_size : length (raised p at size) ≡ 8192
-  raised_size = length-splice laid 14 (word_bytes (pd_upper p + size)) (omega (arith, laid_size)) ∙ laid_size
+  raised_size = length-splice laid 14 (u16_bytes (pd_upper p + size)) (omega (arith, laid_size)) ∙ laid_size
 
   raised_front : (i : ℕ) → 16 ≤ i → i < pd_upper p + size → byte (raised p at size) i ≡ byte p i
-  raised_front i le lt = byte-splice_out laid 14 (word_bytes (pd_upper p + size)) i (omega (arith, laid_size)) (inr le) ∙ byte-splice_below p (pd_upper p + size) part i part_fits lt
+  raised_front i le lt = byte-splice_out laid 14 (u16_bytes (pd_upper p + size)) i (omega (arith, laid_size)) (inr le) ∙ byte-splice_below p (pd_upper p + size) part i part_fits lt
 
-  raised_top : (i : ℕ) → 14 ≤ i → i < 16 → byte (raised p at size) i ≡ byte (word_bytes (pd_upper p + size)) (i - 14)
-  raised_top i le lt = byte-splice_in laid 14 (word_bytes (pd_upper p + size)) i (omega (arith, laid_size)) le lt
+  raised_top : (i : ℕ) → 14 ≤ i → i < 16 → byte (raised p at size) i ≡ byte (u16_bytes (pd_upper p + size)) (i - 14)
+  raised_top i le lt = byte-splice_in laid 14 (u16_bytes (pd_upper p + size)) i (omega (arith, laid_size)) le lt
 
 -- one line, moved or not
 module _ (at size n : ℕ) (fits : at + size ≤ 8192) (room : 28 + 4 * n ≤ 8192) where
@@ -142,7 +144,7 @@ module _ (p : List ℕ) (h : BtreePage p) (k : ℕ) (there : k < count p) (some 
   pub closed_is : closed_up p k ≡ moved_lines r at size (count p)
   closed_is = let sure : nat_lt 0 (lp_len p k) ≡ true = grind (arith, nat_tests, some) in rw sure refl
 
-  pub closed_top : (i : ℕ) → 14 ≤ i → i < 16 → byte (closed_up p k) i ≡ byte (word_bytes (pd_upper p + size)) (i - 14)
+  pub closed_top : (i : ℕ) → 14 ≤ i → i < 16 → byte (closed_up p k) i ≡ byte (u16_bytes (pd_upper p + size)) (i - 14)
   closed_top i le lt = ap (λ x. byte x i) closed_is ∙ (moved_all at size (omega (arith, item_fits)) r r_size (count p) (omega (arith, lines_room, h.page.head.mid, h.page.head.high, h.page.head.top))).head i (omega (arith, lt))
       ∙ raised_top p at size h.page.size low i_k.from (omega (arith, item_fits)) i le lt
 
@@ -172,7 +174,7 @@ module _ (p q : List ℕ) (hp : BtreePage p) (hq : BtreePage q) (k : ℕ) (there
         head = λ i le lt. ⊎_elim
             (λ (x : (nat_le 16 i ≡ true) × (16 ≤ i)). cp.head i x.1 (omega (arith, lt)) ∙ a.head i le lt ∙ sym (cq.head i x.1 (omega (arith, lt))))
             (λ (f : (nat_le 16 i ≡ false) × (i < 16)). ⊎_elim
-            (λ (x : (nat_le 14 i ≡ true) × (14 ≤ i)). closed_top p hp k there some i x.1 f.1 ∙ (λ t. byte (word_bytes (uppers t + up8 (len t))) (i - 14)) ∙ sym (closed_top q hq k there_q some_q i x.1 f.1))
+            (λ (x : (nat_le 14 i ≡ true) × (14 ≤ i)). closed_top p hp k there some i x.1 f.1 ∙ (λ t. byte (u16_bytes (uppers t + up8 (len t))) (i - 14)) ∙ sym (closed_top q hq k there_q some_q i x.1 f.1))
             (λ (g : (nat_le 14 i ≡ false) × (i < 14)). cp.low i g.1 ∙ a.head i le lt ∙ sym (cq.low i g.1))
             (leb_tells 14 i))
             (leb_tells 16 i);

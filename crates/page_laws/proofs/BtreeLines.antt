@@ -2,11 +2,13 @@
 use Rattle.std.proofs.Common.{◌≡◌, ◌≢◌, ℕ, ◌+◌, ◌-◌, ◌*◌, ◌/◌, ◌%◌, ◌<◌, ◌≤◌, ◌==◌, ◌⊎◌, inl, inr, ⊎_elim, List, Bool, true, false, length, refl, sym, ◌∙◌, ap, subst, arith}
 use Rattle.std.specs.Prelude.{if◌then◌else◌, nat_le}
 use Rattle.std.proofs.lemmas.Bool.Decides.{eqb_tells, leb_tells}
-use Rattle.page_layout.specs.Bytes.{byte, splice, word_bytes, with_word, cut}
+use Rattle.layout.specs.Splice.{splice}
+use Rattle.page_layout.specs.Bytes.{byte, u16_bytes, with_u16, cut}
 use Rattle.page_layout.specs.Page.{pd_lower, count, Head}
 use Rattle.page_layout.specs.Edits.{with_pointer}
 use Rattle.page_layout.specs.Deletes.{without_line}
-use Rattle.page_layout.proofs.BytesLemmas.{length-splice, length-cut, byte-splice_in, byte-splice_below}
+use Rattle.layout.proofs.SpliceLemmas.{length-splice, byte-splice_in, byte-splice_below}
+use Rattle.page_layout.proofs.BytesLemmas.{length-cut}
 use Rattle.page_layout.proofs.LineViews.{byte_other}
 use Rattle.page_layout.proofs.LineOut.{LineOut, line_out, upper_out}
 use Rattle.page_masks.specs.Mask.{is_leaf}
@@ -19,35 +21,35 @@ shown_next leaf i b = let e : (i + 4) % 4 ≡ i % 4 = omega arith in rw e refl
 -- the bytes of a line that is written
 module _ (r : List ℕ) (k off flags len : ℕ) (fits : 28 + 4 * k ≤ length r) where
   abbrev one : List ℕ
-  one = with_word r (24 + 4 * k) (off + 32768 * (flags % 2))
+  one = with_u16 r (24 + 4 * k) (off + 32768 * (flags % 2))
 
   abbrev new : List ℕ
   new = with_pointer r k off flags len
 
   size : length one ≡ length r
-  size = length-splice r (24 + 4 * k) (word_bytes (off + 32768 * (flags % 2))) (omega arith)
+  size = length-splice r (24 + 4 * k) (u16_bytes (off + 32768 * (flags % 2))) (omega arith)
 
   line_0 : byte new (24 + 4 * k) ≡ (off + 32768 * (flags % 2)) % 256
   line_0 =
       let o : 24 + 4 * k - (24 + 4 * k) ≡ 0 = omega arith in
-      byte-splice_below one (26 + 4 * k) (word_bytes (flags / 2 + 2 * len)) (24 + 4 * k) (omega (arith, size)) (omega arith)
-      ∙ byte-splice_in r (24 + 4 * k) (word_bytes (off + 32768 * (flags % 2))) (24 + 4 * k) (omega arith) (omega arith) (omega arith) ∙ ap (byte (word_bytes (off + 32768 * (flags % 2)))) o
+      byte-splice_below one (26 + 4 * k) (u16_bytes (flags / 2 + 2 * len)) (24 + 4 * k) (omega (arith, size)) (omega arith)
+      ∙ byte-splice_in r (24 + 4 * k) (u16_bytes (off + 32768 * (flags % 2))) (24 + 4 * k) (omega arith) (omega arith) (omega arith) ∙ ap (byte (u16_bytes (off + 32768 * (flags % 2)))) o
 
   line_1 : byte new (24 + 4 * k + 1) ≡ (off + 32768 * (flags % 2)) / 256
   line_1 =
       let o : 24 + 4 * k + 1 - (24 + 4 * k) ≡ 1 = omega arith in
-      byte-splice_below one (26 + 4 * k) (word_bytes (flags / 2 + 2 * len)) (24 + 4 * k + 1) (omega (arith, size)) (omega arith)
-      ∙ byte-splice_in r (24 + 4 * k) (word_bytes (off + 32768 * (flags % 2))) (24 + 4 * k + 1) (omega arith) (omega arith) (omega arith) ∙ ap (byte (word_bytes (off + 32768 * (flags % 2)))) o
+      byte-splice_below one (26 + 4 * k) (u16_bytes (flags / 2 + 2 * len)) (24 + 4 * k + 1) (omega (arith, size)) (omega arith)
+      ∙ byte-splice_in r (24 + 4 * k) (u16_bytes (off + 32768 * (flags % 2))) (24 + 4 * k + 1) (omega arith) (omega arith) (omega arith) ∙ ap (byte (u16_bytes (off + 32768 * (flags % 2)))) o
 
   line_2 : byte new (26 + 4 * k) ≡ (flags / 2 + 2 * len) % 256
   line_2 =
       let o : 26 + 4 * k - (26 + 4 * k) ≡ 0 = omega arith in
-      byte-splice_in one (26 + 4 * k) (word_bytes (flags / 2 + 2 * len)) (26 + 4 * k) (omega (arith, size)) (omega arith) (omega arith) ∙ ap (byte (word_bytes (flags / 2 + 2 * len))) o
+      byte-splice_in one (26 + 4 * k) (u16_bytes (flags / 2 + 2 * len)) (26 + 4 * k) (omega (arith, size)) (omega arith) (omega arith) ∙ ap (byte (u16_bytes (flags / 2 + 2 * len))) o
 
   line_3 : byte new (26 + 4 * k + 1) ≡ (flags / 2 + 2 * len) / 256
   line_3 =
       let o : 26 + 4 * k + 1 - (26 + 4 * k) ≡ 1 = omega arith in
-      byte-splice_in one (26 + 4 * k) (word_bytes (flags / 2 + 2 * len)) (26 + 4 * k + 1) (omega (arith, size)) (omega arith) (omega arith) ∙ ap (byte (word_bytes (flags / 2 + 2 * len))) o
+      byte-splice_in one (26 + 4 * k) (u16_bytes (flags / 2 + 2 * len)) (26 + 4 * k + 1) (omega (arith, size)) (omega arith) (omega arith) ∙ ap (byte (u16_bytes (flags / 2 + 2 * len))) o
 
 -- a line with the same place and length, and on other pages than leaves of the same kind
 module _ (leaf : Bool) (lower : ℕ) (a b : List ℕ) (s : LinesAlike leaf lower a b) (k off fa fb len : ℕ) (fits_a : 28 + 4 * k ≤ length a) (fits_b : 28 + 4 * k ≤ length b) (small : off < 32768)
@@ -127,12 +129,12 @@ module _ (leaf : Bool) (lower : ℕ) (a b : List ℕ) (s : LinesAlike leaf lower
       (leb_tells (24 + 4 * k) i)
 
 -- where the lines end once one is out
-out_bound : (p : List ℕ) (k i : ℕ) → length p ≡ 8192 → Head p → k < count p → 12 ≤ i → i < 14 → byte (without_line p k) i ≡ byte (word_bytes (pd_lower p - 4)) (i - 12)
+out_bound : (p : List ℕ) (k i : ℕ) → length p ≡ 8192 → Head p → k < count p → 12 ≤ i → i < 14 → byte (without_line p k) i ≡ byte (u16_bytes (pd_lower p - 4)) (i - 12)
 out_bound p k i size h there le lt =
     let room : 28 + 4 * k ≤ pd_lower p = omega (arith, there, h.low, h.by4) in
     let n = length-cut p (28 + 4 * k) (pd_lower p - (28 + 4 * k)) (omega (arith, room, size, h.mid, h.high, h.top)) in
     let m = length-splice p (24 + 4 * k) (cut p (28 + 4 * k) (pd_lower p - (28 + 4 * k))) (omega (arith, n, room, size, h.mid, h.high, h.top)) in
-    byte-splice_in (splice p (24 + 4 * k) (cut p (28 + 4 * k) (pd_lower p - (28 + 4 * k)))) 12 (word_bytes (pd_lower p - 4)) i (omega (arith, m, size)) le lt
+    byte-splice_in (splice p (24 + 4 * k) (cut p (28 + 4 * k) (pd_lower p - (28 + 4 * k)))) 12 (u16_bytes (pd_lower p - 4)) i (omega (arith, m, size)) le lt
 
 -- a line taken out
 module _ (p q : List ℕ) (size_p : length p ≡ 8192) (size_q : length q ≡ 8192) (hp : Head p) (hq : Head q) (k : ℕ) (there : k < count p) (a : BtreeAlike p q) where
@@ -157,7 +159,7 @@ module _ (p q : List ℕ) (size_p : length p ≡ 8192) (size_q : length q ≡ 81
     head = λ i le lt. ⊎_elim
         (λ (x : (nat_le 14 i ≡ true) × (14 ≤ i)). op.head i x.1 (omega (arith, lt)) ∙ a.head i le lt ∙ sym (oq.head i x.1 (omega (arith, lt))))
         (λ (y : (nat_le 14 i ≡ false) × (i < 14)). ⊎_elim
-        (λ (x : (nat_le 12 i ≡ true) × (12 ≤ i)). out_bound p k i size_p hp there x.1 y.1 ∙ ap (λ n. byte (word_bytes (n - 4)) (i - 12)) lowers ∙ sym (out_bound q k i size_q hq there_q x.1 y.1))
+        (λ (x : (nat_le 12 i ≡ true) × (12 ≤ i)). out_bound p k i size_p hp there x.1 y.1 ∙ ap (λ n. byte (u16_bytes (n - 4)) (i - 12)) lowers ∙ sym (out_bound q k i size_q hq there_q x.1 y.1))
         (λ (z : (nat_le 12 i ≡ false) × (i < 12)). op.low i z.1 ∙ a.head i le lt ∙ sym (oq.low i z.1))
         (leb_tells 12 i))
         (leb_tells 14 i);

@@ -3,11 +3,12 @@ use Rattle.std.proofs.Common.{◌≡◌, ℕ, zero, suc, ◌+◌, ◌-◌, ◌*�
 use Rattle.std.specs.Prelude.{if◌then◌else◌, nat_le, replicate}
 use Rattle.std.proofs.lemmas.Bool.Decides.{nat_tests, leb_tells}
 use Rattle.std.proofs.lemmas.List.{length-append, length-replicate}
-use Rattle.page_layout.specs.Bytes.{byte, word_bytes, up8}
+use Rattle.page_layout.specs.Bytes.{byte, u16_bytes, up8}
 use Rattle.page_layout.specs.Page.{pd_lower, pd_special, count, lp_off, lp_flags, lp_len, item, IsFormed}
 use Rattle.page_layout.specs.Edits.{with_pointer, with_item}
 use Rattle.page_layout.specs.Pack.{total, has_room, packed_off, with_packed, packed_lines, emptied, packed}
-use Rattle.page_layout.proofs.BytesLemmas.{length-splice, length-cut, byte-splice_in, byte-splice_out, byte-splice_below, byte-splice_above}
+use Rattle.layout.proofs.SpliceLemmas.{length-splice, byte-splice_in, byte-splice_out, byte-splice_below, byte-splice_above}
+use Rattle.page_layout.proofs.BytesLemmas.{length-cut}
 use Rattle.page_layout.proofs.LineViews.{byte_other, pointer_size}
 use Rattle.page_layout.proofs.Packing.{total-le}
 use Rattle.page_layout.proofs.ShapeLemmas.{held_in, flags_small}
@@ -82,10 +83,10 @@ module _ (p : List ℕ) (h : BtreePage p) (room : pd_lower p + total p (count p)
   all_size = (kept_steps (count p) (omega arith)).size8
 
   packed_out : (i : ℕ) → (i < 14) ⊎ (16 ≤ i) → byte (packed p) i ≡ byte (packed_lines p (emptied p) (count p)) i
-  packed_out i out = byte-splice_out (packed_lines p (emptied p) (count p)) 14 (word_bytes (pd_special p - total p (count p))) i (omega (arith, all_size)) out
+  packed_out i out = byte-splice_out (packed_lines p (emptied p) (count p)) 14 (u16_bytes (pd_special p - total p (count p))) i (omega (arith, all_size)) out
 
-  packed_top : (i : ℕ) → 14 ≤ i → i < 16 → byte (packed p) i ≡ byte (word_bytes (pd_special p - total p (count p))) (i - 14)
-  packed_top i le lt = byte-splice_in (packed_lines p (emptied p) (count p)) 14 (word_bytes (pd_special p - total p (count p))) i (omega (arith, all_size)) le lt
+  packed_top : (i : ℕ) → 14 ≤ i → i < 16 → byte (packed p) i ≡ byte (u16_bytes (pd_special p - total p (count p))) (i - 14)
+  packed_top i le lt = byte-splice_in (packed_lines p (emptied p) (count p)) 14 (u16_bytes (pd_special p - total p (count p))) i (omega (arith, all_size)) le lt
 
   packed_end : (i : ℕ) → 8176 ≤ i → byte (packed p) i ≡ byte p i
   packed_end i le = packed_out i (inr (omega (arith, le))) ∙ (kept_steps (count p) (omega arith)).rest i (omega (arith, le, h.page.special))
@@ -239,7 +240,7 @@ module _ (p q : List ℕ) (hp : BtreePage p) (hq : BtreePage q) (a : BtreeAlike 
     head = λ i le lt. ⊎_elim
         (λ (x : (nat_le 16 i ≡ true) × (16 ≤ i)). low i (inr x.1) le lt)
         (λ (f : (nat_le 16 i ≡ false) × (i < 16)). ⊎_elim
-        (λ (x : (nat_le 14 i ≡ true) × (14 ≤ i)). packed_top p hp room i x.1 f.1 ∙ (λ t. byte (word_bytes (specials t - total_all t)) (i - 14)) ∙ sym (packed_top q hq room_alike i x.1 f.1))
+        (λ (x : (nat_le 14 i ≡ true) × (14 ≤ i)). packed_top p hp room i x.1 f.1 ∙ (λ t. byte (u16_bytes (specials t - total_all t)) (i - 14)) ∙ sym (packed_top q hq room_alike i x.1 f.1))
         (λ (g : (nat_le 14 i ≡ false) × (i < 14)). low i (inl g.1) le lt)
         (leb_tells 14 i))
         (leb_tells 16 i);

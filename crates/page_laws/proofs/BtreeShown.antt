@@ -2,7 +2,7 @@
 use Rattle.std.proofs.Common.{◌≡◌, ℕ, ◌+◌, ◌*◌, ◌<◌, ◌≤◌, List, length, sym, ◌∙◌, ap, arith, Bool, true, false, refl, ◌↔◌}
 use Rattle.std.specs.Prelude.{if◌then◌else◌}
 use Rattle.std.proofs.lemmas.List.{ext_get_or}
-use Rattle.page_layout.specs.Bytes.{word, cut}
+use Rattle.page_layout.specs.Bytes.{u16_at, cut}
 use Rattle.page_layout.specs.Page.{pd_lower, count, lp_off, lp_len, item}
 use Rattle.page_layout.proofs.BytesLemmas.{length-cut, byte-cut}
 use Rattle.page_layout.proofs.ShapeLemmas.{held_in}
@@ -17,7 +17,7 @@ use Rattle.page_laws.proofs.BtreeAdd.{btree_formed}
 use Rattle.page_laws.proofs.BtreeAlike.{BtreeAlike, off_alike, len_alike, count_same, leaf_same, btree_alike}
 
 -- the page's kind, and back
-not_zeros : (p : List ℕ) → word p 18 ≡ 8196 → is_zero p ≡ false
+not_zeros : (p : List ℕ) → u16_at p 18 ≡ 8196 → is_zero p ≡ false
 not_zeros p e = by_case (is_zero p) refl
   where
     by_case : (b : Bool) → is_zero p ≡ b → is_zero p ≡ false

@@ -5,7 +5,8 @@ use Rattle.std.proofs.lemmas.Bool.Decides.{eqb_tells, leb_tells}
 use Rattle.std.proofs.lemmas.List.{ext_get_or}
 use Rattle.page_layout.specs.Bytes.{byte, cut, up8}
 use Rattle.page_layout.specs.Page.{pd_upper, count, lp_off, lp_flags, lp_len, item, Head, ItemIn}
-use Rattle.page_layout.proofs.BytesLemmas.{length-splice, length-cut, byte-cut, byte-splice_in, byte-splice_out, byte-splice_below}
+use Rattle.layout.proofs.SpliceLemmas.{length-splice, byte-splice_in, byte-splice_out, byte-splice_below}
+use Rattle.page_layout.proofs.BytesLemmas.{length-cut, byte-cut}
 use Rattle.page_layout.proofs.Front as Front
 use Rattle.page_layout.proofs.Front.{SameFront}
 use Rattle.page_masks.specs.Mask.{masked_item, holds, holder, shown_lower, masked_front}

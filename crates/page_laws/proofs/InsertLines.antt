@@ -3,7 +3,7 @@ use Rattle.std.proofs.Common.{◌≡◌, ◌≢◌, ℕ, ◌+◌, ◌-◌, ◌*�
 use Rattle.std.specs.Prelude.{if◌then◌else◌, nat_lt, nat_le}
 use Rattle.std.proofs.lemmas.Bool.Decides.{nat_tests, eqb_tells, leb_tells}
 use Rattle.std.proofs.lemmas.List.{ext_get_or}
-use Rattle.page_layout.specs.Bytes.{byte, word, up8, cut}
+use Rattle.page_layout.specs.Bytes.{byte, u16_at, up8, cut}
 use Rattle.page_layout.specs.Page.{pd_lower, pd_upper, pd_special, count, lp_off, lp_flags, lp_len, item, line_fits, IsFormed}
 use Rattle.page_layout.specs.Edits.{opened_at, added_at}
 use Rattle.page_layout.proofs.BytesLemmas.{length-cut, byte-cut}
@@ -46,8 +46,8 @@ module _ (p bytes : List ℕ) (k : ℕ) (a : Inserts p bytes k) where
   pub old_line : (j : ℕ) → j ≢ k → j < count new → behind k j < count p
   old_line j ne lt = behind_below k j (count p) a.place ne (omega (arith, lt, inserted_count p bytes k a))
 
-  line_word : (j e : ℕ) → e ≤ 2 → j ≢ k → j < count new → word new (24 + e + 4 * j) ≡ word p (24 + e + 4 * behind k j)
-  line_word j e small_e ne lt = ⊎_elim
+  line_u16 : (j e : ℕ) → e ≤ 2 → j ≢ k → j < count new → u16_at new (24 + e + 4 * j) ≡ u16_at p (24 + e + 4 * behind k j)
+  line_u16 j e small_e ne lt = ⊎_elim
       (λ (t : (nat_le k j ≡ true) × (k ≤ j)).
       let no : nat_lt j k ≡ false = grind (arith, nat_tests, t.1) in
       let past : k < j = omega (arith, t.1, ne) in
@@ -65,13 +65,13 @@ module _ (p bytes : List ℕ) (k : ℕ) (a : Inserts p bytes k) where
       (leb_tells k j)
 
   pub moved_off : (j : ℕ) → j ≢ k → j < count new → lp_off new j ≡ lp_off p (behind k j)
-  moved_off j ne lt = off_same new p j (behind k j) (line_word j 0 (omega arith) ne lt)
+  moved_off j ne lt = off_same new p j (behind k j) (line_u16 j 0 (omega arith) ne lt)
 
   pub moved_len : (j : ℕ) → j ≢ k → j < count new → lp_len new j ≡ lp_len p (behind k j)
-  moved_len j ne lt = len_same new p j (behind k j) (line_word j 2 (omega arith) ne lt)
+  moved_len j ne lt = len_same new p j (behind k j) (line_u16 j 2 (omega arith) ne lt)
 
   pub moved_flags : (j : ℕ) → j ≢ k → j < count new → lp_flags new j ≡ lp_flags p (behind k j)
-  moved_flags j ne lt = flags_same new p j (behind k j) (line_word j 0 (omega arith) ne lt) (line_word j 2 (omega arith) ne lt)
+  moved_flags j ne lt = flags_same new p j (behind k j) (line_u16 j 0 (omega arith) ne lt) (line_u16 j 2 (omega arith) ne lt)
 
   pub new_off : lp_off new k ≡ upper
   new_off = added_off (opened_at p k) bytes k (pd_lower p + 4) upper (lays p bytes k a)

@@ -1,11 +1,12 @@
 -- A page after an item was added to it with the later lines moved up.
 use Rattle.std.proofs.Common.{◌≡◌, ℕ, ◌+◌, ◌-◌, ◌*◌, ◌<◌, ◌≤◌, ◌⊎◌, inl, inr, List, ◌++◌, length, sym, ◌∙◌, ap, arith}
 use Rattle.std.specs.Prelude.{replicate}
-use Rattle.page_layout.specs.Bytes.{byte, word_bytes, up8, cut}
+use Rattle.page_layout.specs.Bytes.{byte, u16_bytes, up8, cut}
 use Rattle.page_layout.specs.Page.{pd_lower, pd_upper, pd_special, count, IsFormed}
 use Rattle.page_layout.specs.Edits.{with_pointer, opened_at, added_at}
-use Rattle.page_layout.proofs.BytesLemmas.{length-splice, length-cut, byte-cut, byte-splice_in, byte-splice_below, byte-splice_above}
-use Rattle.page_layout.proofs.ReadLemmas.{special_word}
+use Rattle.layout.proofs.SpliceLemmas.{length-splice, byte-splice_in, byte-splice_below, byte-splice_above}
+use Rattle.page_layout.proofs.BytesLemmas.{length-cut, byte-cut}
+use Rattle.page_layout.proofs.ReadLemmas.{special_u16}
 use Rattle.page_laws.proofs.AddedBytes.{Lays, added_size, added_head, added_line, added_other_line, added_lower_byte, added_upper_byte, added_item_byte, added_back, added_lower, added_upper}
 
 -- a place up to the one past the last, and room for a line and the item
@@ -79,10 +80,10 @@ module _ (p bytes : List ℕ) (k : ℕ) (a : Inserts p bytes k) where
   pub inserted_head : (i : ℕ) → (i < 12) ⊎ (16 ≤ i) → i < 24 → byte new i ≡ byte p i
   inserted_head i out lt = added_head o bytes k lower upper lays i out lt ∙ opened_before i (omega arith)
 
-  pub inserted_bound : (i : ℕ) → 12 ≤ i → i < 14 → byte new i ≡ byte (word_bytes lower) (i - 12)
+  pub inserted_bound : (i : ℕ) → 12 ≤ i → i < 14 → byte new i ≡ byte (u16_bytes lower) (i - 12)
   inserted_bound i le lt = added_lower_byte o bytes k lower upper lays i le lt
 
-  pub inserted_top : (i : ℕ) → 14 ≤ i → i < 16 → byte new i ≡ byte (word_bytes upper) (i - 14)
+  pub inserted_top : (i : ℕ) → 14 ≤ i → i < 16 → byte new i ≡ byte (u16_bytes upper) (i - 14)
   inserted_top i le lt = added_upper_byte o bytes k lower upper lays i le lt
 
   -- the lines before, the new one, and those after it
@@ -109,7 +110,7 @@ module _ (p bytes : List ℕ) (k : ℕ) (a : Inserts p bytes k) where
   inserted_upper = added_upper o bytes k lower upper lays
 
   pub inserted_special : pd_special new ≡ pd_special p
-  inserted_special = special_word new ∙ (λ t. inserted_head 16 (inr (omega arith)) (omega arith) t + 256 * inserted_head 17 (inr (omega arith)) (omega arith) t) ∙ sym (special_word p)
+  inserted_special = special_u16 new ∙ (λ t. inserted_head 16 (inr (omega arith)) (omega arith) t + 256 * inserted_head 17 (inr (omega arith)) (omega arith) t) ∙ sym (special_u16 p)
 
   pub inserted_count : count new ≡ count p + 1
   inserted_count = omega (arith, inserted_lower, f.head.low)

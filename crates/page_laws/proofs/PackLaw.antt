@@ -3,15 +3,16 @@ use Rattle.std.proofs.Common.{◌≡◌, ◌≢◌, ℕ, zero, suc, ◌+◌, ◌
 use Rattle.std.specs.Prelude.{nat_le, replicate}
 use Rattle.std.proofs.lemmas.Bool.Decides.{nat_tests, eqb_tells, leb_tells}
 use Rattle.std.proofs.lemmas.List.{ext_get_or, get_or_append_left, length-append, length-replicate}
-use Rattle.page_layout.specs.Bytes.{byte, word, word_bytes, up8, cut}
+use Rattle.page_layout.specs.Bytes.{byte, u16_at, u16_bytes, up8, cut}
 use Rattle.page_layout.specs.Page.{pd_lower, pd_upper, pd_special, count, lp_off, lp_flags, lp_len, item, IsFormed}
 use Rattle.page_layout.specs.Edits.{with_pointer, with_item}
 use Rattle.page_layout.specs.Pack.{total, packed_off, with_packed, packed_lines, emptied, packed}
-use Rattle.page_layout.proofs.BytesLemmas.{length-splice, length-cut, byte-cut, byte-splice_in, byte-splice_out, byte-splice_below}
-use Rattle.page_layout.proofs.LineViews.{word-with_word, byte_other, pointer_size}
+use Rattle.layout.proofs.SpliceLemmas.{length-splice, byte-splice_in, byte-splice_out, byte-splice_below}
+use Rattle.page_layout.proofs.BytesLemmas.{length-cut, byte-cut}
+use Rattle.page_layout.proofs.LineViews.{u16_at-with_u16, byte_other, pointer_size}
 use Rattle.page_layout.proofs.PackViews.{Packable, Laid, laid}
 use Rattle.page_layout.proofs.Packing.{total-le}
-use Rattle.page_layout.proofs.ReadLemmas.{lower_word, upper_word, special_word, off_same, len_same, flags_same}
+use Rattle.page_layout.proofs.ReadLemmas.{lower_u16, upper_u16, special_u16, off_same, len_same, flags_same}
 use Rattle.page_layout.proofs.ShapeLemmas.{lines_below, held_in, flags_small}
 use Rattle.page_layout.proofs.ItemsStay.{fits_in}
 use Rattle.page_masks.specs.Mask.{holder}
@@ -55,50 +56,50 @@ module _ (p : List ℕ) (f : IsFormed p) (room : pd_lower p + total p (count p) 
   upper = pd_special p - total p (count p)
 
   pub packed_size : length new ≡ 8192
-  packed_size = length-splice all 14 (word_bytes upper) (omega (arith, l.size)) ∙ l.size
+  packed_size = length-splice all 14 (u16_bytes upper) (omega (arith, l.size)) ∙ l.size
 
   other : (i : ℕ) → (i < 14) ⊎ (16 ≤ i) → byte new i ≡ byte all i
-  other i out = byte-splice_out all 14 (word_bytes upper) i (omega (arith, l.size)) out
+  other i out = byte-splice_out all 14 (u16_bytes upper) i (omega (arith, l.size)) out
 
   pub packed_low : (i : ℕ) → (i < 14) ⊎ (16 ≤ i) → i < 24 → byte new i ≡ byte p i
   packed_low i out lt = other i out ∙ l.low i lt
 
   pub packed_lower : pd_lower new ≡ pd_lower p
-  packed_lower = lower_word new ∙ (λ t. packed_low 12 (inl (omega arith)) (omega arith) t + 256 * packed_low 13 (inl (omega arith)) (omega arith) t) ∙ sym (lower_word p)
+  packed_lower = lower_u16 new ∙ (λ t. packed_low 12 (inl (omega arith)) (omega arith) t + 256 * packed_low 13 (inl (omega arith)) (omega arith) t) ∙ sym (lower_u16 p)
 
   pub packed_upper : pd_upper new ≡ upper
-  packed_upper = upper_word new ∙ word-with_word all 14 upper (omega (arith, l.size))
+  packed_upper = upper_u16 new ∙ u16_at-with_u16 all 14 upper (omega (arith, l.size))
 
   pub packed_special : pd_special new ≡ pd_special p
-  packed_special = special_word new ∙ (λ t. packed_low 16 (inr (omega arith)) (omega arith) t + 256 * packed_low 17 (inr (omega arith)) (omega arith) t) ∙ sym (special_word p)
+  packed_special = special_u16 new ∙ (λ t. packed_low 16 (inr (omega arith)) (omega arith) t + 256 * packed_low 17 (inr (omega arith)) (omega arith) t) ∙ sym (special_u16 p)
 
   pub packed_count : count new ≡ count p
   packed_count = ap (λ n. (n - 24) / 4) packed_lower
 
-  line_word : (i : ℕ) → 24 ≤ i → word new i ≡ word all i
-  line_word i le = λ t. other i (inr (omega arith)) t + 256 * other (i + 1) (inr (omega arith)) t
+  line_u16 : (i : ℕ) → 24 ≤ i → u16_at new i ≡ u16_at all i
+  line_u16 i le = λ t. other i (inr (omega arith)) t + 256 * other (i + 1) (inr (omega arith)) t
 
-  word_all_low : (k : ℕ) → word new (24 + 4 * k) ≡ word all (24 + 4 * k)
-  word_all_low k = line_word (24 + 4 * k) (omega arith)
+  u16_all_low : (k : ℕ) → u16_at new (24 + 4 * k) ≡ u16_at all (24 + 4 * k)
+  u16_all_low k = line_u16 (24 + 4 * k) (omega arith)
 
-  word_all_high : (k : ℕ) → word new (26 + 4 * k) ≡ word all (26 + 4 * k)
-  word_all_high k = line_word (26 + 4 * k) (omega arith)
+  u16_all_high : (k : ℕ) → u16_at new (26 + 4 * k) ≡ u16_at all (26 + 4 * k)
+  u16_all_high k = line_u16 (26 + 4 * k) (omega arith)
 
   -- lengths and kinds stay
   pub packed_len : (k : ℕ) → k < count p → lp_len new k ≡ lp_len p k
-  packed_len k lt = len_same new all k k (word_all_high k) ∙ ⊎_elim
+  packed_len k lt = len_same new all k k (u16_all_high k) ∙ ⊎_elim
       (λ (t : ((lp_len p k == 0) ≡ true) × (lp_len p k ≡ 0)). let w = l.words k lt (inr t.1) in len_same all p k k w.1)
       (λ (n : ((lp_len p k == 0) ≡ false) × (lp_len p k ≢ 0)). l.len k lt (omega (arith, n.1)))
       (eqb_tells (lp_len p k) 0)
 
   pub packed_flags : (k : ℕ) → k < count p → lp_flags new k ≡ lp_flags p k
-  packed_flags k lt = flags_same new all k k (word_all_low k) (word_all_high k) ∙ ⊎_elim
+  packed_flags k lt = flags_same new all k k (u16_all_low k) (u16_all_high k) ∙ ⊎_elim
       (λ (t : ((lp_len p k == 0) ≡ true) × (lp_len p k ≡ 0)). let w = l.words k lt (inr t.1) in flags_same all p k k w.0 w.1)
       (λ (n : ((lp_len p k == 0) ≡ false) × (lp_len p k ≢ 0)). l.flags k lt (omega (arith, n.1)))
       (eqb_tells (lp_len p k) 0)
 
   pub packed_place : (k : ℕ) → k < count p → 0 < lp_len p k → lp_off new k ≡ packed_off p k
-  packed_place k lt some = off_same new all k k (word_all_low k) ∙ l.off k lt some
+  packed_place k lt some = off_same new all k k (u16_all_low k) ∙ l.off k lt some
 
   -- and so do the items
   pub packed_item : (k : ℕ) → k < count p → 0 < lp_len p k → item new k ≡ item p k
@@ -158,7 +159,7 @@ module _ (block : ℕ) (p q : List ℕ) (fp : IsFormed p) (fq : IsFormed q) (s :
   total_all = totals (count p) (omega arith) ∙ ap (total q) n
 
   specials : pd_special p ≡ pd_special q
-  specials = special_word p ∙ (λ t. s.head 16 (omega arith) (omega arith) t + 256 * s.head 17 (omega arith) (omega arith) t) ∙ sym (special_word q)
+  specials = special_u16 p ∙ (λ t. s.head 16 (omega arith) (omega arith) t + 256 * s.head 17 (omega arith) (omega arith) t) ∙ sym (special_u16 q)
 
   pub room_alike : pd_lower q + total q (count q) ≤ pd_special q
   room_alike = omega (arith, room, s.lowers, total_all, specials)
@@ -273,6 +274,6 @@ module _ (block : ℕ) (p q : List ℕ) (fp : IsFormed p) (fq : IsFormed q) (s :
 
       upper_byte : (i : ℕ) → 14 ≤ i → i < 16 → byte (packed p) i ≡ byte (packed q) i
       upper_byte i le lt =
-          byte-splice_in (all p fp room) 14 (word_bytes (pd_special p - total p (count p))) i (omega (arith, (l p fp room).size)) le lt
-          ∙ ap (λ u. byte (word_bytes u) (i - 14)) uppers
-          ∙ sym (byte-splice_in (all q fq room_alike) 14 (word_bytes (pd_special q - total q (count q))) i (omega (arith, (l q fq room_alike).size)) le lt)
+          byte-splice_in (all p fp room) 14 (u16_bytes (pd_special p - total p (count p))) i (omega (arith, (l p fp room).size)) le lt
+          ∙ ap (λ u. byte (u16_bytes u) (i - 14)) uppers
+          ∙ sym (byte-splice_in (all q fq room_alike) 14 (u16_bytes (pd_special q - total q (count q))) i (omega (arith, (l q fq room_alike).size)) le lt)

@@ -2,7 +2,7 @@
 use Rattle.std.proofs.Common.{◌≡◌, ◌≢◌, ℕ, zero, suc, ◌+◌, ◌-◌, ◌*◌, ◌/◌, ◌%◌, ◌<◌, ◌≤◌, ◌==◌, ◌&&◌, ◌⊎◌, inl, inr, ⊎_elim, List, ◌++◌, Bool, true, false, Option, Some, None, refl, sym, ◌∙◌, ap, subst, arith}
 use Rattle.std.specs.Prelude.{if◌then◌else◌, nat_lt, nat_le, replicate}
 use Rattle.std.proofs.lemmas.Bool.Decides.{nat_tests, eqb_tells, leb_tells}
-use Rattle.page_layout.specs.Bytes.{byte, word, up8}
+use Rattle.page_layout.specs.Bytes.{byte, u16_at, up8}
 use Rattle.page_layout.specs.Page.{pd_lower, pd_upper, count, lp_off, lp_flags, lp_len, item}
 use Rattle.page_layout.specs.Edits.{is_free, trimmed_count}
 use Rattle.page_layout.proofs.ReadLemmas.{off_same, len_same, flags_same}
@@ -34,17 +34,17 @@ module _ (block : ℕ) (p q : List ℕ) (s : SameLines block p q) (low : 24 ≤ 
   in_lines : (k : ℕ) → k < count p → 28 + 4 * k ≤ pd_lower p
   in_lines k lt = omega arith
 
-  line_word : (i : ℕ) → 24 ≤ i → i + 1 < pd_lower p → word p i ≡ word q i
-  line_word i le lt = λ t. s.lines i le (omega arith) t + 256 * s.lines (i + 1) (omega arith) lt t
+  line_u16 : (i : ℕ) → 24 ≤ i → i + 1 < pd_lower p → u16_at p i ≡ u16_at q i
+  line_u16 i le lt = λ t. s.lines i le (omega arith) t + 256 * s.lines (i + 1) (omega arith) lt t
 
   pub off_alike : (k : ℕ) → k < count p → lp_off p k ≡ lp_off q k
-  off_alike k lt = let room = in_lines k lt in off_same p q k k (line_word (24 + 4 * k) (omega arith) (omega arith))
+  off_alike k lt = let room = in_lines k lt in off_same p q k k (line_u16 (24 + 4 * k) (omega arith) (omega arith))
 
   pub len_alike : (k : ℕ) → k < count p → lp_len p k ≡ lp_len q k
-  len_alike k lt = let room = in_lines k lt in len_same p q k k (line_word (26 + 4 * k) (omega arith) (omega arith))
+  len_alike k lt = let room = in_lines k lt in len_same p q k k (line_u16 (26 + 4 * k) (omega arith) (omega arith))
 
   pub flags_alike : (k : ℕ) → k < count p → lp_flags p k ≡ lp_flags q k
-  flags_alike k lt = let room = in_lines k lt in flags_same p q k k (line_word (24 + 4 * k) (omega arith) (omega arith)) (line_word (26 + 4 * k) (omega arith) (omega arith))
+  flags_alike k lt = let room = in_lines k lt in flags_same p q k k (line_u16 (24 + 4 * k) (omega arith) (omega arith)) (line_u16 (26 + 4 * k) (omega arith) (omega arith))
 
   pub trimmed_alike : (n : ℕ) → n ≤ count p → trimmed_count p n ≡ trimmed_count q n
   trimmed_alike zero le = refl

@@ -3,12 +3,13 @@ use Rattle.std.proofs.Common.{◌≡◌, ◌≢◌, ℕ, zero, suc, ◌+◌, ◌
 use Rattle.std.specs.Prelude.{if◌then◌else◌, nat_le}
 use Rattle.std.proofs.lemmas.Bool.Decides.{eqb_tells, leb_tells}
 use Rattle.std.proofs.lemmas.List.{ext_get_or}
-use Rattle.page_layout.specs.Bytes.{byte, word, word_bytes, with_word, cut}
+use Rattle.page_layout.specs.Bytes.{byte, u16_at, u16_bytes, with_u16, cut}
 use Rattle.page_layout.specs.Page.{pd_lower, pd_upper, pd_special, count, lp_off, lp_flags, lp_len, item, line_fits, IsFormed}
 use Rattle.page_layout.specs.Edits.{with_pointer}
-use Rattle.page_layout.proofs.BytesLemmas.{length-splice, length-cut, byte-cut, byte-splice_in, byte-splice_below}
+use Rattle.layout.proofs.SpliceLemmas.{length-splice, byte-splice_in, byte-splice_below}
+use Rattle.page_layout.proofs.BytesLemmas.{length-cut, byte-cut}
 use Rattle.page_layout.proofs.LineViews.{len_is, off_other, len_other, flags_other, byte_other, pointer_size}
-use Rattle.page_layout.proofs.ReadLemmas.{lower_word, upper_word, special_word}
+use Rattle.page_layout.proofs.ReadLemmas.{lower_u16, upper_u16, special_u16}
 use Rattle.page_layout.proofs.ShapeLemmas.{lines_below, held_in}
 use Rattle.page_layout.proofs.ItemsStay.{fits_in}
 use Rattle.page_masks.specs.Mask.{holds, holder}
@@ -23,16 +24,16 @@ pointer_byte p q k off flags len i fits_p fits_q le lt = ⊎_elim
     (leb_tells (26 + 4 * k) i)
   where
     one : List ℕ → List ℕ
-    one r = with_word r (24 + 4 * k) (off + 32768 * (flags % 2))
+    one r = with_u16 r (24 + 4 * k) (off + 32768 * (flags % 2))
 
     size : (r : List ℕ) → 28 + 4 * k ≤ length r → length (one r) ≡ length r
-    size r fits = length-splice r (24 + 4 * k) (word_bytes (off + 32768 * (flags % 2))) (omega arith)
+    size r fits = length-splice r (24 + 4 * k) (u16_bytes (off + 32768 * (flags % 2))) (omega arith)
 
-    high : (r : List ℕ) → 28 + 4 * k ≤ length r → 26 + 4 * k ≤ i → byte (with_pointer r k off flags len) i ≡ byte (word_bytes (flags / 2 + 2 * len)) (i - (26 + 4 * k))
-    high r fits from = byte-splice_in (one r) (26 + 4 * k) (word_bytes (flags / 2 + 2 * len)) i (omega (arith, size r fits)) from (omega arith)
+    high : (r : List ℕ) → 28 + 4 * k ≤ length r → 26 + 4 * k ≤ i → byte (with_pointer r k off flags len) i ≡ byte (u16_bytes (flags / 2 + 2 * len)) (i - (26 + 4 * k))
+    high r fits from = byte-splice_in (one r) (26 + 4 * k) (u16_bytes (flags / 2 + 2 * len)) i (omega (arith, size r fits)) from (omega arith)
 
-    low : (r : List ℕ) → 28 + 4 * k ≤ length r → i < 26 + 4 * k → byte (with_pointer r k off flags len) i ≡ byte (word_bytes (off + 32768 * (flags % 2))) (i - (24 + 4 * k))
-    low r fits to = byte-splice_below (one r) (26 + 4 * k) (word_bytes (flags / 2 + 2 * len)) i (omega (arith, size r fits)) to ∙ byte-splice_in r (24 + 4 * k) (word_bytes (off + 32768 * (flags % 2))) i (omega arith) le (omega arith)
+    low : (r : List ℕ) → 28 + 4 * k ≤ length r → i < 26 + 4 * k → byte (with_pointer r k off flags len) i ≡ byte (u16_bytes (off + 32768 * (flags % 2))) (i - (24 + 4 * k))
+    low r fits to = byte-splice_below (one r) (26 + 4 * k) (u16_bytes (flags / 2 + 2 * len)) i (omega (arith, size r fits)) to ∙ byte-splice_in r (24 + 4 * k) (u16_bytes (off + 32768 * (flags % 2))) i (omega arith) le (omega arith)
 
 module _ (k off flags : ℕ) (small : off < 32768) (kind : flags < 4) where
   abbrev set : List ℕ → List ℕ
@@ -51,17 +52,17 @@ module _ (k off flags : ℕ) (small : off < 32768) (kind : flags < 4) where
     pub set_back : (i : ℕ) → pd_lower p ≤ i → byte (set p) i ≡ byte p i
     set_back i le = byte_other p k off flags 0 fits small kind i (inr (omega (arith, room)))
 
-    front_word : (i : ℕ) → i < 23 → word (set p) i ≡ word p i
-    front_word i lt = λ t. front i (omega arith) t + 256 * front (i + 1) (omega arith) t
+    front_u16 : (i : ℕ) → i < 23 → u16_at (set p) i ≡ u16_at p i
+    front_u16 i lt = λ t. front i (omega arith) t + 256 * front (i + 1) (omega arith) t
 
     pub set_lower : pd_lower (set p) ≡ pd_lower p
-    set_lower = lower_word (set p) ∙ front_word 12 (omega arith) ∙ sym (lower_word p)
+    set_lower = lower_u16 (set p) ∙ front_u16 12 (omega arith) ∙ sym (lower_u16 p)
 
     pub set_upper : pd_upper (set p) ≡ pd_upper p
-    set_upper = upper_word (set p) ∙ front_word 14 (omega arith) ∙ sym (upper_word p)
+    set_upper = upper_u16 (set p) ∙ front_u16 14 (omega arith) ∙ sym (upper_u16 p)
 
     pub set_special : pd_special (set p) ≡ pd_special p
-    set_special = special_word (set p) ∙ front_word 16 (omega arith) ∙ sym (special_word p)
+    set_special = special_u16 (set p) ∙ front_u16 16 (omega arith) ∙ sym (special_u16 p)
 
     pub set_count : count (set p) ≡ count p
     set_count = ap (λ n. (n - 24) / 4) set_lower
@@ -110,7 +111,7 @@ module _ (k off flags : ℕ) (small : off < 32768) (kind : flags < 4) where
         by4 = rw set_lower f.head.by4;
         by8 = rw set_upper f.head.by8;
         special8 = rw set_special f.head.special8;
-        layout = front_word 18 (omega arith) ∙ f.head.layout;
+        layout = front_u16 18 (omega arith) ∙ f.head.layout;
       };
       lines = lines_below (set p) (count (set p)) (λ j lt. line_stays j (omega (arith, lt, set_count)));
     }

@@ -1,7 +1,8 @@
 -- Changes of a heap tuple that its mask determines.
 use Rattle.std.proofs.Common.{◌≡◌, ℕ, ◌+◌, ◌≤◌, List, length, sym, ◌∙◌, arith}
-use Rattle.page_layout.specs.Bytes.{word, splice, with_word, word_bytes}
-use Rattle.page_layout.proofs.BytesLemmas.{length-splice}
+use Rattle.layout.specs.Splice.{splice}
+use Rattle.page_layout.specs.Bytes.{u16_at, with_u16, u16_bytes}
+use Rattle.layout.proofs.SpliceLemmas.{length-splice}
 use Rattle.page_masks.specs.Mask.{masked_infomask}
 use Rattle.page_laws.specs.Change.{ItemChange}
 use Rattle.page_laws.proofs.TupleLaw.{TupleAlike, tuple_alike, alike_masks, put_low, put_tid, put_bits2, put_bits}
@@ -18,11 +19,11 @@ low_change block place at bytes low = change_of block place (λ x. splice x at b
 pub address_change : (block place : ℕ) (bytes : List ℕ) → length bytes ≡ 6 → ItemChange block place (λ x. splice x 12 bytes)
 address_change block place bytes six = change_of block place (λ x. splice x 12 bytes) (λ x long. length-splice x 12 bytes (omega (arith, six, long))) (λ x y a. put_tid block place x y bytes six a)
 
-pub infomask2_change : (block place : ℕ) (g : ℕ → ℕ) → ItemChange block place (λ x. with_word x 18 (g (word x 18)))
-infomask2_change block place g = change_of block place (λ x. with_word x 18 (g (word x 18))) (λ x long. length-splice x 18 (word_bytes (g (word x 18))) (omega (arith, long))) (λ x y a. put_bits2 block place g x y a)
+pub infomask2_change : (block place : ℕ) (g : ℕ → ℕ) → ItemChange block place (λ x. with_u16 x 18 (g (u16_at x 18)))
+infomask2_change block place g = change_of block place (λ x. with_u16 x 18 (g (u16_at x 18))) (λ x long. length-splice x 18 (u16_bytes (g (u16_at x 18))) (omega (arith, long))) (λ x y a. put_bits2 block place g x y a)
 
-pub infomask_change : (block place : ℕ) (g : ℕ → ℕ) → ((v w : ℕ) → masked_infomask v ≡ masked_infomask w → masked_infomask (g v) ≡ masked_infomask (g w)) → ItemChange block place (λ x. with_word x 20 (g (word x 20)))
-infomask_change block place g law = change_of block place (λ x. with_word x 20 (g (word x 20))) (λ x long. length-splice x 20 (word_bytes (g (word x 20))) (omega (arith, long))) (λ x y a. put_bits block place g x y law a)
+pub infomask_change : (block place : ℕ) (g : ℕ → ℕ) → ((v w : ℕ) → masked_infomask v ≡ masked_infomask w → masked_infomask (g v) ≡ masked_infomask (g w)) → ItemChange block place (λ x. with_u16 x 20 (g (u16_at x 20)))
+infomask_change block place g law = change_of block place (λ x. with_u16 x 20 (g (u16_at x 20))) (λ x long. length-splice x 20 (u16_bytes (g (u16_at x 20))) (omega (arith, long))) (λ x y a. put_bits block place g x y law a)
 
 pub both_changes : (block place : ℕ) (f g : List ℕ → List ℕ) → ItemChange block place f → ItemChange block place g → ItemChange block place (λ x. g (f x))
 both_changes block place f g a b = record {

@@ -3,8 +3,9 @@ use Rattle.std.proofs.Common.{◌≡◌, ℕ, ◌+◌, ◌-◌, ◌*◌, ◌/◌
 use Rattle.std.specs.Prelude.{if◌then◌else◌, nat_le}
 use Rattle.std.proofs.lemmas.Bool.Decides.{leb_tells}
 use Rattle.std.proofs.lemmas.List.{ext_get_or}
-use Rattle.page_layout.specs.Bytes.{byte, word, splice, with_word, word_bytes}
-use Rattle.page_layout.proofs.BytesLemmas.{length-splice, byte-splice_in, byte-splice_out, byte-splice_below, byte-splice_above}
+use Rattle.layout.specs.Splice.{splice}
+use Rattle.page_layout.specs.Bytes.{byte, u16_at, with_u16, u16_bytes}
+use Rattle.layout.proofs.SpliceLemmas.{length-splice, byte-splice_in, byte-splice_out, byte-splice_below, byte-splice_above}
 use Rattle.page_masks.specs.Mask.{masked_item, masked_tuple, masked_infomask, tid_bytes}
 use Rattle.page_masks.proofs.Laid.{length-masked_item}
 use Rattle.page_masks.proofs.TupleBytes.{tid_byte, low_shows, zero_shows, tid_shows, mid_shows, bits_show, rest_shows, tuple_is}
@@ -16,7 +17,7 @@ module _ (block place : ℕ) where
     pub xids : (o : ℕ) → o < 8 → byte x o ≡ byte y o
     pub tid : (o : ℕ) → o < 6 → tid_byte block place x o ≡ tid_byte block place y o
     pub bits2 : (o : ℕ) → 18 ≤ o → o < 20 → byte x o ≡ byte y o
-    pub bits : masked_infomask (word x 20) ≡ masked_infomask (word y 20)
+    pub bits : masked_infomask (u16_at x 20) ≡ masked_infomask (u16_at y 20)
     pub rest : (o : ℕ) → 22 ≤ o → byte x o ≡ byte y o
 
   halves : (a b : ℕ) → a % 256 ≡ b % 256 → a / 256 ≡ b / 256 → a ≡ b
@@ -29,7 +30,7 @@ module _ (block place : ℕ) where
     xids = λ o lt. sym (low_shows block place x o h lt) ∙ at o ∙ low_shows block place y o h_y lt;
     tid = λ o lt. sym (tid_shows block place x o h lt) ∙ at (12 + o) ∙ tid_shows block place y o h_y lt;
     bits2 = λ o le lt. sym (mid_shows block place x o h le lt) ∙ at o ∙ mid_shows block place y o h_y le lt;
-    bits = halves (masked_infomask (word x 20)) (masked_infomask (word y 20)) (sym (bits_show block place x 20 h (omega arith) (omega arith)) ∙ at 20 ∙ bits_show block place y 20 h_y (omega arith) (omega arith))
+    bits = halves (masked_infomask (u16_at x 20)) (masked_infomask (u16_at y 20)) (sym (bits_show block place x 20 h (omega arith) (omega arith)) ∙ at 20 ∙ bits_show block place y 20 h_y (omega arith) (omega arith))
         (sym (bits_show block place x 21 h (omega arith) (omega arith)) ∙ at 21 ∙ bits_show block place y 21 h_y (omega arith) (omega arith));
     rest = λ o le. sym (rest_shows block place x o h le) ∙ at o ∙ rest_shows block place y o h_y le;
   }
@@ -54,7 +55,7 @@ module _ (block place : ℕ) where
       each o = ⊎_elim
           (λ (t22 : (nat_le 22 o ≡ true) × (22 ≤ o)). rest_shows block place x o a.long t22.1 ∙ a.rest o t22.1 ∙ sym (rest_shows block place y o h_y t22.1))
           (λ (f22 : (nat_le 22 o ≡ false) × (o < 22)). ⊎_elim
-          (λ (t20 : (nat_le 20 o ≡ true) × (20 ≤ o)). bits_show block place x o a.long t20.1 f22.1 ∙ ap (λ n. byte (word_bytes n) (o - 20)) a.bits ∙ sym (bits_show block place y o h_y t20.1 f22.1))
+          (λ (t20 : (nat_le 20 o ≡ true) × (20 ≤ o)). bits_show block place x o a.long t20.1 f22.1 ∙ ap (λ n. byte (u16_bytes n) (o - 20)) a.bits ∙ sym (bits_show block place y o h_y t20.1 f22.1))
           (λ (f20 : (nat_le 20 o ≡ false) × (o < 20)). ⊎_elim
           (λ (t18 : (nat_le 18 o ≡ true) × (18 ≤ o)). mid_shows block place x o a.long t18.1 f20.1 ∙ a.bits2 o t18.1 f20.1 ∙ sym (mid_shows block place y o h_y t18.1 f20.1))
           (λ (f18 : (nat_le 18 o ≡ false) × (o < 18)). ⊎_elim
@@ -91,8 +92,8 @@ module _ (block place : ℕ) where
       at : (i : ℕ) → 12 ≤ i → i < 18 → byte (splice x a bs) i ≡ byte x i
       at i le lt = byte-splice_out x a bs i fits (⊎_elim (λ (l : a + length bs ≤ 12). inr (omega (arith, l, le))) (λ (h : 18 ≤ a). inl (omega (arith, h, lt))) away)
 
-  word_out : (x : List ℕ) (a : ℕ) (bs : List ℕ) (i : ℕ) → a + length bs ≤ length x → (i + 1 < a) ⊎ (a + length bs ≤ i) → word (splice x a bs) i ≡ word x i
-  word_out x a bs i fits out = λ t. byte-splice_out x a bs i fits (one out) t + 256 * byte-splice_out x a bs (i + 1) fits (two out) t
+  u16_out : (x : List ℕ) (a : ℕ) (bs : List ℕ) (i : ℕ) → a + length bs ≤ length x → (i + 1 < a) ⊎ (a + length bs ≤ i) → u16_at (splice x a bs) i ≡ u16_at x i
+  u16_out x a bs i fits out = λ t. byte-splice_out x a bs i fits (one out) t + 256 * byte-splice_out x a bs (i + 1) fits (two out) t
     where
       one : (i + 1 < a) ⊎ (a + length bs ≤ i) → (i < a) ⊎ (a + length bs ≤ i)
       one o = ⊎_elim (λ (l : i + 1 < a). inl (omega (arith, l))) (λ r. inr r) o
@@ -112,7 +113,7 @@ module _ (block place : ℕ) where
         xids = λ o lt. over_both x y a bs o fx al.size (λ out. al.xids o lt);
         tid = λ o lt. tid_stays x a bs o al.long fx lt (inl low) ∙ al.tid o lt ∙ sym (tid_stays y a bs o ly fy lt (inl low));
         bits2 = λ o le lt. over_both x y a bs o fx al.size (λ out. al.bits2 o le lt);
-        bits = (λ t. masked_infomask (word_out x a bs 20 fx (inr (omega (arith, low))) t)) ∙ al.bits ∙ (λ t. masked_infomask (sym (word_out y a bs 20 fy (inr (omega (arith, low)))) t));
+        bits = (λ t. masked_infomask (u16_out x a bs 20 fx (inr (omega (arith, low))) t)) ∙ al.bits ∙ (λ t. masked_infomask (sym (u16_out y a bs 20 fy (inr (omega (arith, low)))) t));
         rest = λ o le. over_both x y a bs o fx al.size (λ out. al.rest o le);
       }
 
@@ -127,7 +128,7 @@ module _ (block place : ℕ) where
         xids = λ o lt. over_both x y 12 bs o fx al.size (λ out. al.xids o lt);
         tid = λ o lt. λ t. if ((at 16 fx (omega arith) (omega arith) t + 256 * at 17 fx (omega arith) (omega arith) t) == 0xFFFE) then byte (tid_bytes block place) o else at (12 + o) fx (omega arith) (omega arith) t;
         bits2 = λ o le lt. over_both x y 12 bs o fx al.size (λ out. al.bits2 o le lt);
-        bits = (λ t. masked_infomask (word_out x 12 bs 20 fx (inr (omega (arith, six))) t)) ∙ al.bits ∙ (λ t. masked_infomask (sym (word_out y 12 bs 20 fy (inr (omega (arith, six)))) t));
+        bits = (λ t. masked_infomask (u16_out x 12 bs 20 fx (inr (omega (arith, six))) t)) ∙ al.bits ∙ (λ t. masked_infomask (sym (u16_out y 12 bs 20 fy (inr (omega (arith, six)))) t));
         rest = λ o le. over_both x y 12 bs o fx al.size (λ out. al.rest o le);
       }
     where
@@ -135,14 +136,14 @@ module _ (block place : ℕ) where
       at i fx le lt = byte-splice_in x 12 bs i fx le (omega (arith, six, lt)) ∙ sym (byte-splice_in y 12 bs i (omega (arith, fx, al.size)) le (omega (arith, six, lt)))
 
   -- the second mask, by a function of itself
-  pub put_bits2 : (g : ℕ → ℕ) (x y : List ℕ) → TupleAlike x y → TupleAlike (with_word x 18 (g (word x 18))) (with_word y 18 (g (word y 18)))
-  put_bits2 g x y al = subst (λ n. TupleAlike (with_word x 18 (g (word x 18))) (with_word y 18 (g n))) same made
+  pub put_bits2 : (g : ℕ → ℕ) (x y : List ℕ) → TupleAlike x y → TupleAlike (with_u16 x 18 (g (u16_at x 18))) (with_u16 y 18 (g (u16_at y 18)))
+  put_bits2 g x y al = subst (λ n. TupleAlike (with_u16 x 18 (g (u16_at x 18))) (with_u16 y 18 (g n))) same made
     where
-      same : word x 18 ≡ word y 18
+      same : u16_at x 18 ≡ u16_at y 18
       same = λ t. al.bits2 18 (omega arith) (omega arith) t + 256 * al.bits2 19 (omega arith) (omega arith) t
 
       bs : List ℕ
-      bs = word_bytes (g (word x 18))
+      bs = u16_bytes (g (u16_at x 18))
 
       two : length bs ≡ 2
       two = refl
@@ -163,14 +164,14 @@ module _ (block place : ℕ) where
         xids = λ o lt. over_both x y 18 bs o fx al.size (λ out. al.xids o lt);
         tid = λ o lt. tid_stays x 18 bs o al.long fx lt (inr (omega arith)) ∙ al.tid o lt ∙ sym (tid_stays y 18 bs o ly fy lt (inr (omega arith)));
         bits2 = λ o le lt. over_both x y 18 bs o fx al.size (λ out. al.bits2 o le lt);
-        bits = (λ t. masked_infomask (word_out x 18 bs 20 fx (inr (omega (arith, two))) t)) ∙ al.bits ∙ (λ t. masked_infomask (sym (word_out y 18 bs 20 fy (inr (omega (arith, two)))) t));
+        bits = (λ t. masked_infomask (u16_out x 18 bs 20 fx (inr (omega (arith, two))) t)) ∙ al.bits ∙ (λ t. masked_infomask (sym (u16_out y 18 bs 20 fy (inr (omega (arith, two)))) t));
         rest = λ o le. over_both x y 18 bs o fx al.size (λ out. al.rest o le);
       }
 
-  word_in : (x : List ℕ) (n : ℕ) → 23 ≤ length x → word (with_word x 20 n) 20 ≡ n
-  word_in x n long =
-      let a : byte (with_word x 20 n) 20 ≡ n % 256 = byte-splice_in x 20 (word_bytes n) 20 (omega arith) (omega arith) (omega arith) in
-      let b : byte (with_word x 20 n) 21 ≡ n / 256 = byte-splice_in x 20 (word_bytes n) 21 (omega arith) (omega arith) (omega arith) in
+  u16_in : (x : List ℕ) (n : ℕ) → 23 ≤ length x → u16_at (with_u16 x 20 n) 20 ≡ n
+  u16_in x n long =
+      let a : byte (with_u16 x 20 n) 20 ≡ n % 256 = byte-splice_in x 20 (u16_bytes n) 20 (omega arith) (omega arith) (omega arith) in
+      let b : byte (with_u16 x 20 n) 21 ≡ n / 256 = byte-splice_in x 20 (u16_bytes n) 21 (omega arith) (omega arith) (omega arith) in
       (λ t. a t + 256 * b t) ∙ whole n
     where
       whole : (n : ℕ) → n % 256 + 256 * (n / 256) ≡ n
@@ -178,20 +179,20 @@ module _ (block place : ℕ) where
 
   -- the first mask, by a function that what shows of it determines
   pub put_bits : (g : ℕ → ℕ) (x y : List ℕ) → ((v w : ℕ) → masked_infomask v ≡ masked_infomask w → masked_infomask (g v) ≡ masked_infomask (g w))
-      → TupleAlike x y → TupleAlike (with_word x 20 (g (word x 20))) (with_word y 20 (g (word y 20)))
+      → TupleAlike x y → TupleAlike (with_u16 x 20 (g (u16_at x 20))) (with_u16 y 20 (g (u16_at y 20)))
   put_bits g x y law al =
       let ly : 23 ≤ length y = omega (arith, al.long, al.size) in
-      let bx = word_bytes (g (word x 20)) in
-      let by = word_bytes (g (word y 20)) in
+      let bx = u16_bytes (g (u16_at x 20)) in
+      let by = u16_bytes (g (u16_at y 20)) in
       record {
         long = omega (arith, length-splice x 20 bx (omega (arith, al.long)), al.long);
         size = sizes_stay x y 20 bx by (omega (arith, al.long)) (omega (arith, ly)) al.size;
-        xids = λ o lt. out x (g (word x 20)) o al.long (inl (omega arith)) ∙ al.xids o lt ∙ sym (out y (g (word y 20)) o ly (inl (omega arith)));
+        xids = λ o lt. out x (g (u16_at x 20)) o al.long (inl (omega arith)) ∙ al.xids o lt ∙ sym (out y (g (u16_at y 20)) o ly (inl (omega arith)));
         tid = λ o lt. tid_stays x 20 bx o al.long (omega (arith, al.long)) lt (inr (omega arith)) ∙ al.tid o lt ∙ sym (tid_stays y 20 by o ly (omega (arith, ly)) lt (inr (omega arith)));
-        bits2 = λ o le lt. out x (g (word x 20)) o al.long (inl lt) ∙ al.bits2 o le lt ∙ sym (out y (g (word y 20)) o ly (inl lt));
-        bits = ap masked_infomask (word_in x (g (word x 20)) al.long) ∙ law (word x 20) (word y 20) al.bits ∙ sym (ap masked_infomask (word_in y (g (word y 20)) ly));
-        rest = λ o le. out x (g (word x 20)) o al.long (inr le) ∙ al.rest o le ∙ sym (out y (g (word y 20)) o ly (inr le));
+        bits2 = λ o le lt. out x (g (u16_at x 20)) o al.long (inl lt) ∙ al.bits2 o le lt ∙ sym (out y (g (u16_at y 20)) o ly (inl lt));
+        bits = ap masked_infomask (u16_in x (g (u16_at x 20)) al.long) ∙ law (u16_at x 20) (u16_at y 20) al.bits ∙ sym (ap masked_infomask (u16_in y (g (u16_at y 20)) ly));
+        rest = λ o le. out x (g (u16_at x 20)) o al.long (inr le) ∙ al.rest o le ∙ sym (out y (g (u16_at y 20)) o ly (inr le));
       }
     where
-      out : (t : List ℕ) (n o : ℕ) → 23 ≤ length t → (o < 20) ⊎ (22 ≤ o) → byte (with_word t 20 n) o ≡ byte t o
-      out t n o long away = byte-splice_out t 20 (word_bytes n) o (omega arith) away
+      out : (t : List ℕ) (n o : ℕ) → 23 ≤ length t → (o < 20) ⊎ (22 ≤ o) → byte (with_u16 t 20 n) o ≡ byte t o
+      out t n o long away = byte-splice_out t 20 (u16_bytes n) o (omega arith) away

@@ -1,7 +1,8 @@
 -- B-tree pages, and one made anew with its special space kept: PostgreSQL 16, src/include/access/nbtree.h, BTPageOpaqueData, and
 -- src/backend/storage/page/bufpage.c, PageGetTempPageCopySpecial.
 use Rattle.std.specs.Prelude.{ℕ, ◌≡◌, ◌+◌, ◌*◌, ◌/◌, ◌%◌, ◌<◌, ◌≤◌, List, [], ◌∷◌, length}
-use Rattle.page_layout.specs.Bytes.{byte, word, splice, cut}
+use Rattle.layout.specs.Splice.{splice}
+use Rattle.page_layout.specs.Bytes.{byte, u16_at, cut}
 use Rattle.page_layout.specs.Page.{count, lp_off, lp_len, item}
 use Rattle.page_layout.specs.Edits.{init_bytes}
 use Rattle.page_masks.specs.Shapes.{IsBtree}
@@ -9,7 +10,7 @@ use Rattle.page_masks.specs.Shapes.{IsBtree}
 -- a page of the kind B-tree: its cycle id is at most MAX_BT_CYCLE_ID
 pub record BtreePage (p : List ℕ) : Type 0 where
   pub page : IsBtree p
-  pub cycle : word p 8190 ≤ 0xFF7F
+  pub cycle : u16_at p 8190 ≤ 0xFF7F
 
 -- the page without lines and items, its special space as it was
 abbrev pub made_anew : List ℕ → List ℕ
@@ -40,7 +41,7 @@ with_special change p = splice p 8176 (change (cut p 8176 16))
 pub record SpecialChange (change : List ℕ → List ℕ) : Type 0 where
   pub size : (x : List ℕ) → length x ≡ 16 → length (change x) ≡ 16
   pub shown : (x y : List ℕ) → length x ≡ 16 → length y ≡ 16 → shown_special x ≡ shown_special y → shown_special (change x) ≡ shown_special (change y)
-  pub cycle : (x : List ℕ) → length x ≡ 16 → word x 14 ≤ 0xFF7F → word (change x) 14 ≤ 0xFF7F
+  pub cycle : (x : List ℕ) → length x ≡ 16 → u16_at x 14 ≤ 0xFF7F → u16_at (change x) 14 ≤ 0xFF7F
 
 -- a leaf stays one
 abbrev pub StaysLeaf : (List ℕ → List ℕ) → Type 0

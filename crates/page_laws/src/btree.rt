@@ -1,5 +1,6 @@
 ghost use Rattle.std.specs.Prelude.{ℕ, ◌≡◌, ◌+◌, ◌≤◌, ◌⊎◌, ◌↔◌, List, [], ◌∷◌, length, false, Ok};
-ghost use Rattle.page_layout.specs.Bytes.{byte, splice, with_word};
+ghost use Rattle.layout.specs.Splice.{splice};
+ghost use Rattle.page_layout.specs.Bytes.{byte, with_u16};
 ghost use Rattle.page_layout.specs.Page.{count};
 ghost use Rattle.page_layout.specs.Edits.{add_item, init_bytes};
 ghost use Rattle.page_layout.specs.Deletes.{delete_items};
@@ -72,7 +73,7 @@ pub fn special_changes()
         ((b c : ℕ) → shown_flags b ≡ shown_flags c → shown_flags (f b) ≡ shown_flags (f c)) →
         SpecialChange (λ x. splice x 12 (f (byte x 12) ∷ [])) }
     ensures cycle { (n : ℕ) → n ≤ 0xFF7F →
-        SpecialChange (λ x. with_word x 14 n) × StaysLeaf (λ x. with_word x 14 n) }
+        SpecialChange (λ x. with_u16 x 14 n) × StaysLeaf (λ x. with_u16 x 14 n) }
     ensures both { (f g : List ℕ → List ℕ) → SpecialChange f → SpecialChange g →
         SpecialChange (λ x. g (f x)) }
 {}

@@ -1,5 +1,6 @@
 ghost use Rattle.std.specs.Prelude.{ℕ, ◌≡◌, ◌+◌, ◌<◌, ◌≤◌, List, length, true, Ok, IsTrue};
-ghost use Rattle.page_layout.specs.Bytes.{word, splice, with_word};
+ghost use Rattle.layout.specs.Splice.{splice};
+ghost use Rattle.page_layout.specs.Bytes.{u16_at, with_u16};
 ghost use Rattle.page_layout.specs.Page.{count, lp_flags, lp_len};
 ghost use Rattle.page_layout.specs.Edits.{with_pointer, add_item, trimmed};
 ghost use Rattle.page_layout.specs.Pack.{pack};
@@ -85,11 +86,11 @@ pub fn tuple_changes()
     ensures address { (block place : ℕ) (bytes : List ℕ) → length bytes ≡ 6 →
         ItemChange block place (λ x. splice x 12 bytes) }
     ensures infomask2 { (block place : ℕ) (g : ℕ → ℕ) →
-        ItemChange block place (λ x. with_word x 18 (g (word x 18))) }
+        ItemChange block place (λ x. with_u16 x 18 (g (u16_at x 18))) }
     ensures infomask { (block place : ℕ) (g : ℕ → ℕ) →
         ((v w : ℕ) → masked_infomask v ≡ masked_infomask w →
         masked_infomask (g v) ≡ masked_infomask (g w)) →
-        ItemChange block place (λ x. with_word x 20 (g (word x 20))) }
+        ItemChange block place (λ x. with_u16 x 20 (g (u16_at x 20))) }
     ensures both { (block place : ℕ) (f g : List ℕ → List ℕ) → ItemChange block place f →
         ItemChange block place g → ItemChange block place (λ x. g (f x)) }
 {}

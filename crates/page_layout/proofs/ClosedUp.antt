@@ -2,13 +2,15 @@
 use Rattle.std.proofs.Common.{◌≡◌, ◌≢◌, ℕ, zero, suc, ◌+◌, ◌-◌, ◌*◌, ◌<◌, ◌≤◌, ◌==◌, ◌&&◌, ◌⊎◌, inl, inr, ⊎_elim, List, Bool, true, false, length, refl, sym, ◌∙◌, ap, subst, arith}
 use Rattle.std.specs.Prelude.{nat_lt, if◌then◌else◌}
 use Rattle.std.proofs.lemmas.Bool.Decides.{eqb_tells, nat_tests}
-use Rattle.page_layout.specs.Bytes.{byte, word, splice, word_bytes, cut, up8}
+use Rattle.layout.specs.Splice.{splice}
+use Rattle.page_layout.specs.Bytes.{byte, u16_at, u16_bytes, cut, up8}
 use Rattle.page_layout.specs.Page.{pd_lower, pd_upper, count, lp_off, lp_flags, lp_len, ItemIn, IsFormed}
 use Rattle.page_layout.specs.Edits.{with_pointer}
 use Rattle.page_layout.specs.Deletes.{raised, moved_line, moved_lines, closed_up}
-use Rattle.page_layout.proofs.BytesLemmas.{length-splice, byte-splice_in, byte-splice_out, byte-splice_below, byte-splice_above, length-cut, byte-cut}
-use Rattle.page_layout.proofs.LineViews.{word-with_word, off_is, len_is, flags_is, off_other, len_other, flags_other, byte_other, pointer_size}
-use Rattle.page_layout.proofs.ReadLemmas.{lower_word, upper_word, off_same, len_same, flags_same}
+use Rattle.layout.proofs.SpliceLemmas.{length-splice, byte-splice_in, byte-splice_out, byte-splice_below, byte-splice_above}
+use Rattle.page_layout.proofs.BytesLemmas.{length-cut, byte-cut}
+use Rattle.page_layout.proofs.LineViews.{u16_at-with_u16, off_is, len_is, flags_is, off_other, len_other, flags_other, byte_other, pointer_size}
+use Rattle.page_layout.proofs.ReadLemmas.{lower_u16, upper_u16, off_same, len_same, flags_same}
 use Rattle.page_layout.proofs.ShapeLemmas.{line_fits_at, item_in, flags_small}
 
 record Raised (p : List ℕ) (at size : ℕ) (r : List ℕ) : Type 0 where
@@ -21,7 +23,7 @@ record Raised (p : List ℕ) (at size : ℕ) (r : List ℕ) : Type 0 where
 
 raised_is : (p : List ℕ) (at size : ℕ) → length p ≡ 8192 → 24 ≤ pd_upper p → pd_upper p ≤ at → at + size ≤ 8192 → Raised p at size (raised p at size)
 raised_is p at size size8 low above below = record {
-  size8 = length-splice closed 14 (word_bytes (pd_upper p + size)) (omega (arith, closed_size)) ∙ closed_size;
+  size8 = length-splice closed 14 (u16_bytes (pd_upper p + size)) (omega (arith, closed_size)) ∙ closed_size;
   upper = upper_is;
   low = λ i lt. other i (inl lt) ∙ byte-splice_below p (pd_upper p + size) part i fits (omega arith);
   front = λ i le lt. other i (inr le) ∙ byte-splice_below p (pd_upper p + size) part i fits lt;
@@ -48,10 +50,10 @@ raised_is p at size size8 low above below = record {
     closed_size = length-splice p (pd_upper p + size) part fits ∙ size8
 
     other : (i : ℕ) → (i < 14) ⊎ (16 ≤ i) → byte (raised p at size) i ≡ byte closed i
-    other i out = byte-splice_out closed 14 (word_bytes (pd_upper p + size)) i (omega (arith, closed_size)) out
+    other i out = byte-splice_out closed 14 (u16_bytes (pd_upper p + size)) i (omega (arith, closed_size)) out
 
     upper_is : pd_upper (raised p at size) ≡ pd_upper p + size
-    upper_is = upper_word (raised p at size) ∙ word-with_word closed 14 (pd_upper p + size) (omega (arith, closed_size))
+    upper_is = upper_u16 (raised p at size) ∙ u16_at-with_u16 closed 14 (pd_upper p + size) (omega (arith, closed_size))
 
 -- where line j's item lies once those below `at` moved up
 abbrev pub moved_off : ℕ → ℕ → List ℕ → ℕ → ℕ
@@ -147,8 +149,8 @@ pub record ClosedUp (p : List ℕ) (k : ℕ) (q : List ℕ) : Type 0 where
   pub above : (i : ℕ) → lp_off p k + up8 (lp_len p k) ≤ i → byte q i ≡ byte p i
 
 -- the raised page has the lines of the old one
-raised_word : (p : List ℕ) (at size : ℕ) (r : List ℕ) (i : ℕ) → Raised p at size r → 16 ≤ i → i + 1 < pd_upper p + size → word r i ≡ word p i
-raised_word p at size r i m le lt = λ t. m.front i le (omega arith) t + 256 * m.front (i + 1) (omega arith) lt t
+raised_u16 : (p : List ℕ) (at size : ℕ) (r : List ℕ) (i : ℕ) → Raised p at size r → 16 ≤ i → i + 1 < pd_upper p + size → u16_at r i ≡ u16_at p i
+raised_u16 p at size r i m le lt = λ t. m.front i le (omega arith) t + 256 * m.front (i + 1) (omega arith) lt t
 
 pub closed_up_is : (p : List ℕ) (k : ℕ) → IsFormed p → k < count p → 0 < lp_len p k → ClosedUp p k (closed_up p k)
 closed_up_is p k f there some = rw sure (made (raised p at size) r (moved_lines (raised p at size) at size (count p)) m)
@@ -189,16 +191,16 @@ closed_up_is p k f there some = rw sure (made (raised p at size) r (moved_lines 
         room j lt = omega (arith, f.head.low, f.head.by4, f.head.mid)
 
         off : (j : ℕ) → j < count p → lp_off r j ≡ lp_off p j
-        off j lt = let fits = room j lt in off_same r p j j (raised_word p at size r (24 + 4 * j) raised (omega arith) (omega arith))
+        off j lt = let fits = room j lt in off_same r p j j (raised_u16 p at size r (24 + 4 * j) raised (omega arith) (omega arith))
 
         len : (j : ℕ) → j < count p → lp_len r j ≡ lp_len p j
-        len j lt = let fits = room j lt in len_same r p j j (raised_word p at size r (26 + 4 * j) raised (omega arith) (omega arith))
+        len j lt = let fits = room j lt in len_same r p j j (raised_u16 p at size r (26 + 4 * j) raised (omega arith) (omega arith))
 
         flags : (j : ℕ) → j < count p → lp_flags r j ≡ lp_flags p j
-        flags j lt = let fits = room j lt in flags_same r p j j (raised_word p at size r (24 + 4 * j) raised (omega arith) (omega arith)) (raised_word p at size r (26 + 4 * j) raised (omega arith) (omega arith))
+        flags j lt = let fits = room j lt in flags_same r p j j (raised_u16 p at size r (24 + 4 * j) raised (omega arith) (omega arith)) (raised_u16 p at size r (26 + 4 * j) raised (omega arith) (omega arith))
 
         lower : pd_lower q ≡ pd_lower p
-        lower = lower_word q ∙ (λ t. (m.outside 12 (inl (omega arith)) ∙ raised.low 12 (omega arith)) t + 256 * (m.outside 13 (inl (omega arith)) ∙ raised.low 13 (omega arith)) t) ∙ sym (lower_word p)
+        lower = lower_u16 q ∙ (λ t. (m.outside 12 (inl (omega arith)) ∙ raised.low 12 (omega arith)) t + 256 * (m.outside 13 (inl (omega arith)) ∙ raised.low 13 (omega arith)) t) ∙ sym (lower_u16 p)
 
         upper : pd_upper q ≡ pd_upper p + size
-        upper = upper_word q ∙ (λ t. m.outside 14 (inl (omega arith)) t + 256 * m.outside 15 (inl (omega arith)) t) ∙ sym (upper_word r) ∙ raised.upper
+        upper = upper_u16 q ∙ (λ t. m.outside 14 (inl (omega arith)) t + 256 * m.outside 15 (inl (omega arith)) t) ∙ sym (upper_u16 r) ∙ raised.upper

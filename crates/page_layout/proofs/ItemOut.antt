@@ -6,7 +6,7 @@ use Rattle.page_layout.specs.Bytes.{byte, up8}
 use Rattle.page_layout.specs.Page.{pd_upper, pd_special, count, lp_off, lp_flags, lp_len, Head, IsFormed}
 use Rattle.page_layout.specs.Deletes.{closed_up, without_item}
 use Rattle.page_layout.proofs.ShapeLemmas.{held_in}
-use Rattle.page_layout.proofs.ReadLemmas.{special_word}
+use Rattle.page_layout.proofs.ReadLemmas.{special_u16}
 use Rattle.page_layout.proofs.ClosedUp.{ClosedUp, closed_up_is, moved_off}
 use Rattle.page_layout.proofs.LineOut.{LineOut, line_out, skip, skip_below, count_out, off_out, len_out, flags_out, upper_out, special_out, head_out}
 
@@ -66,7 +66,7 @@ module _ (p : List ℕ) (k : ℕ) (f : IsFormed p) (there : k < count p) where
   c = closed_up p k
 
   special_c : pd_special c ≡ pd_special p
-  special_c = special_word c ∙ (λ t. any_closed_up.head 16 (omega arith) (omega arith) t + 256 * any_closed_up.head 17 (omega arith) (omega arith) t) ∙ sym (special_word p)
+  special_c = special_u16 c ∙ (λ t. any_closed_up.head 16 (omega arith) (omega arith) t + 256 * any_closed_up.head 17 (omega arith) (omega arith) t) ∙ sym (special_u16 p)
 
   high : pd_upper p + up8 (lp_len p k) ≤ pd_special p
   high = ⊎_elim

@@ -2,11 +2,13 @@
 use Rattle.std.proofs.Common.{◌≡◌, ℕ, ◌+◌, ◌-◌, ◌*◌, ◌/◌, ◌%◌, ◌<◌, ◌≤◌, ◌⊎◌, inl, inr, ⊎_elim, List, true, false, length, refl, ◌∙◌, ap, arith}
 use Rattle.std.specs.Prelude.{nat_lt, nat_le, if◌then◌else◌}
 use Rattle.std.proofs.lemmas.Bool.Decides.{leb_tells, nat_tests}
-use Rattle.page_layout.specs.Bytes.{byte, word, splice, word_bytes, cut}
+use Rattle.layout.specs.Splice.{splice}
+use Rattle.page_layout.specs.Bytes.{byte, u16_at, u16_bytes, cut}
 use Rattle.page_layout.specs.Page.{pd_lower, pd_upper, pd_special, count, lp_off, lp_flags, lp_len, line_fits, lines_fit, Head, IsFormed}
 use Rattle.page_layout.specs.Deletes.{without_line}
-use Rattle.page_layout.proofs.BytesLemmas.{length-splice, byte-splice_in, byte-splice_out, byte-splice_below, byte-splice_above, length-cut, byte-cut}
-use Rattle.page_layout.proofs.LineViews.{word-with_word}
+use Rattle.layout.proofs.SpliceLemmas.{length-splice, byte-splice_in, byte-splice_out, byte-splice_below, byte-splice_above}
+use Rattle.page_layout.proofs.BytesLemmas.{length-cut, byte-cut}
+use Rattle.page_layout.proofs.LineViews.{u16_at-with_u16}
 use Rattle.page_layout.proofs.ShapeLemmas.{lines_below, line_fits_at}
 
 -- the old index of line j once line k is out
@@ -49,15 +51,15 @@ module _ (p : List ℕ) (k : ℕ) (size : length p ≡ 8192) (h : Head p) (there
   q = without_line p k
 
   other : (i : ℕ) → (i < 12) ⊎ (14 ≤ i) → byte q i ≡ byte closed i
-  other i out = byte-splice_out closed 12 (word_bytes (pd_lower p - 4)) i (omega (arith, closed_size)) out
+  other i out = byte-splice_out closed 12 (u16_bytes (pd_lower p - 4)) i (omega (arith, closed_size)) out
 
   lower_is : pd_lower q ≡ pd_lower p - 4
   unfolding pd_lower
-  lower_is = word-with_word closed 12 (word p 12 - 4) (omega (arith, closed_size))
+  lower_is = u16_at-with_u16 closed 12 (u16_at p 12 - 4) (omega (arith, closed_size))
 
   pub line_out : LineOut p k q
   line_out = record {
-    size = length-splice closed 12 (word_bytes (pd_lower p - 4)) (omega (arith, closed_size)) ∙ closed_size;
+    size = length-splice closed 12 (u16_bytes (pd_lower p - 4)) (omega (arith, closed_size)) ∙ closed_size;
     lower = lower_is;
     low = λ i lt. other i (inl lt) ∙ byte-splice_below p (24 + 4 * k) tail i fits (omega arith);
     head = λ i le lt. other i (inr le) ∙ byte-splice_below p (24 + 4 * k) tail i fits (omega arith);
@@ -81,8 +83,8 @@ module _ (p : List ℕ) (k : ℕ) (q : List ℕ) (h : Head p) (there : k < count
   pub count_out : count q ≡ count p - 1
   count_out = omega (arith, o.lower)
 
-  line_word : (j e : ℕ) → e ≤ 2 → j < count q → word q (24 + e + 4 * j) ≡ word p (24 + e + 4 * skip k j)
-  line_word j e small lt = ⊎_elim
+  line_u16 : (j e : ℕ) → e ≤ 2 → j < count q → u16_at q (24 + e + 4 * j) ≡ u16_at p (24 + e + 4 * skip k j)
+  line_u16 j e small lt = ⊎_elim
       (λ (t : (nat_le (k) j ≡ true) × (k ≤ j)).
       let no : nat_lt j k ≡ false = grind (arith, nat_tests, t.1) in
       let a : 24 + e + 4 * j + 4 ≡ 24 + e + 4 * (j + 1) = omega arith in
@@ -99,15 +101,15 @@ module _ (p : List ℕ) (k : ℕ) (q : List ℕ) (h : Head p) (there : k < count
 
   pub off_out : (j : ℕ) → j < count q → lp_off q j ≡ lp_off p (skip k j)
   unfolding lp_off
-  off_out j lt = ap (λ w. w % 32768) (line_word j 0 (omega arith) lt)
+  off_out j lt = ap (λ w. w % 32768) (line_u16 j 0 (omega arith) lt)
 
   pub len_out : (j : ℕ) → j < count q → lp_len q j ≡ lp_len p (skip k j)
   unfolding lp_len
-  len_out j lt = ap (λ w. w / 2) (line_word j 2 (omega arith) lt)
+  len_out j lt = ap (λ w. w / 2) (line_u16 j 2 (omega arith) lt)
 
   pub flags_out : (j : ℕ) → j < count q → lp_flags q j ≡ lp_flags p (skip k j)
   unfolding lp_flags
-  flags_out j lt = λ t. line_word j 0 (omega arith) lt t / 32768 % 2 + 2 * (line_word j 2 (omega arith) lt t % 2)
+  flags_out j lt = λ t. line_u16 j 0 (omega arith) lt t / 32768 % 2 + 2 * (line_u16 j 2 (omega arith) lt t % 2)
 
   pub head_out : Head q
   head_out =

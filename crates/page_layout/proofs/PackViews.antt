@@ -3,12 +3,14 @@ use Rattle.std.proofs.Common.{◌≡◌, ◌≢◌, ℕ, zero, suc, ◌+◌, ◌
 use Rattle.std.specs.Prelude.{if◌then◌else◌, replicate}
 use Rattle.std.proofs.lemmas.Bool.Decides.{leb_tells, eqb_tells, nat_tests}
 use Rattle.std.proofs.lemmas.List.{length-append, length-replicate}
-use Rattle.page_layout.specs.Bytes.{byte, word, splice, with_word, word_bytes, up8}
+use Rattle.layout.specs.Splice.{splice}
+use Rattle.page_layout.specs.Bytes.{byte, u16_at, with_u16, u16_bytes, up8}
 use Rattle.page_layout.specs.Page.{pd_lower, pd_special, count, lp_off, lp_flags, lp_len, item, Head, ItemIn}
 use Rattle.page_layout.specs.Edits.{with_pointer, with_item}
 use Rattle.page_layout.specs.Pack.{total, packed_off, with_packed, packed_lines}
-use Rattle.page_layout.proofs.BytesLemmas.{length-splice, byte-splice_in, byte-splice_out, byte-splice_below, byte-splice_above, byte-zeros, length-cut}
-use Rattle.page_layout.proofs.LineViews.{off_is, len_is, flags_is, word_other}
+use Rattle.layout.proofs.SpliceLemmas.{length-splice, byte-splice_in, byte-splice_out, byte-splice_below, byte-splice_above}
+use Rattle.page_layout.proofs.BytesLemmas.{byte-zeros, length-cut}
+use Rattle.page_layout.proofs.LineViews.{off_is, len_is, flags_is, u16_other}
 use Rattle.page_layout.proofs.Packing.{total-le}
 use Rattle.page_layout.proofs.ShapeLemmas.{flags_small}
 
@@ -45,7 +47,7 @@ module _ (p : List ℕ) (ok : Packable p) where
     pub below : (i : ℕ) → i < 24 + 4 * k → byte new i ≡ byte page i
     pub between : (i : ℕ) → 28 + 4 * k ≤ i → i < packed_off p k → byte new i ≡ byte page i
     pub above : (i : ℕ) → 28 + 4 * k ≤ i → packed_off p k + up8 (lp_len p k) ≤ i → byte new i ≡ byte page i
-    pub words : (i : ℕ) → (i + 1 < 24 + 4 * k) ⊎ (28 + 4 * k ≤ i) → i + 1 < pd_lower p → word new i ≡ word page i
+    pub words : (i : ℕ) → (i + 1 < 24 + 4 * k) ⊎ (28 + 4 * k ≤ i) → i + 1 < pd_lower p → u16_at new i ≡ u16_at page i
     pub here : 0 < lp_len p k → (o : ℕ) → o < up8 (lp_len p k) → byte new (packed_off p k + o) ≡ byte (held k) o
     pub off : 0 < lp_len p k → lp_off new k ≡ packed_off p k
     pub len : 0 < lp_len p k → lp_len new k ≡ lp_len p k
@@ -85,16 +87,16 @@ module _ (p : List ℕ) (ok : Packable p) where
           let fits : packed_off p k + length (held k) ≤ length page = omega (arith, h, top, ok.head.top, size) in
           let one = with_item page (item p k) (packed_off p k) in
           let one_size : length one ≡ length page = length-splice page (packed_off p k) (held k) fits in
-          let two_size : length (with_word one (24 + 4 * k) (packed_off p k + 32768 * (lp_flags p k % 2))) ≡ length one = length-splice one (24 + 4 * k) (word_bytes (packed_off p k + 32768 * (lp_flags p k % 2))) (omega (arith, one_size, room, low, top, ok.head.top, size)) in
+          let two_size : length (with_u16 one (24 + 4 * k) (packed_off p k + 32768 * (lp_flags p k % 2))) ≡ length one = length-splice one (24 + 4 * k) (u16_bytes (packed_off p k + 32768 * (lp_flags p k % 2))) (omega (arith, one_size, room, low, top, ok.head.top, size)) in
           let there : 28 + 4 * k ≤ length one = omega (arith, one_size, room, low, top, ok.head.top, size) in
           let small : packed_off p k < 32768 = omega (arith, top, ok.head.top) in
           record {
-            size = length-splice (with_word one (24 + 4 * k) (packed_off p k + 32768 * (lp_flags p k % 2))) (26 + 4 * k) (word_bytes (lp_flags p k / 2 + 2 * lp_len p k)) (omega (arith, two_size, there)) ∙ two_size ∙ one_size ∙ size;
+            size = length-splice (with_u16 one (24 + 4 * k) (packed_off p k + 32768 * (lp_flags p k % 2))) (26 + 4 * k) (u16_bytes (lp_flags p k / 2 + 2 * lp_len p k)) (omega (arith, two_size, there)) ∙ two_size ∙ one_size ∙ size;
             same = λ z. absurd (omega (arith, some, z));
             below = λ i l. pointer_out one i there (inl l) ∙ byte-splice_below page (packed_off p k) (held k) i fits (omega (arith, l, room, low));
             between = λ i l m. pointer_out one i there (inr l) ∙ byte-splice_below page (packed_off p k) (held k) i fits m;
             above = λ i l m. pointer_out one i there (inr l) ∙ byte-splice_above page (packed_off p k) (held k) i fits (omega (arith, m, h));
-            words = λ i out l. word_other one k (packed_off p k) (lp_flags p k) (lp_len p k) there small (flags_small p k) i out
+            words = λ i out l. u16_other one k (packed_off p k) (lp_flags p k) (lp_len p k) there small (flags_small p k) i out
                 ∙ (λ t. byte-splice_below page (packed_off p k) (held k) i fits (omega (arith, l, low)) t + 256 * byte-splice_below page (packed_off p k) (held k) (i + 1) fits (omega (arith, l, low)) t);
             here = λ some' o l.
                 let back : packed_off p k + o - packed_off p k ≡ o = omega arith in
@@ -106,9 +108,9 @@ module _ (p : List ℕ) (ok : Packable p) where
         where
           pointer_out : (one : List ℕ) (i : ℕ) → 28 + 4 * k ≤ length one → (i < 24 + 4 * k) ⊎ (28 + 4 * k ≤ i) → byte (with_pointer one k (packed_off p k) (lp_flags p k) (lp_len p k)) i ≡ byte one i
           pointer_out one i there out =
-              let a = word_bytes (packed_off p k + 32768 * (lp_flags p k % 2)) in
+              let a = u16_bytes (packed_off p k + 32768 * (lp_flags p k % 2)) in
               let size1 = length-splice one (24 + 4 * k) a (omega (arith, there)) in
-              byte-splice_out (splice one (24 + 4 * k) a) (26 + 4 * k) (word_bytes (lp_flags p k / 2 + 2 * lp_len p k)) i (omega (arith, size1, there)) (⊎_elim (λ (l : i < 24 + 4 * k). inl (omega (arith, l))) (λ (r : 28 + 4 * k ≤ i). inr (omega (arith, r))) out)
+              byte-splice_out (splice one (24 + 4 * k) a) (26 + 4 * k) (u16_bytes (lp_flags p k / 2 + 2 * lp_len p k)) i (omega (arith, size1, there)) (⊎_elim (λ (l : i < 24 + 4 * k). inl (omega (arith, l))) (λ (r : 28 + 4 * k ≤ i). inr (omega (arith, r))) out)
               ∙ byte-splice_out one (24 + 4 * k) a i (omega (arith, there)) (⊎_elim (λ l. inl l) (λ (r : 28 + 4 * k ≤ i). inr (omega (arith, r))) out)
 
   -- what stands after the first n lines were laid
@@ -118,11 +120,11 @@ module _ (p : List ℕ) (ok : Packable p) where
     pub off : (k : ℕ) → k < n → 0 < lp_len p k → lp_off page k ≡ packed_off p k
     pub len : (k : ℕ) → k < n → 0 < lp_len p k → lp_len page k ≡ lp_len p k
     pub flags : (k : ℕ) → k < n → 0 < lp_len p k → lp_flags page k ≡ lp_flags p k
-    pub words : (k : ℕ) → k < count p → (n ≤ k) ⊎ (lp_len p k ≡ 0) → (word page (24 + 4 * k) ≡ word p (24 + 4 * k)) × (word page (26 + 4 * k) ≡ word p (26 + 4 * k))
+    pub words : (k : ℕ) → k < count p → (n ≤ k) ⊎ (lp_len p k ≡ 0) → (u16_at page (24 + 4 * k) ≡ u16_at p (24 + 4 * k)) × (u16_at page (26 + 4 * k) ≡ u16_at p (26 + 4 * k))
     pub here : (k o : ℕ) → k < n → 0 < lp_len p k → o < up8 (lp_len p k) → byte page (packed_off p k + o) ≡ byte (held k) o
     pub free : (i : ℕ) → pd_lower p ≤ i → i < pd_special p - total p n → byte page i ≡ 0
 
-  from_words : (a b : List ℕ) (k j : ℕ) → word a (24 + 4 * k) ≡ word b (24 + 4 * k) → word a (26 + 4 * k) ≡ word b (26 + 4 * k) → (lp_off a k ≡ lp_off b k) × (lp_len a k ≡ lp_len b k) × (lp_flags a k ≡ lp_flags b k)
+  from_words : (a b : List ℕ) (k j : ℕ) → u16_at a (24 + 4 * k) ≡ u16_at b (24 + 4 * k) → u16_at a (26 + 4 * k) ≡ u16_at b (26 + 4 * k) → (lp_off a k ≡ lp_off b k) × (lp_len a k ≡ lp_len b k) × (lp_flags a k ≡ lp_flags b k)
   unfolding lp_off lp_len lp_flags
   from_words a b k j l h = (ap (λ w. w % 32768) l, ap (λ w. w / 2) h, λ t. l t / 32768 % 2 + 2 * (h t % 2))
 
@@ -173,7 +175,7 @@ module _ (p : List ℕ) (ok : Packable p) where
                 (λ (z : lp_len p k ≡ 0).
                 let same = s.same (subst (λ x. lp_len p x ≡ 0) e.1 z) in
                 let old = l.words k lt (inr z) in
-                (ap (λ x. word x (24 + 4 * k)) same ∙ old.0, ap (λ x. word x (26 + 4 * k)) same ∙ old.1))
+                (ap (λ x. u16_at x (24 + 4 * k)) same ∙ old.0, ap (λ x. u16_at x (26 + 4 * k)) same ∙ old.1))
                 o)
                 (λ (f : ((k == n) ≡ false) × (k ≢ n)).
                 let old = l.words k lt (⊎_elim (λ (a : suc n ≤ k). inl (omega (arith, a))) (λ z. inr z) o) in

@@ -1,6 +1,7 @@
 -- Lines taken out of a page with their items: PostgreSQL 16, src/backend/storage/page/bufpage.c, PageIndexTupleDelete and PageIndexMultiDelete.
 use Rattle.std.specs.Prelude.{ℕ, zero, suc, ◌+◌, ◌-◌, ◌*◌, ◌==◌, ◌&&◌, ◌||◌, List, [], ◌∷◌, Bool, true, nat_le, nat_lt, length, Option, Some, None, Result, Ok, Err, if◌then◌else◌}
-use Rattle.page_layout.specs.Bytes.{splice, with_word, cut, up8}
+use Rattle.layout.specs.Splice.{splice}
+use Rattle.page_layout.specs.Bytes.{with_u16, cut, up8}
 use Rattle.page_layout.specs.Page.{pd_lower, pd_upper, count, lp_off, lp_flags, lp_len, well_formed}
 use Rattle.page_layout.specs.Edits.{with_pointer}
 use Rattle.page_layout.specs.Pack.{has_room, packed}
@@ -15,7 +16,7 @@ are_places lines before (place ∷ places) = nat_lt before place && nat_le place
 -- line k taken out, the later ones moved down
 abbrev pub without_line : List ℕ → ℕ → List ℕ
 without_line p k =
-    with_word (splice p (24 + 4 * k) (cut p (28 + 4 * k) (pd_lower p - (28 + 4 * k)))) 12 (pd_lower p - 4)
+    with_u16 (splice p (24 + 4 * k) (cut p (28 + 4 * k) (pd_lower p - (28 + 4 * k)))) 12 (pd_lower p - 4)
 
 -- the lines at these places taken out, the last one first
 abbrev pub without_lines : List ℕ → List ℕ → List ℕ
@@ -24,7 +25,7 @@ without_lines p (place ∷ places) = without_line (without_lines p places) (plac
 
 -- the bytes from upper up to `at` moved up by `size`, and upper with them
 abbrev pub raised : List ℕ → ℕ → ℕ → List ℕ
-raised p at size = with_word (splice p (pd_upper p + size) (cut p (pd_upper p) (at - pd_upper p))) 14 (pd_upper p + size)
+raised p at size = with_u16 (splice p (pd_upper p + size) (cut p (pd_upper p) (at - pd_upper p))) 14 (pd_upper p + size)
 
 -- line n, if its item lies below `at`, follows it up by `size`
 abbrev pub moved_line : ℕ → ℕ → ℕ → List ℕ → List ℕ

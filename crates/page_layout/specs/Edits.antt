@@ -1,7 +1,8 @@
 -- The calls that change a page, as functions of its bytes: PostgreSQL 16, src/backend/storage/page/bufpage.c,
 -- PageInit, PageAddItemExtended, PageTruncateLinePointerArray, and itemid.h, ItemIdSetNormal and its kin.
 use Rattle.std.specs.Prelude.{ℕ, zero, suc, ◌≡◌, ◌+◌, ◌-◌, ◌*◌, ◌/◌, ◌%◌, ◌==◌, ◌&&◌, ◌||◌, List, ◌++◌, Bool, true, nat_le, nat_lt, length, replicate, Option, Some, None, Result, Ok, Err, if◌then◌else◌}
-use Rattle.page_layout.specs.Bytes.{splice, with_word, cut, up8}
+use Rattle.layout.specs.Splice.{splice}
+use Rattle.page_layout.specs.Bytes.{with_u16, cut, up8}
 use Rattle.page_layout.specs.Page.{pd_lower, pd_upper, count, is_place, lp_flags, lp_len, well_formed}
 use Rattle.page_layout.specs.declared.line.Line.{Line}
 use Rattle.page_layout.specs.declared.line.Line.TheVariants.{Unused, Normal, Redirect, Dead}
@@ -10,7 +11,7 @@ use Rattle.page_layout.specs.declared.refusal.PageRefusal.TheVariants.{BadPlace,
 
 -- the page with these numbers in the line at index k
 abbrev pub with_pointer : List ℕ → ℕ → ℕ → ℕ → ℕ → List ℕ
-with_pointer p k off flags len = with_word (with_word p (24 + 4 * k) (off + 32768 * (flags % 2))) (26 + 4 * k) (flags / 2 + 2 * len)
+with_pointer p k off flags len = with_u16 (with_u16 p (24 + 4 * k) (off + 32768 * (flags % 2))) (26 + 4 * k) (flags / 2 + 2 * len)
 
 -- the page with this line at index k; an unused one is all zeros
 abbrev pub with_line : List ℕ → ℕ → Line → List ℕ
@@ -68,7 +69,7 @@ with_item p bytes at = splice p at (bytes ++ replicate (up8 (length bytes) - len
 -- a normal line at index k, the new bounds, and the item
 abbrev pub added_at : List ℕ → List ℕ → ℕ → ℕ → ℕ → List ℕ
 added_at p bytes k lower upper =
-    with_item (with_word (with_word (with_pointer p k upper 1 (length bytes)) 12 lower) 14 upper) bytes upper
+    with_item (with_u16 (with_u16 (with_pointer p k upper 1 (length bytes)) 12 lower) 14 upper) bytes upper
 
 -- the item added at a place
 abbrev pub added : List ℕ → List ℕ → ℕ → Bool → List ℕ
@@ -83,13 +84,13 @@ trimmed_count p (suc n) = if is_free p n then trimmed_count p n else suc n
 
 -- the page without unused lines of length 0 at the end
 abbrev pub trimmed : List ℕ → List ℕ
-trimmed p = with_word p 12 (24 + 4 * trimmed_count p (count p))
+trimmed p = with_u16 p 12 (24 + 4 * trimmed_count p (count p))
 
 -- an empty page
 abbrev pub init_bytes : ℕ → List ℕ
 init_bytes special =
     let end = 8192 - up8 special in
-    with_word (with_word (with_word (with_word (replicate 8192 0) 12 24) 14 end) 16 end) 18 8196
+    with_u16 (with_u16 (with_u16 (with_u16 (replicate 8192 0) 12 24) 14 end) 16 end) 18 8196
 
 -- what a call leaves: the page made, or the page as it was
 abbrev pub Answers : Result (List ℕ) PageRefusal → List ℕ → Result (Unit {0}) PageRefusal → List ℕ → Type 0

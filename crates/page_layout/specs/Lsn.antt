@@ -1,14 +1,15 @@
 -- The LSN of a page: PostgreSQL 16, src/include/storage/bufpage.h, PageXLogRecPtr: its high half stands first.
 use Rattle.std.specs.Prelude.{ℕ, ◌+◌, ◌*◌, ◌/◌, ◌%◌, List, ◌++◌}
-use Rattle.page_layout.specs.Bytes.{long, long_bytes, splice}
+use Rattle.layout.specs.Splice.{splice}
+use Rattle.page_layout.specs.Bytes.{u32_at, u32_bytes}
 
 -- the end of the last record that changed the page
 unfoldable pub lsn : List ℕ → ℕ
-lsn p = long p 0 * 4294967296 + long p 4
+lsn p = u32_at p 0 * 4294967296 + u32_at p 4
 
 -- an LSN as the header has it
 abbrev pub lsn_bytes : ℕ → List ℕ
-lsn_bytes at = long_bytes (at / 4294967296) ++ long_bytes (at % 4294967296)
+lsn_bytes at = u32_bytes (at / 4294967296) ++ u32_bytes (at % 4294967296)
 
 -- the page with this LSN
 unfoldable pub with_lsn : ℕ → List ℕ → List ℕ

@@ -1,6 +1,7 @@
 -- Items laid anew from the special space downwards: PostgreSQL 16, src/backend/storage/page/bufpage.c, PageRepairFragmentation.
 use Rattle.std.specs.Prelude.{ℕ, zero, suc, ◌+◌, ◌-◌, ◌==◌, List, Bool, nat_le, replicate, Result, Option, Some, None, if◌then◌else◌}
-use Rattle.page_layout.specs.Bytes.{splice, with_word, up8}
+use Rattle.layout.specs.Splice.{splice}
+use Rattle.page_layout.specs.Bytes.{with_u16, up8}
 use Rattle.page_layout.specs.Page.{pd_lower, pd_special, count, lp_flags, lp_len, item, well_formed}
 use Rattle.page_layout.specs.Edits.{with_pointer, with_item, refuse_or}
 use Rattle.page_layout.specs.declared.refusal.PageRefusal.{PageRefusal}
@@ -32,7 +33,7 @@ emptied p = splice p (pd_lower p) (replicate (pd_special p - pd_lower p) 0)
 
 -- all lines and items laid anew, and upper
 abbrev pub packed : List ℕ → List ℕ
-packed p = with_word (packed_lines p (emptied p) (count p)) 14 (pd_special p - total p (count p))
+packed p = with_u16 (packed_lines p (emptied p) (count p)) 14 (pd_special p - total p (count p))
 
 -- do the items fit between lower and special
 abbrev pub has_room : List ℕ → Bool

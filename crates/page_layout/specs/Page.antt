@@ -1,20 +1,20 @@
 -- A data page: PostgreSQL 16, src/include/storage/bufpage.h, PageHeaderData, and itemid.h, ItemIdData.
 use Rattle.std.specs.Prelude.{ℕ, zero, suc, ◌≡◌, ◌+◌, ◌-◌, ◌*◌, ◌/◌, ◌%◌, ◌≤◌, ◌==◌, ◌&&◌, ◌||◌, List, Bool, true, nat_le, nat_lt, length, if◌then◌else◌}
-use Rattle.page_layout.specs.Bytes.{word, cut, up8}
+use Rattle.page_layout.specs.Bytes.{u16_at, cut, up8}
 use Rattle.page_layout.specs.declared.line.Line.{Line}
 use Rattle.page_layout.specs.declared.line.Line.TheVariants.{Unused, Normal, Redirect, Dead}
 
 -- where the lines end
 unfoldable pub pd_lower : List ℕ → ℕ
-pd_lower p = word p 12
+pd_lower p = u16_at p 12
 
 -- where the items begin
 unfoldable pub pd_upper : List ℕ → ℕ
-pd_upper p = word p 14
+pd_upper p = u16_at p 14
 
 -- where the special space begins
 unfoldable pub pd_special : List ℕ → ℕ
-pd_special p = word p 16
+pd_special p = u16_at p 16
 
 -- how many lines the array has
 abbrev pub count : List ℕ → ℕ
@@ -26,22 +26,22 @@ is_place p place = nat_lt 0 place && nat_le place (count p)
 
 -- of the line at index k, counted from 0: where its item lies
 unfoldable pub lp_off : List ℕ → ℕ → ℕ
-lp_off p k = word p (24 + 4 * k) % 32768
+lp_off p k = u16_at p (24 + 4 * k) % 32768
 
 -- .. its kind: 0 unused, 1 normal, 2 redirect, 3 dead
 unfoldable pub lp_flags : List ℕ → ℕ → ℕ
-lp_flags p k = word p (24 + 4 * k) / 32768 % 2 + 2 * (word p (26 + 4 * k) % 2)
+lp_flags p k = u16_at p (24 + 4 * k) / 32768 % 2 + 2 * (u16_at p (26 + 4 * k) % 2)
 
 -- .. and its item's length
 unfoldable pub lp_len : List ℕ → ℕ → ℕ
-lp_len p k = word p (26 + 4 * k) / 2
+lp_len p k = u16_at p (26 + 4 * k) / 2
 
 -- 24 <= lower <= upper <= special <= 8192, aligned, of layout 4 and 8192 bytes
 unfoldable pub header_fits : List ℕ → Bool
 header_fits p =
     nat_le 24 (pd_lower p) && nat_le (pd_lower p) (pd_upper p)
     && nat_le (pd_upper p) (pd_special p) && nat_le (pd_special p) 8192
-    && pd_lower p % 4 == 0 && pd_upper p % 8 == 0 && pd_special p % 8 == 0 && word p 18 == 8196
+    && pd_lower p % 4 == 0 && pd_upper p % 8 == 0 && pd_special p % 8 == 0 && u16_at p 18 == 8196
 
 -- the header of a well formed page
 pub record Head (p : List ℕ) : Type 0 where
@@ -52,7 +52,7 @@ pub record Head (p : List ℕ) : Type 0 where
   pub by4 : pd_lower p % 4 ≡ 0
   pub by8 : pd_upper p % 8 ≡ 0
   pub special8 : pd_special p % 8 ≡ 0
-  pub layout : word p 18 ≡ 8196
+  pub layout : u16_at p 18 ≡ 8196
 
 -- a line of length 0 points nowhere; another points to bytes between upper and special
 unfoldable pub line_fits : List ℕ → ℕ → Bool

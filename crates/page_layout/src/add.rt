@@ -3,7 +3,7 @@ ghost use Rattle.page_layout.specs.Bytes.{up8};
 ghost use Rattle.page_layout.specs.Page.{count, pd_lower, pd_upper, Head};
 ghost use Rattle.page_layout.specs.Edits.{add_refusal, opened_at, with_item, added_at, added};
 
-use crate::bytes::{clear, move_bytes, put, put_word};
+use crate::bytes::{clear, move_bytes, put, put_u16};
 use crate::line::{Pointer, put_pointer};
 use crate::refusal::PageRefusal;
 use crate::shape::{bounds_of, line_count, well_formed};
@@ -73,8 +73,8 @@ fn put_added(page: &mut [u8], item: &[u8], k: usize, lower: usize, upper: usize)
         len: item.len(),
     };
     put_pointer(page, k, pointer);
-    put_word(page, 12, lower);
-    put_word(page, 14, upper);
+    put_u16(page, 12, lower);
+    put_u16(page, 14, upper);
     put_item(page, item, upper);
 }
 

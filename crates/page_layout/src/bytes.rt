@@ -1,17 +1,18 @@
 ghost use Rattle.std.specs.Prelude.{ℕ, ◌≡◌, ◌+◌, ◌<◌, ◌≤◌, length, replicate};
-ghost use Rattle.page_layout.specs.Bytes.{word, splice, with_word, cut};
+ghost use Rattle.layout.specs.Splice.{splice};
+ghost use Rattle.page_layout.specs.Bytes.{u16_at, with_u16, cut};
 
 /// The number in the two bytes at `at`, the low one first.
-pub fn word_at(page: &[u8], at: usize) -> usize
+pub fn u16_at(page: &[u8], at: usize) -> usize
     requires { at + 1 < length page.now }
-    ensures value { result ≡ word page.now at }
+    ensures value { result ≡ u16_at page.now at }
     ensures bound { result < 65536 }
 {
     page[at] as usize + 256 * (page[at + 1] as usize)
 }
 
 /// Lays `bytes` over the page from byte `at` on.
-#[tactic(auto, unfolding(crate::specs::Bytes::splice))]
+#[tactic(auto, unfolding(layout::specs::Splice::splice))]
 pub fn put(page: &mut [u8], at: usize, bytes: &[u8])
     requires { at + length bytes.now ≤ length page.old }
     ensures { page.new ≡ splice page.old at bytes.now }
@@ -21,10 +22,10 @@ pub fn put(page: &mut [u8], at: usize, bytes: &[u8])
 }
 
 /// Writes a number of two bytes at `at`.
-pub fn put_word(page: &mut [u8], at: usize, n: usize)
+pub fn put_u16(page: &mut [u8], at: usize, n: usize)
     requires room { at + 2 ≤ length page.old }
     requires fits { n < 65536 }
-    ensures { page.new ≡ with_word page.old at n }
+    ensures { page.new ≡ with_u16 page.old at n }
 {
     put(page, at, &[(n % 256) as u8, (n / 256) as u8]);
 }

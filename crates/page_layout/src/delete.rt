@@ -4,7 +4,7 @@ ghost use Rattle.page_layout.specs.Page.{count, pd_lower, pd_upper, pd_special, 
 ghost use Rattle.page_layout.specs.Deletes.{are_places, without_line, without_lines, raised, moved_line, moved_lines, without_item, without_items, is_apart, apart_below, all_apart, places_refusal, deleted, packed_if_room, closed_up};
 ghost use Rattle.page_layout.specs.Edits.{Answers};
 
-use crate::bytes::{move_bytes, put_word};
+use crate::bytes::{move_bytes, put_u16};
 use crate::line::{Pointer, pointer_at, put_pointer};
 use crate::pack::{has_room, put_all_packed};
 use crate::refusal::PageRefusal;
@@ -52,7 +52,7 @@ fn take_line(page: &mut [u8], k: usize)
 {
     let lower = bounds_of(page).lower;
     move_bytes(page, 28 + 4 * k, lower - (28 + 4 * k), 24 + 4 * k);
-    put_word(page, 12, lower - 4);
+    put_u16(page, 12, lower - 4);
 }
 
 // Takes out the lines at these places, the last one first.
@@ -78,7 +78,7 @@ fn raise(page: &mut [u8], at: usize, size: usize)
 {
     let upper = bounds_of(page).upper;
     move_bytes(page, upper, at - upper, upper + size);
-    put_word(page, 14, upper + size);
+    put_u16(page, 14, upper + size);
 }
 
 // The line at index `n` follows its item, where that lies below `at`.

@@ -2,7 +2,7 @@ ghost use Rattle.std.specs.Prelude.{ℕ, ◌≡◌, ◌+◌, ◌*◌, ◌<◌, �
 ghost use Rattle.page_layout.specs.Page.{lp_off, lp_flags, lp_len, line_of};
 ghost use Rattle.page_layout.specs.Edits.{with_pointer, with_line, fits_line, set_refusal};
 
-use crate::bytes::{put_word, word_at};
+use crate::bytes::{put_u16, u16_at};
 use crate::refusal::PageRefusal;
 use crate::shape::{line_count, well_formed};
 
@@ -51,8 +51,8 @@ pub fn pointer_at(page: &[u8], k: usize) -> Pointer
     ensures flags_bound { result.flags < 4 }
     ensures len_bound { result.len < 32768 }
 {
-    let low = word_at(page, 24 + 4 * k);
-    let high = word_at(page, 26 + 4 * k);
+    let low = u16_at(page, 24 + 4 * k);
+    let high = u16_at(page, 26 + 4 * k);
     Pointer {
         off: low % 32768,
         flags: low / 32768 + 2 * (high % 2),
@@ -85,8 +85,8 @@ pub fn put_pointer(page: &mut [u8], k: usize, pointer: Pointer)
     requires len_bound { pointer.len < 32768 }
     ensures { page.new ≡ with_pointer page.old k pointer.off pointer.flags pointer.len }
 {
-    put_word(page, 24 + 4 * k, pointer.off + 32768 * (pointer.flags % 2));
-    put_word(page, 26 + 4 * k, pointer.flags / 2 + 2 * pointer.len);
+    put_u16(page, 24 + 4 * k, pointer.off + 32768 * (pointer.flags % 2));
+    put_u16(page, 26 + 4 * k, pointer.flags / 2 + 2 * pointer.len);
 }
 
 /// Whether each number of the line is at most 32767.

@@ -1,7 +1,7 @@
 ghost use Rattle.std.specs.Prelude.{ℕ, ◌≡◌, ◌+◌, ◌*◌, ◌<◌, length};
 ghost use Rattle.page_layout.specs.Lsn.{lsn, with_lsn};
 
-use crate::bytes::{put, word_at};
+use crate::bytes::{put, u16_at};
 
 /// The LSN in a page's header.
 #[tactic(auto, unfolding(crate::specs::Lsn::lsn))]
@@ -9,8 +9,8 @@ pub fn lsn_of(page: &[u8]) -> u64
     requires { length page.now ≡ 8192 }
     ensures { result ≡ lsn page.now }
 {
-    let high = word_at(page, 0) + 65536 * word_at(page, 2);
-    let low = word_at(page, 4) + 65536 * word_at(page, 6);
+    let high = u16_at(page, 0) + 65536 * u16_at(page, 2);
+    let low = u16_at(page, 4) + 65536 * u16_at(page, 6);
     (high * 0x1_0000_0000 + low) as u64
 }
 

@@ -4,7 +4,7 @@ ghost use Rattle.page_layout.specs.Page.{count, pd_lower, pd_special, Head, Item
 ghost use Rattle.page_layout.specs.Pack.{total, packed_off, with_packed, packed, pack_refusal, has_room};
 
 use crate::add::put_item;
-use crate::bytes::{clear, put_word};
+use crate::bytes::{clear, put_u16};
 use crate::line::{Pointer, pointer_at, put_pointer};
 use crate::refusal::PageRefusal;
 use crate::shape::{bounds_of, line_count, well_formed};
@@ -82,7 +82,7 @@ pub fn put_all_packed(page: &mut [u8])
     for k in 0..(b.lower - 24) / 4 {
         at = put_packed(page, &old, k, at);
     }
-    put_word(page, 14, at);
+    put_u16(page, 14, at);
 }
 
 /// Why the page can't be packed, if it can't.

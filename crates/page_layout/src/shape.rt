@@ -1,7 +1,7 @@
 ghost use Rattle.std.specs.Prelude.{ℕ, ◌≡◌, ◌+◌, ◌-◌, ◌*◌, ◌<◌, ◌≤◌, length, IsTrue};
 ghost use Rattle.page_layout.specs.Page.{count, pd_lower, pd_upper, pd_special, header_fits, line_fits, well_formed, Head};
 
-use crate::bytes::word_at;
+use crate::bytes::u16_at;
 use crate::line::pointer_at;
 
 /// The numbers of a page's header that place things.
@@ -27,9 +27,9 @@ pub fn bounds_of(page: &[u8]) -> Bounds
     ensures special_bound { result.special < 65536 }
 {
     Bounds {
-        lower: word_at(page, 12),
-        upper: word_at(page, 14),
-        special: word_at(page, 16),
+        lower: u16_at(page, 12),
+        upper: u16_at(page, 14),
+        special: u16_at(page, 16),
     }
 }
 
@@ -57,7 +57,7 @@ pub fn header_fits(page: &[u8]) -> bool
         && b.lower % 4 == 0
         && b.upper % 8 == 0
         && b.special % 8 == 0
-        && word_at(page, 18) == 0x2004
+        && u16_at(page, 18) == 0x2004
 }
 
 /// Whether the line at index `k` points nowhere or to an item between upper and special.

@@ -2,7 +2,7 @@ ghost use Rattle.std.specs.Prelude.{ℕ, ◌≡◌, ◌+◌, ◌*◌, ◌≤◌,
 ghost use Rattle.page_layout.specs.Page.{count, Head};
 ghost use Rattle.page_layout.specs.Edits.{is_free, trimmed_count, trimmed};
 
-use crate::bytes::put_word;
+use crate::bytes::put_u16;
 use crate::line::pointer_at;
 use crate::shape::line_count;
 
@@ -37,5 +37,5 @@ pub fn put_trimmed(page: &mut [u8])
     ensures { page.new ≡ trimmed page.old }
 {
     let n = trimmed_count(page);
-    put_word(page, 12, 24 + 4 * n);
+    put_u16(page, 12, 24 + 4 * n);
 }

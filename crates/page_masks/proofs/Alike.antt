@@ -3,7 +3,7 @@ use Rattle.std.proofs.Common.{◌≡◌, ◌≢◌, ℕ, zero, suc, ◌+◌, ◌
 use Rattle.std.specs.Prelude.{if◌then◌else◌, nat_lt, nat_le, replicate}
 use Rattle.std.proofs.lemmas.Bool.Decides.{nat_tests, eqb_tells, leb_tells}
 use Rattle.std.proofs.lemmas.List.{get_or_append_left, ext_get_or}
-use Rattle.page_layout.specs.Bytes.{byte, word, up8, page_of}
+use Rattle.page_layout.specs.Bytes.{byte, u16_at, up8, page_of}
 use Rattle.page_layout.specs.Page.{pd_lower, pd_upper, count, lp_off, lp_flags, lp_len, item}
 use Rattle.page_layout.proofs.BytesLemmas.{length-cut, byte-page_of, length-page_of, same_pages}
 use Rattle.page_layout.proofs.ShapeLemmas.{item_in, line_fits_at}
@@ -133,7 +133,7 @@ pub high_front : (p : List ℕ) → masked_front p 13 ≡ shown_lower p / 256
 unfolding masked_front
 high_front p = refl
 
-upper_words : (p : List ℕ) → pd_upper p ≡ word p 14
+upper_words : (p : List ℕ) → pd_upper p ≡ u16_at p 14
 unfolding pd_upper
 upper_words p = refl
 
@@ -153,8 +153,8 @@ held_shows block p k o h apart lt some small =
     let back : lp_off p k + o - lp_off p k ≡ o = omega arith in
     back_of block p (lp_off p k + o) h (omega (arith, i.from)) ∙ rw (found, back) refl
 
-abbrev pub word_of : ℕ → ℕ → ℕ
-word_of a b = a + 256 * b
+abbrev pub u16_of : ℕ → ℕ → ℕ
+u16_of a b = a + 256 * b
 
 module _ (block : ℕ) (p q : List ℕ) (hp : HeapPage p) (hq : HeapPage q) (same : heap_mask block p ≡ heap_mask block q) where
   lower_p : shown_lower p ≡ pd_lower p
@@ -176,7 +176,7 @@ module _ (block : ℕ) (p q : List ℕ) (hp : HeapPage p) (hq : HeapPage q) (sam
   head_byte i le lt = sym (head_front p i (omega (arith, lower_p, hp.head.low)) le lt) ∙ early i (omega arith) ∙ head_front q i (omega (arith, lower_q, hq.head.low)) le lt
 
   same_upper : pd_upper p ≡ pd_upper q
-  same_upper = upper_words p ∙ (λ t. word_of (head_byte 14 (omega arith) (omega arith) t) (head_byte 15 (omega arith) (omega arith) t)) ∙ sym (upper_words q)
+  same_upper = upper_words p ∙ (λ t. u16_of (head_byte 14 (omega arith) (omega arith) t) (head_byte 15 (omega arith) (omega arith) t)) ∙ sym (upper_words q)
 
   line_byte : (i : ℕ) → 24 ≤ i → i < pd_lower p → byte p i ≡ byte q i
   line_byte i le lt =
@@ -187,23 +187,23 @@ module _ (block : ℕ) (p q : List ℕ) (hp : HeapPage p) (hq : HeapPage q) (sam
   in_lines : (k : ℕ) → k < count p → 28 + 4 * k ≤ pd_lower p
   in_lines k lt = omega (arith, hp.head.low, hp.head.by4)
 
-  low_word : (k : ℕ) → k < count p → word p (24 + 4 * k) ≡ word q (24 + 4 * k)
-  low_word k lt = let room = in_lines k lt in λ t. word_of (line_byte (24 + 4 * k) (omega arith) (omega arith) t) (line_byte (24 + 4 * k + 1) (omega arith) (omega arith) t)
+  low_u16 : (k : ℕ) → k < count p → u16_at p (24 + 4 * k) ≡ u16_at q (24 + 4 * k)
+  low_u16 k lt = let room = in_lines k lt in λ t. u16_of (line_byte (24 + 4 * k) (omega arith) (omega arith) t) (line_byte (24 + 4 * k + 1) (omega arith) (omega arith) t)
 
-  high_word : (k : ℕ) → k < count p → word p (26 + 4 * k) ≡ word q (26 + 4 * k)
-  high_word k lt = let room = in_lines k lt in λ t. word_of (line_byte (26 + 4 * k) (omega arith) (omega arith) t) (line_byte (26 + 4 * k + 1) (omega arith) (omega arith) t)
+  high_u16 : (k : ℕ) → k < count p → u16_at p (26 + 4 * k) ≡ u16_at q (26 + 4 * k)
+  high_u16 k lt = let room = in_lines k lt in λ t. u16_of (line_byte (26 + 4 * k) (omega arith) (omega arith) t) (line_byte (26 + 4 * k + 1) (omega arith) (omega arith) t)
 
   pub same_off : (k : ℕ) → k < count p → lp_off p k ≡ lp_off q k
   unfolding lp_off
-  same_off k lt = ap (λ w. w % 32768) (low_word k lt)
+  same_off k lt = ap (λ w. w % 32768) (low_u16 k lt)
 
   pub same_len : (k : ℕ) → k < count p → lp_len p k ≡ lp_len q k
   unfolding lp_len
-  same_len k lt = ap (λ w. w / 2) (high_word k lt)
+  same_len k lt = ap (λ w. w / 2) (high_u16 k lt)
 
   same_flags : (k : ℕ) → k < count p → lp_flags p k ≡ lp_flags q k
   unfolding lp_flags
-  same_flags k lt = λ t. low_word k lt t / 32768 % 2 + 2 * (high_word k lt t % 2)
+  same_flags k lt = λ t. low_u16 k lt t / 32768 % 2 + 2 * (high_u16 k lt t % 2)
 
   item_shows : (r : List ℕ) (k o : ℕ) → HeapPage r → AreApart r → k < count r → 0 < lp_len r k → o < lp_len r k → byte (masked_item block (k + 1) (lp_flags r k) (item r k)) o ≡ heap_byte block r (lp_off r k + o)
   unfolding masked_held

@@ -3,7 +3,7 @@ use Rattle.std.proofs.Common.{◌≡◌, ◌≢◌, ℕ, ◌+◌, ◌-◌, ◌*�
 use Rattle.std.specs.Prelude.{if◌then◌else◌, nat_lt, nat_le, replicate}
 use Rattle.std.proofs.lemmas.Bool.Decides.{nat_tests, leb_tells}
 use Rattle.std.proofs.lemmas.List.{get_or_append_left, get_or-append_right}
-use Rattle.page_layout.specs.Bytes.{byte, word, up8}
+use Rattle.page_layout.specs.Bytes.{byte, u16_at, up8}
 use Rattle.page_layout.specs.Page.{pd_upper, count, lp_off, lp_flags, lp_len, item, ItemIn}
 use Rattle.page_layout.proofs.BytesLemmas.{byte-zeros}
 use Rattle.page_layout.proofs.Front.{SameFront}
@@ -85,7 +85,7 @@ module _ (block : ℕ) (t m : List ℕ) (ht : HeapPage t) (hm : HeapPage m) (fro
           y_at block t m ht hm front at small k there some j lt_j ∙ byte_by block t m ht hm front at small (lp_off t k + j) (omega (arith, i_in.from)) (omega (arith, i_in.to, ht.head.top, lt_j)) (Some k) holder_j
           ∙ ap (byte (masked_held block t k)) drop_off ∙ held_item block t m ht hm front at small k j there some lt_j
 
-      mark : 23 ≤ lp_len t k → word (item m k) 16 ≡ 0xFFFE → word (item t k) 16 ≡ 0xFFFE
+      mark : 23 ≤ lp_len t k → u16_at (item m k) 16 ≡ 0xFFFE → u16_at (item t k) 16 ≡ 0xFFFE
       mark long is = by_holder_of (holder t (count t) a) refl
         where
           a : ℕ
@@ -106,7 +106,7 @@ module _ (block : ℕ) (t m : List ℕ) (ht : HeapPage t) (hm : HeapPage m) (fro
           x1 : byte (item t k) 17 ≡ byte t (a + 1)
           x1 = let one : lp_off t k + 17 ≡ a + 1 = omega arith in x_at block t m ht hm front at small k there some 17 (omega (arith, long)) ∙ ap (byte t) one
 
-          by_holder_of : (c : Option ℕ) → holder t (count t) a ≡ c → word (item t k) 16 ≡ 0xFFFE
+          by_holder_of : (c : Option ℕ) → holder t (count t) a ≡ c → u16_at (item t k) 16 ≡ 0xFFFE
           by_holder_of None h = let yes_held = holds_in t k a (omega arith) (omega (arith, long)) in let not_held = none_not t (count t) k a h there in absurd (off_on (holds t k a) yes_held not_held)
             where
               off_on : (b : Bool) → b ≡ true → b ≡ false → ⊥

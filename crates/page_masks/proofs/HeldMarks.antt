@@ -3,7 +3,7 @@ use Rattle.std.proofs.Common.{◌≡◌, ◌≢◌, ℕ, zero, suc, ◌+◌, ◌
 use Rattle.std.specs.Prelude.{if◌then◌else◌, nat_le, replicate}
 use Rattle.std.proofs.lemmas.Bool.Decides.{nat_tests, leb_tells}
 use Rattle.std.proofs.lemmas.List.{get_or_append_left, get_or-append_right}
-use Rattle.page_layout.specs.Bytes.{byte, word, cut, up8}
+use Rattle.page_layout.specs.Bytes.{byte, u16_at, cut, up8}
 use Rattle.page_layout.specs.Page.{pd_upper, count, lp_off, lp_flags, lp_len, item, ItemIn}
 use Rattle.page_layout.proofs.BytesLemmas.{length-cut, byte-cut, byte-zeros}
 use Rattle.page_layout.proofs.Front as Front
@@ -111,7 +111,7 @@ module _ (block : ℕ) (t m : List ℕ) (ht : HeapPage t) (hm : HeapPage m) (fro
       whole : (n : ℕ) → n % 256 + 256 * (n / 256) ≡ n
       whole n = omega arith
 
-      tuple : 23 ≤ length (item t k) → (b : Bool) → (word (item t k) 16 == 0xFFFE) ≡ b → (q : List ℕ) → q ≡ masked_tuple block (k + 1) (item t k) → Unmarked (byte q u) (byte q (u + 1)) (byte (item t k) u) (byte (item t k) (u + 1))
+      tuple : 23 ≤ length (item t k) → (b : Bool) → (u16_at (item t k) 16 == 0xFFFE) ≡ b → (q : List ℕ) → q ≡ masked_tuple block (k + 1) (item t k) → Unmarked (byte q u) (byte q (u + 1)) (byte (item t k) u) (byte (item t k) (u + 1))
       tuple long b e q eq = ⊎_elim
           (λ (t24 : (nat_le 24 u ≡ true) × (24 ≤ u)). inl (ap (λ l. byte l u) eq ∙ rest_shows block (k + 1) (item t k) u long (omega (arith, t24.1)), ap (λ l. byte l (u + 1)) eq ∙ rest_shows block (k + 1) (item t k) (u + 1) long (omega (arith, t24.1))))
           (λ (f24 : (nat_le 24 u ≡ false) × (u < 24)). ⊎_elim
@@ -124,7 +124,7 @@ module _ (block : ℕ) (t m : List ℕ) (ht : HeapPage t) (hm : HeapPage m) (fro
           (leb_tells 16 u))
           (leb_tells 24 u)
         where
-          sixteen : (b : Bool) → (word (item t k) 16 == 0xFFFE) ≡ b → Unmarked (byte q 16) (byte q 17) (byte (item t k) 16) (byte (item t k) 17)
+          sixteen : (b : Bool) → (u16_at (item t k) 16 == 0xFFFE) ≡ b → Unmarked (byte q 16) (byte q 17) (byte (item t k) 16) (byte (item t k) 17)
           sixteen true e =
               let a : byte q 16 ≡ (k + 1) % 256 = ap (λ l. byte l 16) eq ∙ tid_shows block (k + 1) (item t k) 4 long (omega arith) ∙ rw e refl in
               let c : byte q 17 ≡ (k + 1) / 256 = ap (λ l. byte l 17) eq ∙ tid_shows block (k + 1) (item t k) 5 long (omega arith) ∙ rw e refl in
@@ -136,7 +136,7 @@ module _ (block : ℕ) (t m : List ℕ) (ht : HeapPage t) (hm : HeapPage m) (fro
 
       by_case : (b : Bool) → (lp_flags t k == 1 && nat_le 23 (length (item t k))) ≡ b → Unmarked (byte (w k there some) u) (byte (w k there some) (u + 1)) (byte (item t k) u) (byte (item t k) (u + 1))
       by_case false e = let s = is false e in inl (ap (λ l. byte l u) s, ap (λ l. byte l (u + 1)) s)
-      by_case true e = tuple (grind (arith, nat_tests)) (word (item t k) 16 == 0xFFFE) refl (w k there some) (is true e)
+      by_case true e = tuple (grind (arith, nat_tests)) (u16_at (item t k) 16 == 0xFFFE) refl (w k there some) (is true e)
 
   -- the last byte of an item that begins eight more is as it was
   last_byte : (k u : ℕ) (there : k < count t) (some : 0 < lp_len t k) → u % 8 ≡ 0 → u + 1 ≡ lp_len t k → byte (w k there some) u ≡ byte (item t k) u

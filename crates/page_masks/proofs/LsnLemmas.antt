@@ -1,9 +1,10 @@
 -- A page that gets an LSN has it.
 use Rattle.std.proofs.Common.{◌≡◌, ℕ, ◌+◌, ◌-◌, ◌*◌, ◌/◌, ◌%◌, ◌<◌, ◌==◌, List, Bool, true, false, IsTrue, length, refl, ◌∙◌, ap, arith}
 use Rattle.std.proofs.lemmas.Bool.Decides.{nat_tests}
-use Rattle.page_layout.specs.Bytes.{byte, splice}
+use Rattle.layout.specs.Splice.{splice}
+use Rattle.page_layout.specs.Bytes.{byte}
 use Rattle.page_layout.specs.Lsn.{lsn, lsn_bytes, with_lsn}
-use Rattle.page_layout.proofs.BytesLemmas.{length-splice, byte-splice_in}
+use Rattle.layout.proofs.SpliceLemmas.{length-splice, byte-splice_in}
 use Rattle.page_masks.specs.Kind.{is_zero}
 use Rattle.page_masks.specs.Law.{is_page}
 use Rattle.page_masks.proofs.Unshown.{zero_byte}

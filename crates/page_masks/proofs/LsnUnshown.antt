@@ -6,12 +6,12 @@ use Rattle.page_layout.specs.Bytes.{byte}
 use Rattle.page_layout.specs.Page.{pd_lower, pd_upper, count, lp_flags}
 use Rattle.page_layout.specs.Edits.{trimmed_count}
 use Rattle.page_layout.specs.Lsn.{lsn_bytes, with_lsn}
-use Rattle.page_layout.proofs.BytesLemmas.{length-splice, byte-splice_above}
+use Rattle.layout.proofs.SpliceLemmas.{length-splice, byte-splice_above}
 use Rattle.page_layout.proofs.ReadLemmas.{flags_same}
 use Rattle.page_masks.specs.Mask.{mask, btree_byte, btree_front, sequence_byte, other_byte, heap_byte}
 use Rattle.page_masks.specs.Shapes.{IsHeap, IsBtree}
 use Rattle.page_masks.proofs.OtherBytes.{other_open, sequence_open}
-use Rattle.page_masks.proofs.ShapeKind.{SameTail, word_tail, lower_tail, upper_tail, len_tail, kind_tail, shape_kind, shape_cases, masked_as, mask_at, length-mask, mask_is}
+use Rattle.page_masks.proofs.ShapeKind.{SameTail, u16_tail, lower_tail, upper_tail, len_tail, kind_tail, shape_kind, shape_cases, masked_as, mask_at, length-mask, mask_is}
 use Rattle.page_masks.proofs.Unshown.{shown_same}
 
 pub btree_front_open : (p : List ℕ) (i : ℕ) → btree_front p i ≡ (if nat_lt i 10 then 0 else if i == 10 then byte p 10 / 8 * 8 else if nat_lt i 20 then byte p i else if nat_lt i 24 then 0
@@ -63,7 +63,7 @@ module _ (block : ℕ) (p q : List ℕ) (s : SameTail p q) where
   counts_tail n = counts n
     where
       flags : (k : ℕ) → lp_flags q k ≡ lp_flags p k
-      flags k = flags_same q p k k (word_tail p q s (24 + 4 * k) (omega arith)) (word_tail p q s (26 + 4 * k) (omega arith))
+      flags k = flags_same q p k k (u16_tail p q s (24 + 4 * k) (omega arith)) (u16_tail p q s (26 + 4 * k) (omega arith))
 
       counts : (n : ℕ) → trimmed_count q n ≡ trimmed_count p n
       counts zero = refl

@@ -3,13 +3,14 @@ use Rattle.std.proofs.Common.{◌≡◌, ◌≢◌, ℕ, ◌+◌, ◌-◌, ◌*�
 use Rattle.std.specs.Prelude.{if◌then◌else◌, nat_lt, nat_le}
 use Rattle.std.proofs.lemmas.Bool.Decides.{nat_tests, eqb_tells, leb_tells}
 use Rattle.std.proofs.lemmas.List.{get_or_past}
-use Rattle.page_layout.specs.Bytes.{byte, word, long, page_of, word_bytes}
+use Rattle.page_layout.specs.Bytes.{byte, u16_at, u32_at, page_of, u16_bytes}
 use Rattle.page_layout.specs.Page.{pd_lower, pd_upper, pd_special, count, lp_off, lp_len, line_fits, lines_fit}
 use Rattle.page_layout.specs.Edits.{trimmed, trimmed_count}
-use Rattle.page_layout.proofs.BytesLemmas.{byte-page_of, length-page_of, byte-splice_in}
+use Rattle.layout.proofs.SpliceLemmas.{byte-splice_in}
+use Rattle.page_layout.proofs.BytesLemmas.{byte-page_of, length-page_of}
 use Rattle.page_layout.proofs.Front as Front
 use Rattle.page_layout.proofs.Front.{SameFront}
-use Rattle.page_layout.proofs.ReadLemmas.{lower_word, upper_word, special_word, off_word, len_word}
+use Rattle.page_layout.proofs.ReadLemmas.{lower_u16, upper_u16, special_u16, off_u16, len_u16}
 use Rattle.page_layout.proofs.ShapeLemmas.{lines_below, line_fits_at}
 use Rattle.page_masks.specs.declared.kind.PageKind.TheVariants.{Heap, Btree, Sequence}
 use Rattle.page_masks.specs.Mask.{mask, heap_byte, masked_front, btree_byte, btree_front, sequence_byte, other_byte, shown_lower}
@@ -45,9 +46,9 @@ module _ (block : ℕ) (p : List ℕ) (hp : IsHeap p) where
   head_shown i le lt = front_of block t i (omega (arith, h.head.low, h.head.mid)) ∙ ⊎_elim
       (λ (a : (nat_le 14 i ≡ true) × (14 ≤ i)). head_front t i (omega arith) a.1 lt)
       (λ (a : (nat_le 14 i ≡ false) × (i < 14)). ⊎_elim
-      (λ (e : ((i == 12) ≡ true) × (i ≡ 12)). subst (λ x. masked_front t x ≡ byte t x) (sym e.1) (low_front t ∙ ap (λ n. n % 256) new_shown ∙ sym (byte-splice_in p 12 (word_bytes new_lower) 12 (omega (arith, hp.size)) (omega arith) (omega arith))))
+      (λ (e : ((i == 12) ≡ true) × (i ≡ 12)). subst (λ x. masked_front t x ≡ byte t x) (sym e.1) (low_front t ∙ ap (λ n. n % 256) new_shown ∙ sym (byte-splice_in p 12 (u16_bytes new_lower) 12 (omega (arith, hp.size)) (omega arith) (omega arith))))
       (λ (e : ((i == 12) ≡ false) × (i ≢ 12)). ⊎_elim
-      (λ (f : ((i == 13) ≡ true) × (i ≡ 13)). subst (λ x. masked_front t x ≡ byte t x) (sym f.1) (high_front t ∙ ap (λ n. n / 256) new_shown ∙ sym (byte-splice_in p 12 (word_bytes new_lower) 13 (omega (arith, hp.size)) (omega arith) (omega arith))))
+      (λ (f : ((i == 13) ≡ true) × (i ≡ 13)). subst (λ x. masked_front t x ≡ byte t x) (sym f.1) (high_front t ∙ ap (λ n. n / 256) new_shown ∙ sym (byte-splice_in p 12 (u16_bytes new_lower) 13 (omega (arith, hp.size)) (omega arith) (omega arith))))
       (λ (f : ((i == 13) ≡ false) × (i ≢ 13)). let g : i ≡ 11 = omega (arith, a.1, e.1, f.1, le) in subst (λ x. masked_front t x ≡ byte t x) (sym g) (eleven_front t (omega arith)))
       (eqb_tells i 13))
       (eqb_tells i 12))
@@ -108,17 +109,17 @@ module _ (p : List ℕ) (h : IsBtree p) where
   in_lines : (k : ℕ) → k < count p → 28 + 4 * k ≤ pd_lower p
   in_lines k lt = omega (arith, h.head.low, h.head.by4)
 
-  word_head : (i : ℕ) → 11 ≤ i → i < 19 → word m i ≡ word p i
-  word_head i le lt = λ t. btree_head i le (omega arith) t + 256 * btree_head (i + 1) (omega arith) (omega arith) t
+  u16_head : (i : ℕ) → 11 ≤ i → i < 19 → u16_at m i ≡ u16_at p i
+  u16_head i le lt = λ t. btree_head i le (omega arith) t + 256 * btree_head (i + 1) (omega arith) (omega arith) t
 
   pub btree_lower : pd_lower m ≡ pd_lower p
-  btree_lower = lower_word m ∙ word_head 12 (omega arith) (omega arith) ∙ sym (lower_word p)
+  btree_lower = lower_u16 m ∙ u16_head 12 (omega arith) (omega arith) ∙ sym (lower_u16 p)
 
   pub btree_upper : pd_upper m ≡ pd_upper p
-  btree_upper = upper_word m ∙ word_head 14 (omega arith) (omega arith) ∙ sym (upper_word p)
+  btree_upper = upper_u16 m ∙ u16_head 14 (omega arith) (omega arith) ∙ sym (upper_u16 p)
 
   pub btree_special : pd_special m ≡ pd_special p
-  btree_special = special_word m ∙ word_head 16 (omega arith) (omega arith) ∙ sym (special_word p)
+  btree_special = special_u16 m ∙ u16_head 16 (omega arith) (omega arith) ∙ sym (special_u16 p)
 
   off_mod : (a b : ℕ) → (a + 256 * (b % 128)) % 32768 ≡ (a + 256 * b) % 32768
   off_mod a b = omega arith
@@ -133,7 +134,7 @@ module _ (p : List ℕ) (h : IsBtree p) where
       let five : (24 + 4 * k + 1) % 4 ≡ 1 = omega arith in
       let a : byte m (24 + 4 * k) ≡ byte p (24 + 4 * k) = btree_line (24 + 4 * k) (omega arith) (omega arith) ∙ rw four (plain (byte p 8188 % 2 == 1) (byte p (24 + 4 * k))) in
       let b : byte m (24 + 4 * k + 1) ≡ leaf_high p (byte p (24 + 4 * k + 1)) = btree_line (24 + 4 * k + 1) (omega arith) (omega arith) ∙ rw five (high (byte p 8188 % 2 == 1) (byte p (24 + 4 * k + 1))) in
-      off_word m k ∙ (λ t. (a t + 256 * b t) % 32768) ∙ either (byte p 8188 % 2 == 1) (byte p (24 + 4 * k)) (byte p (24 + 4 * k + 1)) ∙ sym (off_word p k)
+      off_u16 m k ∙ (λ t. (a t + 256 * b t) % 32768) ∙ either (byte p 8188 % 2 == 1) (byte p (24 + 4 * k)) (byte p (24 + 4 * k + 1)) ∙ sym (off_u16 p k)
     where
       plain : (b : Bool) (x : ℕ) → (if b && false then x % 128 else if b && false then x / 2 * 2 else x) ≡ x
       plain true x = refl
@@ -154,7 +155,7 @@ module _ (p : List ℕ) (h : IsBtree p) where
       let seven : (26 + 4 * k + 1) % 4 ≡ 3 = omega arith in
       let a : byte m (26 + 4 * k) ≡ leaf_low p (byte p (26 + 4 * k)) = btree_line (26 + 4 * k) (omega arith) (omega arith) ∙ rw six (low (byte p 8188 % 2 == 1) (byte p (26 + 4 * k))) in
       let b : byte m (26 + 4 * k + 1) ≡ byte p (26 + 4 * k + 1) = btree_line (26 + 4 * k + 1) (omega arith) (omega arith) ∙ rw seven (plain (byte p 8188 % 2 == 1) (byte p (26 + 4 * k + 1))) in
-      len_word m k ∙ (λ t. (a t + 256 * b t) / 2) ∙ either (byte p 8188 % 2 == 1) (byte p (26 + 4 * k)) (byte p (26 + 4 * k + 1)) ∙ sym (len_word p k)
+      len_u16 m k ∙ (λ t. (a t + 256 * b t) / 2) ∙ either (byte p 8188 % 2 == 1) (byte p (26 + 4 * k)) (byte p (26 + 4 * k + 1)) ∙ sym (len_u16 p k)
     where
       plain : (b : Bool) (x : ℕ) → (if b && false then x % 128 else if b && false then x / 2 * 2 else x) ≡ x
       plain true x = refl
@@ -200,7 +201,7 @@ module _ (p : List ℕ) (h : IsBtree p) where
       by4 = rw btree_lower h.head.by4;
       by8 = rw btree_upper h.head.by8;
       special8 = rw btree_special h.head.special8;
-      layout = word_head 18 (omega arith) (omega arith) ∙ h.head.layout;
+      layout = u16_head 18 (omega arith) (omega arith) ∙ h.head.layout;
     };
     lines = lines_below m (count m) (λ k lt. line_m k (omega (arith, count_m)) ∙ line_fits_at p (count p) k h.lines (omega (arith, count_m)));
     special = btree_special ∙ h.special;
@@ -226,7 +227,7 @@ module _ (p : List ℕ) (size : length p ≡ 8192) (h : IsSequence p) where
   end : (i : ℕ) → 8184 ≤ i → i < 8192 → byte s i ≡ byte p i
   end i le lt = sequence_plain i (omega arith) lt (grind (arith, nat_tests, h.head.high, h.special))
 
-  magic_same : long s 8184 ≡ long p 8184
+  magic_same : u32_at s 8184 ≡ u32_at p 8184
   magic_same = λ t. end 8184 (omega arith) (omega arith) t + 256 * end 8185 (omega arith) (omega arith) t + 65536 * (end 8186 (omega arith) (omega arith) t + 256 * end 8187 (omega arith) (omega arith) t)
 
   sequence_kind : HasKind s Sequence

@@ -3,9 +3,11 @@ use Rattle.std.proofs.Common.{◌≡◌, ℕ, ◌+◌, ◌-◌, ◌≤◌, ◌&&
 use Rattle.std.specs.Prelude.{if◌then◌else◌, nat_lt, nat_le, replicate}
 use Rattle.std.proofs.lemmas.Bool.Decides.{nat_tests}
 use Rattle.std.proofs.lemmas.List.{length-replicate}
-use Rattle.page_layout.specs.Bytes.{byte, splice, page_of}
+use Rattle.layout.specs.Splice.{splice}
+use Rattle.page_layout.specs.Bytes.{byte, page_of}
 use Rattle.page_layout.specs.Page.{pd_lower, pd_upper, Head}
-use Rattle.page_layout.proofs.BytesLemmas.{length-splice, byte-splice, byte-zeros, byte-page_of, length-page_of, same_pages}
+use Rattle.layout.proofs.SpliceLemmas.{length-splice, byte-splice}
+use Rattle.page_layout.proofs.BytesLemmas.{byte-zeros, byte-page_of, length-page_of, same_pages}
 use Rattle.page_masks.specs.Mask.{sequence_byte, other_byte}
 
 cleared_front : (p : List ℕ) (i : ℕ) → length p ≡ 8192 → byte (splice p 0 (replicate 10 0)) i ≡ (if nat_lt i 10 then 0 else byte p i)

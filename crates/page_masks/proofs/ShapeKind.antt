@@ -2,10 +2,10 @@
 use Rattle.std.proofs.Common.{◌≡◌, ◌≢◌, ℕ, zero, suc, ◌+◌, ◌*◌, ◌<◌, ◌≤◌, ◌==◌, ◌&&◌, List, Bool, true, false, length, refl, sym, ◌∙◌, arith}
 use Rattle.std.specs.Prelude.{if◌then◌else◌, nat_lt, nat_le}
 use Rattle.std.proofs.lemmas.Bool.Decides.{nat_tests}
-use Rattle.page_layout.specs.Bytes.{byte, word, long}
+use Rattle.page_layout.specs.Bytes.{byte, u16_at, u32_at}
 use Rattle.page_layout.specs.Page.{pd_lower, pd_upper, pd_special, count, lp_off, lp_len, Head, header_fits, line_fits, lines_fit, well_formed}
 use Rattle.page_layout.proofs.BytesLemmas.{byte-page_of, length-page_of, same_pages}
-use Rattle.page_layout.proofs.ReadLemmas.{lower_word, upper_word, special_word, off_same, len_same}
+use Rattle.page_layout.proofs.ReadLemmas.{lower_u16, upper_u16, special_u16, off_same, len_same}
 use Rattle.page_layout.proofs.ShapeLemmas.{head_of}
 use Rattle.page_masks.specs.declared.kind.PageKind.{PageKind}
 use Rattle.page_masks.specs.declared.kind.PageKind.TheVariants.{Zero, Heap, Btree, Sequence, Other}
@@ -58,7 +58,7 @@ by_tests false false true e = cc e
 by_tests false false false e = cc e
 
 never_zero : (p : List ℕ) (w : Bool) → (if w then kind_by_special p else Other) ≢ Zero
-never_zero p true e = by_tests (pd_special p == 8192) (pd_special p == 8176 && nat_le (word p 8190) 0xFF7F) (pd_special p == 8184 && long p 8184 == 0x1717) e
+never_zero p true e = by_tests (pd_special p == 8192) (pd_special p == 8176 && nat_le (u16_at p 8190) 0xFF7F) (pd_special p == 8184 && u32_at p 8184 == 0x1717) e
 never_zero p false e = cc e
 
 pub masked_open : (block : ℕ) (p : List ℕ) (i : ℕ) → masked_byte block p i ≡ masked_as (shape_kind p) block p i
@@ -86,7 +86,7 @@ pub record IsSequence (p : List ℕ) : Type 0 where
   pub head : Head p
   pub lines : lines_fit p (count p) ≡ true
   pub special : pd_special p ≡ 8184
-  pub magic : long p 8184 ≡ 0x1717
+  pub magic : u32_at p 8184 ≡ 0x1717
 
 pub record HasKind (p : List ℕ) (k : PageKind) : Type 0 where
   pub is : shape_kind p ≡ k
@@ -94,11 +94,11 @@ pub record HasKind (p : List ℕ) (k : PageKind) : Type 0 where
 pub shape_heap : (p : List ℕ) → IsHeap p → HasKind p Heap
 shape_heap p h = let special : (pd_special p == 8192) ≡ true = grind (arith, nat_tests, h.heap) in record { is = rw (well p h.head h.lines, special) refl }
 
-pub shape_btree : (p : List ℕ) → IsBtree p → word p 8190 ≤ 0xFF7F → HasKind p Btree
+pub shape_btree : (p : List ℕ) → IsBtree p → u16_at p 8190 ≤ 0xFF7F → HasKind p Btree
 shape_btree p h low =
     let no : (pd_special p == 8192) ≡ false = grind (arith, nat_tests, h.special) in
     let a : (pd_special p == 8176) ≡ true = grind (arith, nat_tests, h.special) in
-    let b : nat_le (word p 8190) 0xFF7F ≡ true = grind (arith, nat_tests, low) in
+    let b : nat_le (u16_at p 8190) 0xFF7F ≡ true = grind (arith, nat_tests, low) in
     record { is = rw (well p h.head h.lines, no, a, b) refl }
 
 pub shape_sequence : (p : List ℕ) → IsSequence p → HasKind p Sequence
@@ -106,22 +106,22 @@ shape_sequence p h =
     let no : (pd_special p == 8192) ≡ false = grind (arith, nat_tests, h.special) in
     let no2 : (pd_special p == 8176) ≡ false = grind (arith, nat_tests, h.special) in
     let a : (pd_special p == 8184) ≡ true = grind (arith, nat_tests, h.special) in
-    let b : (long p 8184 == 0x1717) ≡ true = grind (arith, nat_tests, h.magic) in
+    let b : (u32_at p 8184 == 0x1717) ≡ true = grind (arith, nat_tests, h.magic) in
     record { is = rw (well p h.head h.lines, no, no2, a, b) refl }
 
 -- each page is of one of four shapes
-pub shape_cases : (p : List ℕ) (P : PageKind → Type 0) → length p ≡ 8192 → (IsHeap p → P Heap) → (IsBtree p → word p 8190 ≤ 0xFF7F → P Btree) → (IsSequence p → P Sequence)
+pub shape_cases : (p : List ℕ) (P : PageKind → Type 0) → length p ≡ 8192 → (IsHeap p → P Heap) → (IsBtree p → u16_at p 8190 ≤ 0xFF7F → P Btree) → (IsSequence p → P Sequence)
     → (HasKind p Other → P Other) → P (shape_kind p)
 shape_cases p P size heap btree sequence other = by_case (well_formed p) refl
   where
-    formed : (a b c : Bool) → (pd_special p == 8192) ≡ a → (pd_special p == 8176 && nat_le (word p 8190) 0xFF7F) ≡ b → (pd_special p == 8184 && long p 8184 == 0x1717) ≡ c → well_formed p ≡ true → Head p → lines_fit p (count p) ≡ true
+    formed : (a b c : Bool) → (pd_special p == 8192) ≡ a → (pd_special p == 8176 && nat_le (u16_at p 8190) 0xFF7F) ≡ b → (pd_special p == 8184 && u32_at p 8184 == 0x1717) ≡ c → well_formed p ≡ true → Head p → lines_fit p (count p) ≡ true
         → P (if a then Heap else if b then Btree else if c then Sequence else Other)
     formed true b c ea eb ec w h l = heap (record { size = size; head = h; lines = l; heap = grind (arith, nat_tests, ea) })
     formed false true c ea eb ec w h l =
-        let t = both (pd_special p == 8176) (nat_le (word p 8190) 0xFF7F) eb in
+        let t = both (pd_special p == 8176) (nat_le (u16_at p 8190) 0xFF7F) eb in
         btree (record { size = size; head = h; lines = l; special = grind (arith, nat_tests, t.0) }) (grind (arith, nat_tests, t.1))
     formed false false true ea eb ec w h l =
-        let t = both (pd_special p == 8184) (long p 8184 == 0x1717) ec in
+        let t = both (pd_special p == 8184) (u32_at p 8184 == 0x1717) ec in
         sequence (record { head = h; lines = l; special = grind (arith, nat_tests, t.0); magic = grind (arith, nat_tests, t.1) })
     formed false false false ea eb ec w h l = other (record { is = rw (w, ea, eb, ec) refl })
 
@@ -129,7 +129,7 @@ shape_cases p P size heap btree sequence other = by_case (well_formed p) refl
     by_case false e = other (record { is = rw e refl })
     by_case true e =
         let t = both (header_fits p) (lines_fit p (count p)) e in
-        formed (pd_special p == 8192) (pd_special p == 8176 && nat_le (word p 8190) 0xFF7F) (pd_special p == 8184 && long p 8184 == 0x1717) refl refl refl e (head_of p t.0) t.1
+        formed (pd_special p == 8192) (pd_special p == 8176 && nat_le (u16_at p 8190) 0xFF7F) (pd_special p == 8184 && u32_at p 8184 == 0x1717) refl refl refl e (head_of p t.0) t.1
 
 -- pages that differ in their first ten bytes alone
 pub record SameTail (p q : List ℕ) : Type 0 where
@@ -138,27 +138,27 @@ pub record SameTail (p q : List ℕ) : Type 0 where
   pub tail : (i : ℕ) → 10 ≤ i → byte q i ≡ byte p i
 
 module _ (p q : List ℕ) (s : SameTail p q) where
-  pub word_tail : (i : ℕ) → 10 ≤ i → word q i ≡ word p i
-  word_tail i le = λ t. s.tail i le t + 256 * s.tail (i + 1) (omega arith) t
+  pub u16_tail : (i : ℕ) → 10 ≤ i → u16_at q i ≡ u16_at p i
+  u16_tail i le = λ t. s.tail i le t + 256 * s.tail (i + 1) (omega arith) t
 
   pub lower_tail : pd_lower q ≡ pd_lower p
-  lower_tail = lower_word q ∙ word_tail 12 (omega arith) ∙ sym (lower_word p)
+  lower_tail = lower_u16 q ∙ u16_tail 12 (omega arith) ∙ sym (lower_u16 p)
 
   pub upper_tail : pd_upper q ≡ pd_upper p
-  upper_tail = upper_word q ∙ word_tail 14 (omega arith) ∙ sym (upper_word p)
+  upper_tail = upper_u16 q ∙ u16_tail 14 (omega arith) ∙ sym (upper_u16 p)
 
   pub special_tail : pd_special q ≡ pd_special p
-  special_tail = special_word q ∙ word_tail 16 (omega arith) ∙ sym (special_word p)
+  special_tail = special_u16 q ∙ u16_tail 16 (omega arith) ∙ sym (special_u16 p)
 
   pub off_tail : (k : ℕ) → lp_off q k ≡ lp_off p k
-  off_tail k = off_same q p k k (word_tail (24 + 4 * k) (omega arith))
+  off_tail k = off_same q p k k (u16_tail (24 + 4 * k) (omega arith))
 
   pub len_tail : (k : ℕ) → lp_len q k ≡ lp_len p k
-  len_tail k = len_same q p k k (word_tail (26 + 4 * k) (omega arith))
+  len_tail k = len_same q p k k (u16_tail (26 + 4 * k) (omega arith))
 
   head_tail : header_fits q ≡ header_fits p
   unfolding header_fits
-  head_tail = rw (lower_tail, upper_tail, special_tail, word_tail 18 (omega arith)) refl
+  head_tail = rw (lower_tail, upper_tail, special_tail, u16_tail 18 (omega arith)) refl
 
   line_tail : (k : ℕ) → line_fits q k ≡ line_fits p k
   unfolding line_fits
@@ -173,6 +173,6 @@ module _ (p q : List ℕ) (s : SameTail p q) where
 
   pub kind_tail : HasKind q (shape_kind p)
   kind_tail =
-      let m : word q 8190 ≡ word p 8190 = word_tail 8190 (omega arith) in
-      let l : long q 8184 ≡ long p 8184 = λ t. word_tail 8184 (omega arith) t + 65536 * word_tail 8186 (omega arith) t in
+      let m : u16_at q 8190 ≡ u16_at p 8190 = u16_tail 8190 (omega arith) in
+      let l : u32_at q 8184 ≡ u32_at p 8184 = λ t. u16_tail 8184 (omega arith) t + 65536 * u16_tail 8186 (omega arith) t in
       record { is = rw (well_tail, special_tail, m, l) refl }

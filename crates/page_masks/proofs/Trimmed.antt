@@ -1,10 +1,10 @@
 -- A heap page without its unused lines at the end, and with another position: the same mask.
 use Rattle.std.proofs.Common.{◌≡◌, ◌≢◌, ℕ, zero, suc, ◌+◌, ◌*◌, ◌/◌, ◌%◌, ◌<◌, ◌≤◌, ◌⊎◌, List, Bool, true, false, length, refl, sym, ◌∙◌, ap, arith}
 use Rattle.std.specs.Prelude.{if◌then◌else◌}
-use Rattle.page_layout.specs.Bytes.{byte, word, with_word, word_bytes}
+use Rattle.page_layout.specs.Bytes.{byte, u16_at, with_u16, u16_bytes}
 use Rattle.page_layout.specs.Page.{pd_lower, pd_upper, pd_special, count, lp_off, lp_flags, lp_len, Head, lines_fit, line_fits}
 use Rattle.page_layout.specs.Edits.{is_free, trimmed_count, trimmed}
-use Rattle.page_layout.proofs.BytesLemmas.{length-splice, byte-splice_in, byte-splice_out}
+use Rattle.layout.proofs.SpliceLemmas.{length-splice, byte-splice_in, byte-splice_out}
 use Rattle.page_layout.proofs.ShapeLemmas.{line_fits_at, trimmed_count-le, lines_below}
 use Rattle.page_layout.proofs.Front as Front
 use Rattle.page_layout.proofs.Front.{SameFront}
@@ -30,10 +30,10 @@ module _ (p : List ℕ) (h : IsHeap p) where
   n = trimmed_count p (count p)
 
   abbrev q : List ℕ
-  q = with_word p 12 (24 + 4 * n)
+  q = with_u16 p 12 (24 + 4 * n)
 
   other : (i : ℕ) → i ≢ 12 → i ≢ 13 → byte q i ≡ byte p i
-  other i a b = byte-splice_out p 12 (word_bytes (24 + 4 * n)) i (omega (arith, h.size)) (outside i a b)
+  other i a b = byte-splice_out p 12 (u16_bytes (24 + 4 * n)) i (omega (arith, h.size)) (outside i a b)
     where
       outside : (i : ℕ) → i ≢ 12 → i ≢ 13 → (i < 12) ⊎ (14 ≤ i)
       outside i a b = search_by i a b
@@ -42,43 +42,43 @@ module _ (p : List ℕ) (h : IsHeap p) where
           search_by i a b = grind arith
 
   pub size_q : length q ≡ 8192
-  size_q = length-splice p 12 (word_bytes (24 + 4 * n)) (omega (arith, h.size)) ∙ h.size
+  size_q = length-splice p 12 (u16_bytes (24 + 4 * n)) (omega (arith, h.size)) ∙ h.size
 
   from14 : (i : ℕ) → 14 ≤ i → byte q i ≡ byte p i
   from14 i le = other i (λ e. omega arith) (λ e. omega arith)
 
-  word_from : (i : ℕ) → 14 ≤ i → word q i ≡ word p i
-  word_from i le = λ t. from14 i le t + 256 * from14 (i + 1) (omega arith) t
+  u16_from : (i : ℕ) → 14 ≤ i → u16_at q i ≡ u16_at p i
+  u16_from i le = λ t. from14 i le t + 256 * from14 (i + 1) (omega arith) t
 
   lower_q : pd_lower q ≡ 24 + 4 * n
   unfolding pd_lower
   lower_q =
-      let a : byte q 12 ≡ (24 + 4 * n) % 256 = byte-splice_in p 12 (word_bytes (24 + 4 * n)) 12 (omega (arith, h.size)) (omega arith) (omega arith) in
-      let b : byte q 13 ≡ (24 + 4 * n) / 256 = byte-splice_in p 12 (word_bytes (24 + 4 * n)) 13 (omega (arith, h.size)) (omega arith) (omega arith) in
+      let a : byte q 12 ≡ (24 + 4 * n) % 256 = byte-splice_in p 12 (u16_bytes (24 + 4 * n)) 12 (omega (arith, h.size)) (omega arith) (omega arith) in
+      let b : byte q 13 ≡ (24 + 4 * n) / 256 = byte-splice_in p 12 (u16_bytes (24 + 4 * n)) 13 (omega (arith, h.size)) (omega arith) (omega arith) in
       (λ t. a t + 256 * b t) ∙ halves_back (24 + 4 * n)
 
   upper_q : pd_upper q ≡ pd_upper p
   unfolding pd_upper
-  upper_q = word_from 14 (omega arith)
+  upper_q = u16_from 14 (omega arith)
 
   special_q : pd_special q ≡ pd_special p
   unfolding pd_special
-  special_q = word_from 16 (omega arith)
+  special_q = u16_from 16 (omega arith)
 
   pub count_q : count q ≡ n
   count_q = omega (arith, lower_q)
 
   pub off_q : (k : ℕ) → lp_off q k ≡ lp_off p k
   unfolding lp_off
-  off_q k = ap (λ w. w % 32768) (word_from (24 + 4 * k) (omega arith))
+  off_q k = ap (λ w. w % 32768) (u16_from (24 + 4 * k) (omega arith))
 
   pub len_q : (k : ℕ) → lp_len q k ≡ lp_len p k
   unfolding lp_len
-  len_q k = ap (λ w. w / 2) (word_from (26 + 4 * k) (omega arith))
+  len_q k = ap (λ w. w / 2) (u16_from (26 + 4 * k) (omega arith))
 
   pub flags_q : (k : ℕ) → lp_flags q k ≡ lp_flags p k
   unfolding lp_flags
-  flags_q k = λ t. word_from (24 + 4 * k) (omega arith) t / 32768 % 2 + 2 * (word_from (26 + 4 * k) (omega arith) t % 2)
+  flags_q k = λ t. u16_from (24 + 4 * k) (omega arith) t / 32768 % 2 + 2 * (u16_from (26 + 4 * k) (omega arith) t % 2)
 
   pub head_q : Head q
   head_q =
@@ -91,7 +91,7 @@ module _ (p : List ℕ) (h : IsHeap p) where
         by4 = rw lower_q (omega arith);
         by8 = rw upper_q h.head.by8;
         special8 = rw special_q h.head.special8;
-        layout = word_from 18 (omega arith) ∙ h.head.layout;
+        layout = u16_from 18 (omega arith) ∙ h.head.layout;
       }
 
   line_q : (k : ℕ) → line_fits q k ≡ line_fits p k

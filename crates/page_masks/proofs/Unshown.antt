@@ -4,7 +4,7 @@ use Rattle.std.specs.Prelude.{if◌then◌else◌, nat_lt, nat_le}
 use Rattle.std.specs.List.{list_all}
 use Rattle.std.proofs.lemmas.Bool.Decides.{nat_tests, eqb_tells, leb_tells}
 use Rattle.std.proofs.lemmas.List.{ext_get_or}
-use Rattle.page_layout.specs.Bytes.{byte, word, cut, page_of}
+use Rattle.page_layout.specs.Bytes.{byte, u16_at, cut, page_of}
 use Rattle.page_layout.specs.Page.{pd_upper, pd_special, count, lp_off, lp_flags, lp_len, item, Head, ItemIn, lines_fit, header_fits, well_formed}
 use Rattle.page_layout.proofs.BytesLemmas.{length-cut, byte-cut}
 use Rattle.page_layout.proofs.ShapeLemmas.{item_in, line_fits_at, trimmed_count-le}
@@ -25,7 +25,7 @@ zero_byte (x ∷ xs) (suc i) e = zero_byte xs i (rest (x == 0) (list_all (λ b. 
     rest true b h = h
     rest false b h = cc h
 
-not_zero : (p : List ℕ) → word p 18 ≡ 8196 → is_zero p ≡ false
+not_zero : (p : List ℕ) → u16_at p 18 ≡ 8196 → is_zero p ≡ false
 not_zero p e = by_case (is_zero p) refl
   where
     by_case : (b : Bool) → is_zero p ≡ b → is_zero p ≡ false

@@ -1,6 +1,7 @@
 -- A page as pg_walcompare and replay compare it: PostgreSQL 16, src/backend/access/heap/heapam.c, heap_mask, and nbtree/nbtxlog.c, btree_mask.
 use Rattle.std.specs.Prelude.{ℕ, zero, suc, ◌+◌, ◌-◌, ◌*◌, ◌/◌, ◌%◌, ◌<◌, ◌==◌, ◌&&◌, List, [], ◌∷◌, ◌++◌, Bool, nat_le, nat_lt, length, replicate, Option, Some, None, if◌then◌else◌}
-use Rattle.page_layout.specs.Bytes.{byte, word, splice, with_word, up8, page_of}
+use Rattle.layout.specs.Splice.{splice}
+use Rattle.page_layout.specs.Bytes.{byte, u16_at, with_u16, up8, page_of}
 use Rattle.page_layout.specs.Page.{pd_lower, pd_upper, count, lp_off, lp_flags, lp_len, item}
 use Rattle.page_layout.specs.Edits.{trimmed_count}
 use Rattle.page_masks.specs.declared.kind.PageKind.{PageKind}
@@ -19,7 +20,7 @@ tid_bytes block place =
 -- a tuple of 23 bytes or more: hint bits, the command id, and an address that marks a speculative insertion
 abbrev pub masked_tuple : ℕ → ℕ → List ℕ → List ℕ
 masked_tuple block place t =
-    with_word (splice (if word t 16 == 0xFFFE then splice t 12 (tid_bytes block place) else t) 8 (0 ∷ 0 ∷ 0 ∷ 0 ∷ [])) 20 (masked_infomask (word t 20))
+    with_u16 (splice (if u16_at t 16 == 0xFFFE then splice t 12 (tid_bytes block place) else t) 8 (0 ∷ 0 ∷ 0 ∷ 0 ∷ [])) 20 (masked_infomask (u16_at t 20))
 
 -- what a line's item shows
 unfoldable pub masked_item : ℕ → ℕ → ℕ → List ℕ → List ℕ

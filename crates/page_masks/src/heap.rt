@@ -1,12 +1,13 @@
 ghost use Rattle.std.specs.Prelude.{ℕ, ◌≡◌, ◌+◌, ◌-◌, ◌*◌, ◌/◌, ◌<◌, ◌≤◌, length, IsTrue};
-ghost use Rattle.page_layout.specs.Bytes.{word, splice, with_word, up8};
+ghost use Rattle.layout.specs.Splice.{splice};
+ghost use Rattle.page_layout.specs.Bytes.{u16_at, with_u16, up8};
 ghost use Rattle.page_layout.specs.Page.{lp_flags, lp_off, lp_len, item, Head, line_fits, lines_fit, count, ItemIn};
 ghost use Rattle.page_masks.specs.Mask.{masked_tuple, masked_infomask, masked_item};
 ghost use Rattle.page_masks.specs.Shapes.{IsHeap};
 ghost use Rattle.page_masks.specs.Laying.{fronted, with_held, heap_laid};
 
 use page_layout::add::put_item;
-use page_layout::bytes::{clear, put, put_word, word_at};
+use page_layout::bytes::{clear, put, put_u16, u16_at};
 use page_layout::line::pointer_at;
 use page_layout::shape::bounds_of;
 use page_layout::trim::trimmed_count;
@@ -30,8 +31,8 @@ fn mask_tuple(tuple: &mut [u8], block: u32, place: usize)
     requires place { place < 65536 }
     ensures { tuple.new ≡ masked_tuple block place tuple.old }
 {
-    let bits = word_at(tuple, 20);
-    if word_at(tuple, 16) == 0xFFFE {
+    let bits = u16_at(tuple, 20);
+    if u16_at(tuple, 16) == 0xFFFE {
         put(
             tuple,
             12,
@@ -46,7 +47,7 @@ fn mask_tuple(tuple: &mut [u8], block: u32, place: usize)
         );
     }
     put(tuple, 8, &[0, 0, 0, 0]);
-    put_word(tuple, 20, masked_infomask(bits));
+    put_u16(tuple, 20, masked_infomask(bits));
 }
 
 // What stands before the items.
@@ -60,7 +61,7 @@ fn mask_front(page: &mut [u8])
     let flags = page[10];
     clear(page, 0, 10);
     page[10] = flags / 8 * 8;
-    put_word(page, 12, lower);
+    put_u16(page, 12, lower);
     clear(page, 20, 4);
     clear(page, lower, b.upper - lower);
 }

@@ -6,7 +6,7 @@ ghost use Rattle.page_masks.specs.Shapes.{IsHeap, IsBtree};
 ghost use Rattle.page_masks.specs.declared.kind.PageKind.TheVariants as PageKind;
 
 use page_layout::Page;
-use page_layout::bytes::word_at;
+use page_layout::bytes::u16_at;
 use page_layout::shape::{bounds_of, well_formed};
 
 /// What sort of page this is.
@@ -49,10 +49,10 @@ pub fn kind_of_bytes(page: &[u8]) -> PageKind
     if special == 8192 {
         return PageKind::Heap;
     }
-    if special == 8176 && word_at(page, 8190) <= 0xFF7F {
+    if special == 8176 && u16_at(page, 8190) <= 0xFF7F {
         return PageKind::Btree;
     }
-    if special == 8184 && word_at(page, 8184) + 65536 * word_at(page, 8186) == 0x1717 {
+    if special == 8184 && u16_at(page, 8184) + 65536 * u16_at(page, 8186) == 0x1717 {
         return PageKind::Sequence;
     }
     PageKind::Other

@@ -1,6 +1,6 @@
 use Rattle.std.proofs.Common.{replicate, ◌∙◌, ◌+◌, ◌-◌, arith, refl, length}
 use Rattle.page_layout.specs.Bytes.{up8}
-use Rattle.page_layout.proofs.BytesLemmas.{splice-splice}
+use Rattle.layout.proofs.SpliceLemmas.{splice-splice}
 use Rattle.page_layout.proofs.add.put_item.Goals as goal
 
 pub returns : goal.returns
