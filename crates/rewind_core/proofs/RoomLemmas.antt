@@ -6,16 +6,7 @@ use Rattle.cluster_tree.specs.declared.path_fault.PathFault.TheVariants.{TooDeep
 not_deep : (have n : ℕ) → have ≤ 61 → n ≤ 3 → nat_lt 64 (have + n) ≡ false
 not_deep have n h k = grind (arith, rules)
 
-pub room_for_rewind : (have : ℕ) → have ≤ 61 → checked have (codes "pg_rewind.unfinished") ≡ Ok tt
-room_for_rewind have h = ap (λ b. cond b (Err TooDeep) (Ok tt)) (not_deep have 1 h (omega arith))
-
-pub room_for_replay : (have : ℕ) → have ≤ 61 → checked have (codes "pg_walreplay.unfinished") ≡ Ok tt
-room_for_replay have h = ap (λ b. cond b (Err TooDeep) (Ok tt)) (not_deep have 1 h (omega arith))
-
-pub room_for_reset : (have : ℕ) → have ≤ 61 → checked have (codes "pg_resetwal.unfinished") ≡ Ok tt
-room_for_reset have h = ap (λ b. cond b (Err TooDeep) (Ok tt)) (not_deep have 1 h (omega arith))
-
 pub room_for_control : (have : ℕ) → have ≤ 61 → checked have (codes "global/pg_control") ≡ Ok tt
 room_for_control have h = ap (λ b. cond b (Err TooDeep) (Ok tt)) (not_deep have 2 h (omega arith))
 
-pub ruleset room_steps = (room_for_rewind, room_for_replay, room_for_reset, room_for_control)
+pub ruleset room_steps = (room_for_control)

@@ -5,5 +5,3 @@ pub mod Marks
 pub mod RootControl
 pub mod Fitness
 pub mod Rewind
-pub mod Copying
-pub mod Emptying

@@ -1,19 +1,16 @@
 -- The marks of unfinished runs. Own: "Mark files".
-use Rattle.std.specs.Prelude.{ℕ, ◌==◌, cond, Option, None, Some}
+use Rattle.std.specs.Prelude.{ℕ, Option, None, Some}
+use Rattle.std.specs.Option.{option_map}
 use Rattle.cluster_tree.specs.PathValue.{PathValue}
 use Rattle.cluster_tree.specs.Contents.{Contents}
-use Rattle.cluster_tree.specs.Marks.{MarkPaths, marks_of, first_mark}
+use Rattle.cluster_tree.specs.Marks.{MarkPaths, marks_of, first_mark, mark_at}
 use Rattle.rewind_core.specs.declared.fault.RewindFault.{RewindFault}
 use Rattle.rewind_core.specs.declared.fault.RewindFault.TheVariants as fault
-
--- the path of the mark of a number
-abbrev pub mark_at : MarkPaths → ℕ → PathValue
-mark_at marks number = cond (number == 0) marks.rewind (cond (number == 1) marks.replay marks.reset)
 
 -- refused with the path of this mark, if there is one
 abbrev pub with_mark : MarkPaths → Option ℕ → Option RewindFault
 with_mark marks None = None
-with_mark marks (Some number) = Some (fault.Unfinished (mark_at marks number))
+with_mark marks (Some number) = option_map fault.Unfinished (mark_at marks number)
 
 -- the first of the three marks that stands at the root: a file, a folder or a link
 unfoldable pub unfinished : Contents → PathValue → Option RewindFault

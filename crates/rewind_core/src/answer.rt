@@ -1,7 +1,8 @@
 // The public call.
 ghost use Rattle.std.specs.Prelude.{◌≡◌, ◌≢◌, ◌≤◌, length, IsTrue, Err, IsErrOf};
 ghost use Rattle.cluster_tree.specs.PathValue.{PathValue};
-ghost use Rattle.cluster_tree.specs.Causes.{OnlyReads, Meets, Rose};
+ghost use Rattle.cluster_tree.specs.Causes.{Meets, Rose};
+ghost use Rattle.cluster_tree.specs.Frame.{Reads};
 ghost use Rattle.rewind_core.specs.Faults.{IsFree};
 ghost use Rattle.rewind_core.specs.Roots.{AreApart};
 ghost use Rattle.rewind_core.specs.Rewind.{rewind_of};
@@ -32,7 +33,7 @@ pub fn rewind<F: Tree>(
     // the answer is that of the first point that refuses, or a fault of the device, or want of memory
     ensures exact { IsTrue F.tells → Meets IsFree (rewind_of (F.contents tree.old) target.now
         source.now) result }
-    ensures reads { OnlyReads F.contents F.calls F.failed_reads F.failed_changes tree.old tree.new }
+    ensures reads { Reads F.Tree tree.old tree.new }
 
     ensures read_fault { IsErrOf result RewindFault.ReadFault →
         Rose (F.failed_reads tree.old) (F.failed_reads tree.new) }

@@ -3,7 +3,8 @@ ghost use Rattle.std.specs.Prelude.{◌≡◌, ◌≢◌, ◌≤◌, length, IfO
 ghost use Rattle.cluster_tree.specs.PathValue.{PathValue};
 ghost use Rattle.cluster_tree.specs.Tree.{file_of};
 ghost use Rattle.cluster_tree.specs.Contents.{entry_at};
-ghost use Rattle.cluster_tree.specs.Causes.{OnlyReads, Meets, Rose};
+ghost use Rattle.cluster_tree.specs.Causes.{Meets, Rose};
+ghost use Rattle.cluster_tree.specs.Frame.{Reads};
 ghost use Rattle.control_file.specs.Admission.{IsControl};
 ghost use Rattle.rewind_core.specs.Faults.{IsFree};
 ghost use Rattle.rewind_core.specs.RootControl.{at_root, control_at, control_in};
@@ -26,7 +27,7 @@ pub fn control_at<F: Tree>(alloc: Global, tree: &mut F, root: &Path) -> Result<C
         result }
     // what is read can be written and shown, over every tree
     ensures control { IfOk result IsControl }
-    ensures reads { OnlyReads F.contents F.calls F.failed_reads F.failed_changes tree.old tree.new }
+    ensures reads { Reads F.Tree tree.old tree.new }
     ensures read_fault { IsErrOf result RewindFault.ReadFault →
         Rose (F.failed_reads tree.old) (F.failed_reads tree.new) }
     ensures changed { IsTrue F.tells → (p : PathValue) → result ≢ Err (RewindFault.Changed p) }
@@ -46,7 +47,7 @@ fn control_in<F: Tree>(
     ensures exact { IsTrue F.tells → Meets IsFree (control_in root.now
         (file_of (entry_at (F.contents tree.old) path))) result }
     ensures control { IfOk result IsControl }
-    ensures reads { OnlyReads F.contents F.calls F.failed_reads F.failed_changes tree.old tree.new }
+    ensures reads { Reads F.Tree tree.old tree.new }
     ensures read_fault { IsErrOf result RewindFault.ReadFault →
         Rose (F.failed_reads tree.old) (F.failed_reads tree.new) }
     ensures changed { IsTrue F.tells → (p : PathValue) → result ≢ Err (RewindFault.Changed p) }

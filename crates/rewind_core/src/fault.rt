@@ -1,5 +1,5 @@
 // Why nothing was rewound.
-use cluster_tree::{FileFault, OutOfMemory, Path};
+use cluster_tree::{OutOfMemory, Path};
 use control_file::Field;
 use thiserror::Error;
 
@@ -49,21 +49,6 @@ pub enum RewindFault {
     /// Memory is wanting.
     #[error("out of memory")]
     OutOfMemory,
-}
-
-impl From<FileFault> for RewindFault {
-    ghost use Rattle.std.specs.Prelude.{◌≡◌};
-    ghost use Rattle.rewind_core.specs.Faults.{raised};
-
-    ghost from_gives = { λ f e. e ≡ raised f };
-
-    fn from(fault: FileFault) -> RewindFault {
-        match fault {
-            FileFault::ReadFault => RewindFault::ReadFault,
-            FileFault::Changed(path) => RewindFault::Changed(path),
-            FileFault::OutOfMemory => RewindFault::OutOfMemory,
-        }
-    }
 }
 
 impl From<OutOfMemory> for RewindFault {

@@ -1,13 +1,13 @@
 // The marks of unfinished runs.
-ghost use Rattle.std.specs.Prelude.{◌≡◌, ◌≢◌, ◌≤◌, length, IfOk, IfErr, IsTrue, Err, IsErrOf};
+ghost use Rattle.std.specs.Prelude.{◌≡◌, ◌≢◌, ◌≤◌, length, IfOk, IfErr, IsTrue, Some, Err, IsErrOf};
 ghost use Rattle.cluster_tree.specs.PathValue.{PathValue};
-ghost use Rattle.cluster_tree.specs.Causes.{OnlyReads, Passes, Rose};
-ghost use Rattle.cluster_tree.specs.Marks.{marks_of};
+ghost use Rattle.cluster_tree.specs.Causes.{Passes, Rose};
+ghost use Rattle.cluster_tree.specs.Frame.{Reads};
+ghost use Rattle.cluster_tree.specs.Marks.{marks_of, mark_at};
 ghost use Rattle.rewind_core.specs.Faults.{IsFree};
-ghost use Rattle.rewind_core.specs.Marks.{mark_at, unfinished};
+ghost use Rattle.rewind_core.specs.Marks.{unfinished};
 
 use crate::RewindFault;
-use crate::paths::path_in;
 use cluster_tree::{Marks, Path, PathFault, Tree, mark_present};
 use std::alloc::Global;
 
@@ -21,7 +21,7 @@ pub(crate) fn check_marks<F: Tree>(
     requires { length root.now.parts ≤ 61 }
     ensures answer { IsTrue F.tells → Passes IsFree (unfinished (F.contents tree.old) root.now)
         result }
-    ensures reads { OnlyReads F.contents F.calls F.failed_reads F.failed_changes tree.old tree.new }
+    ensures reads { Reads F.Tree tree.old tree.new }
     ensures read_fault { IsErrOf result RewindFault.ReadFault →
         Rose (F.failed_reads tree.old) (F.failed_reads tree.new) }
     ensures changed { IsTrue F.tells → (p : PathValue) → result ≢ Err (RewindFault.Changed p) }
@@ -29,7 +29,7 @@ pub(crate) fn check_marks<F: Tree>(
     let marks = marks_in(alloc, root)?;
     match mark_present(tree, &marks) {
         Ok(None) => Ok(()),
-        Ok(Some(number)) => Err(RewindFault::Unfinished(mark_in(alloc, root, number)?)),
+        Ok(Some(number)) => Err(RewindFault::Unfinished(mark_in(alloc, &marks, number)?)),
         Err(_) => Err(RewindFault::ReadFault),
     }
 }
@@ -48,15 +48,13 @@ fn marks_in(alloc: Global, root: &Path) -> Result<Marks, RewindFault>
 }
 
 // The path of the mark of this number.
-#[tactic(auto, using(crate::proofs::RoomLemmas::room_steps), unfolding(crate::specs::Roots::path_in))]
-fn mark_in(alloc: Global, root: &Path, number: u8) -> Result<Path, RewindFault>
-    requires { length root.now.parts ≤ 61 }
-    ensures is { IfOk result (λ path. path ≡ mark_at (marks_of root.now) number) }
+fn mark_in(alloc: Global, marks: &Marks, number: u8) -> Result<Path, RewindFault>
+    requires { number ≤ 2 }
+    ensures is { IfOk result (λ path. mark_at marks.now number ≡ Some path) }
     ensures memory { IfErr result (λ e. e ≡ RewindFault.OutOfMemory) }
 {
-    match number {
-        0 => path_in(alloc, root, "pg_rewind.unfinished"),
-        1 => path_in(alloc, root, "pg_walreplay.unfinished"),
-        _ => path_in(alloc, root, "pg_resetwal.unfinished"),
+    match marks.path(number) {
+        Some(path) => Ok(path.copy(alloc)?),
+        None => unreachable!(),
     }
 }

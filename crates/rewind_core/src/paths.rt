@@ -4,7 +4,7 @@ ghost use Rattle.cluster_tree.specs.Paths.{checked};
 ghost use Rattle.rewind_core.specs.Roots.{path_in};
 
 use crate::RewindFault;
-use cluster_tree::{Path, PathFault};
+use cluster_tree::Path;
 use std::alloc::Global;
 
 /// The path of this text below a root that leaves room for it.
@@ -14,9 +14,5 @@ pub(crate) fn path_in(alloc: Global, root: &Path, text: &str) -> Result<Path, Re
     ensures is { IfOk result (λ path. path ≡ path_in root.now text.now) }
     ensures memory { IfErr result (λ e. e ≡ RewindFault.OutOfMemory) }
 {
-    match root.join(alloc, text) {
-        Ok(path) => Ok(path),
-        Err(PathFault::OutOfMemory) => Err(RewindFault::OutOfMemory),
-        Err(PathFault::Empty | PathFault::DotDot | PathFault::TooDeep) => unreachable!(),
-    }
+    Ok(root.below(alloc, text)?)
 }
