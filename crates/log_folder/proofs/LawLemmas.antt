@@ -1,5 +1,5 @@
 -- What is found in plain cases.
-use Rattle.std.proofs.Common.{◌≡◌, ◌∙◌, ℕ, ◌+◌, ◌*◌, ◌==◌, Bool, true, false, ◌&&◌, if◌then◌else◌, List, [], ◌∷◌, Option, None, Some, Result, Ok, Err, unwrap_or, refl, ap, ap₂, sym, true≢false}
+use Rattle.std.proofs.Common.{◌≡◌, ◌∙◌, ℕ, ◌+◌, ◌*◌, Bool, true, false, ◌&&◌, if◌then◌else◌, List, [], ◌∷◌, Option, None, Some, Result, Ok, Err, unwrap_or, refl, ap, ap₂, sym, true≢false}
 use Rattle.std.specs.Result.{is_ok}
 use Rattle.cluster_tree.specs.PathValue.{PathValue, below}
 use Rattle.cluster_tree.specs.Contents.{Contents, entry_at}
@@ -12,7 +12,7 @@ use Rattle.wal_base.specs.Segment.{bytes_of, segment_named}
 use Rattle.wal_base.specs.declared.lsn.Lsn.{Lsn}
 use Rattle.wal_base.specs.declared.seg_size.SegSize.{SegSize}
 use Rattle.wal_base.specs.declared.segment.Segment.{Segment}
-use Rattle.wal_pages.proofs.PartLemmas.{IsDigits, named_digits}
+use Rattle.wal_pages.proofs.PartLemmas.{named_long}
 use Rattle.tool_words.specs.declared.waldump.DumpWords.{DumpWords}
 use Rattle.tool_words.specs.declared.waldump.Filters.{Filters}
 use Rattle.tool_words.specs.declared.waldump.SegmentWord.{SegmentWord}
@@ -52,9 +52,6 @@ unfolding taken_of wal_taken
 taken_below c folder least listed none listed_wal is =
     ap (λ r. given r (or_wal c folder)) (least_is c folder None listed none) ∙ ap (or_no_wal folder (wal_in folder)) (least_is c (wal_in folder) (Some least) listed_wal is)
 
-digits_long : (name : List ℕ) → IsDigits name → is_long_name name ≡ true
-digits_long name d = ap₂ (λ a b. a && b) (ap (λ n. n == 24) d.size) d.digits
-
 file_read : (r : Result (List ℕ) TreeFault) (head : List ℕ) → range_of r 0 40 ≡ Ok head → is_ok r ≡ true
 file_read (Ok bytes) head e = refl
 file_read (Err f) head e = absurd (let no : ◌≡◌ {A = Result (List ℕ) TreeFault} (Err f) (Ok head) = e in cc)
@@ -89,7 +86,7 @@ segment_bounds word timeline filters size segment is =
 pub segment_found : SegmentIsFound
 unfolding folder_text
 segment_found c word timeline filters folder size segment at_folder has named =
-    let long = digits_long word.name (named_digits size word.name segment named) in
+    let long = named_long size word.name segment named in
     let taken = some_taken c folder word.name has.listed (stands c folder word.name has.head long has.bytes) in
     stages c (segment_words word timeline filters) folder (taken_at folder taken.0) size _ at_folder taken.1 (size_told c folder word.name size long has) (segment_bounds word timeline filters size segment named)
 

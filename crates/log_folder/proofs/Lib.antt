@@ -1,4 +1,4 @@
-pub mod SizeLemmas
+pub mod NamedLemmas
 pub mod PieceLemmas
 pub mod FrontLemmas
 pub mod ReadLemmas

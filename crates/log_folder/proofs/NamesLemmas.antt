@@ -1,5 +1,5 @@
 -- The names of what lies in a folder are its one listing.
-use Rattle.std.proofs.Common.{◌≡◌, ◌≢◌, ℕ, ◌-◌, Bool, true, false, T, ◌&&◌, ◌||◌, cond, nat_lt, List, [], ◌∷◌, ◌++◌, length, take, filter, map, get_or, is_some, refl, ap, ap₂, sym, ◌∙◌, true≢false, append_assoc, bytes_eq, arith, rules}
+use Rattle.std.proofs.Common.{◌≡◌, ℕ, ◌-◌, Bool, true, false, T, ◌&&◌, ◌||◌, cond, nat_lt, List, [], ◌∷◌, ◌++◌, length, take, filter, map, get_or, is_some, refl, ap, ap₂, sym, ◌∙◌, true≢false, append_assoc, bytes_eq, arith, rules}
 use Rattle.std.proofs.lemmas.Grind.{common_steps}
 use Rattle.std.specs.declared.cmp.Ordering.{Ordering}
 use Rattle.std.specs.declared.cmp.Ordering.TheVariants.{Less, Equal, Greater}
@@ -11,7 +11,8 @@ use Rattle.std.specs.FinMap.Entries.{below_all, is_sorted}
 use Rattle.std.specs.List.{AllByRecursion, list_any, join_with_byte}
 use Rattle.std.specs.List.Sorted.{IsStrictlySortedBy}
 use Rattle.cluster_tree.specs.PathValue.{PathValue, path_cmp, path_text, text_of, below}
-use Rattle.cluster_tree.specs.PathOrder.{path_cmp_total, path_eq, path_eq-own, path_eq-same, path_eq-other, same_path}
+use Rattle.cluster_tree.specs.PathOrder.{path_eq}
+use Rattle.cluster_tree.proofs.OrderLemmas.{path_cmp_total, path_eq-own, path_eq-same, path_eq-other, same_path}
 use Rattle.cluster_tree.specs.Contents.{Contents, Entry, parent}
 use Rattle.cluster_tree.specs.Folders.{lies_in, IsListing}
 use Rattle.cluster_tree.proofs.FolderLemmas.{lies_in-below}

@@ -3,7 +3,6 @@ pub mod Front
 pub mod FolderText
 pub mod Listing
 pub mod Folder
-pub mod SegmentSize
 pub mod Segment
 pub mod Bounds
 pub mod Found

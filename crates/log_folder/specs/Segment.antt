@@ -1,21 +1,21 @@
 -- The size of a log's segments, in the long header of a segment's first page: PostgreSQL 16, src/include/access/xlog_internal.h,
 -- XLogLongPageHeaderData; src/bin/pg_waldump/pg_waldump.c, search_directory.
 use Rattle.std.specs.Prelude.{ℕ, ◌==◌, if◌then◌else◌, List, Option, None, Some, Result, Ok, Err}
-use Rattle.layout.specs.Readers.{half_at, word_at}
+use Rattle.layout.specs.Readers.{u16_at, u32_at}
 use Rattle.cluster_tree.specs.PathValue.{PathValue}
 use Rattle.cluster_tree.specs.Contents.{Contents, entry_at}
 use Rattle.cluster_tree.specs.Tree.{file_of, range_of}
 use Rattle.cluster_tree.specs.declared.tree.TreeFault.{TreeFault}
 use Rattle.cluster_tree.specs.declared.tree.TreeFault.TheVariants as tree_fault
+use Rattle.wal_base.specs.SizeOfBytes.{size_of_bytes}
 use Rattle.wal_base.specs.declared.seg_size.SegSize.{SegSize}
 use Rattle.log_folder.specs.declared.fault.FolderFault.{FolderFault}
 use Rattle.log_folder.specs.declared.fault.FolderFault.TheVariants as fault
-use Rattle.log_folder.specs.SegmentSize.{size_of_bytes}
 use Rattle.log_folder.specs.Listing.{segment_path}
 
 -- the size in the first 40 bytes of a segment, where they begin with the magic (xlp_magic, xlp_seg_size)
 unfoldable pub size_in : List ℕ → Option SegSize
-size_in head = if half_at 0 head == 0xD113 then size_of_bytes (word_at 32 head) else None
+size_in head = if u16_at 0 head == 0xD113 then size_of_bytes (u32_at 32 head) else None
 
 abbrev pub or_bad : PathValue → Option SegSize → Result SegSize FolderFault
 or_bad file None = Err (fault.BadSegment file)

@@ -38,7 +38,7 @@ fn stretch_of(segment: Segment) -> Stretch
 }
 
 // What the segment of this size and name holds.
-#[tactic(auto, using(crate::proofs::SizeLemmas::named_steps), unfolding(crate::specs::Bounds::stretch_named))]
+#[tactic(auto, using(crate::proofs::NamedLemmas::named_steps), unfolding(crate::specs::Bounds::stretch_named))]
 fn stretch_named(size: SegSize, name: &str) -> Result<Stretch, FolderFault>
     ensures value { result ≡ stretch_named size name.now }
     ensures fault { IfErr result (λ e. e ≡ FolderFault.Usage) }

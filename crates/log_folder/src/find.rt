@@ -1,6 +1,7 @@
 // The log of a dump.
 ghost use Rattle.std.specs.Prelude.{◌≡◌, ◌≤◌, ◌⊎◌, Err, length, IfOk, IfErr, IsTrue, IsErrOf};
-ghost use Rattle.cluster_tree.specs.Causes.{Meets, OnlyReads, Rose};
+ghost use Rattle.cluster_tree.specs.Causes.{Meets, Rose};
+ghost use Rattle.cluster_tree.specs.Frame.{Reads};
 ghost use Rattle.cluster_tree.specs.PathValue.{PathValue};
 ghost use Rattle.log_folder.specs.Faults.{IsFree, IsOfTree};
 ghost use Rattle.log_folder.specs.FolderText.{folder_of};
@@ -49,7 +50,7 @@ fn size_for<F: Tree>(
     ensures exact { IsTrue F.tells → Meets IsFree (size_of (F.contents tree.old) taken.now.folder
         (name_read taken.now.least words.now.first)) result }
     ensures cause { IfErr result IsOfTree }
-    ensures reads { OnlyReads F.contents F.calls F.failed_reads F.failed_changes tree.old tree.new }
+    ensures reads { Reads F.Tree tree.old tree.new }
     ensures read_fault { IsErrOf result FolderFault.ReadFault →
         Rose (F.failed_reads tree.old) (F.failed_reads tree.new) }
 {
@@ -128,7 +129,7 @@ pub fn find_log<F: Tree>(
     ensures too_deep { (path : PathValue) → IsErrOf result (FolderFault.TooDeep path) →
         folder_of words.now ≡ Err (FolderFault.TooDeep path) }
 
-    ensures reads { OnlyReads F.contents F.calls F.failed_reads F.failed_changes tree.old tree.new }
+    ensures reads { Reads F.Tree tree.old tree.new }
     ensures read_fault { IsErrOf result FolderFault.ReadFault →
         Rose (F.failed_reads tree.old) (F.failed_reads tree.new) }
 {

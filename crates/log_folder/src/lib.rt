@@ -8,7 +8,6 @@ mod folder;
 mod front;
 mod laws;
 mod listing;
-mod part;
 mod segment;
 mod taken;
 

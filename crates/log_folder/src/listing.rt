@@ -1,12 +1,12 @@
 // The files of a log's folder that have the name of a segment.
 ghost use Rattle.std.specs.Prelude.{◌≡◌, ◌≤◌, ◌⊎◌, find, length, IfOk, IfErr, IsTrue, IsErrOf};
-ghost use Rattle.cluster_tree.specs.Causes.{Meets, OnlyReads, Rose};
+ghost use Rattle.cluster_tree.specs.Causes.{Meets, Rose};
+ghost use Rattle.cluster_tree.specs.Frame.{Reads};
 ghost use Rattle.log_folder.specs.Faults.{IsFree, IsOfTree};
 ghost use Rattle.log_folder.specs.Folder.{least_in, unlisted};
 ghost use Rattle.log_folder.specs.Listing.{is_file, is_segment, segment_path};
 
 use crate::FolderFault;
-use crate::part::joined;
 use cluster_tree::{Kind, Names, Path, Tree, TreeFault};
 use std::alloc::Global;
 use wal_base::{Text, is_long_name};
@@ -26,7 +26,7 @@ pub(crate) fn segment_path(
     if !is_long_name(name.as_bytes()) {
         return Ok(None);
     }
-    Ok(Some(joined(alloc, folder, name)?))
+    Ok(Some(folder.below(alloc, name)?))
 }
 
 // Whether a file stands at a path.
@@ -34,7 +34,7 @@ fn is_file<F: Tree>(tree: &mut F, path: &Path) -> Result<bool, FolderFault>
     ensures exact { IsTrue F.tells →
         IfOk result (λ is. is ≡ is_file (F.contents tree.old) path.now) }
     ensures fault { IfErr result (λ e. e ≡ FolderFault.ReadFault) }
-    ensures reads { OnlyReads F.contents F.calls F.failed_reads F.failed_changes tree.old tree.new }
+    ensures reads { Reads F.Tree tree.old tree.new }
     ensures read_fault { IsErrOf result FolderFault.ReadFault →
         Rose (F.failed_reads tree.old) (F.failed_reads tree.new) }
 {
@@ -57,7 +57,7 @@ fn is_segment<F: Tree>(
     ensures exact { IsTrue F.tells →
         IfOk result (λ is. is ≡ is_segment (F.contents tree.old) folder.now name.now) }
     ensures free { IfErr result IsFree }
-    ensures reads { OnlyReads F.contents F.calls F.failed_reads F.failed_changes tree.old tree.new }
+    ensures reads { Reads F.Tree tree.old tree.new }
     ensures read_fault { IsErrOf result FolderFault.ReadFault →
         Rose (F.failed_reads tree.old) (F.failed_reads tree.new) }
 {
@@ -79,7 +79,7 @@ fn first_segment<F: Tree>(
     ensures exact { IsTrue F.tells → IfOk result
         (λ first. first ≡ find (is_segment (F.contents tree.old) folder.now) names.now) }
     ensures free { IfErr result IsFree }
-    ensures reads { OnlyReads F.contents F.calls F.failed_reads F.failed_changes tree.old tree.new }
+    ensures reads { Reads F.Tree tree.old tree.new }
     ensures read_fault { IsErrOf result FolderFault.ReadFault →
         Rose (F.failed_reads tree.old) (F.failed_reads tree.new) }
 {
@@ -125,7 +125,7 @@ pub(crate) fn least_in<F: Tree>(
     ensures exact { IsTrue F.tells →
         Meets IsFree (least_in (F.contents tree.old) folder.now) result }
     ensures cause { IfErr result IsOfTree }
-    ensures reads { OnlyReads F.contents F.calls F.failed_reads F.failed_changes tree.old tree.new }
+    ensures reads { Reads F.Tree tree.old tree.new }
     ensures read_fault { IsErrOf result FolderFault.ReadFault →
         Rose (F.failed_reads tree.old) (F.failed_reads tree.new) }
 {

@@ -1,9 +1,9 @@
 // The size of a log's segments.
 ghost use Rattle.std.specs.Prelude.{◌≡◌, ◌≤◌, length, IfErr, IsTrue, IsErrOf};
-ghost use Rattle.cluster_tree.specs.Causes.{Meets, OnlyReads, Rose};
+ghost use Rattle.cluster_tree.specs.Causes.{Meets, Rose};
+ghost use Rattle.cluster_tree.specs.Frame.{Reads};
 ghost use Rattle.log_folder.specs.Faults.{IsFree, IsOfTree};
 ghost use Rattle.log_folder.specs.Segment.{head_at, size_in, size_of, size_read};
-ghost use Rattle.log_folder.specs.SegmentSize.{size_of_bytes};
 
 use crate::FolderFault;
 use crate::listing::segment_path;
@@ -15,19 +15,13 @@ use wal_base::SegSize;
 // The magic of a page (`XLOG_PAGE_MAGIC`).
 const MAGIC: u16 = 0xD113;
 
-fn size_of_bytes(bytes: u32) -> Option<SegSize>
-    ensures { result ≡ size_of_bytes bytes }
-{
-    SegSize::new(bytes)
-}
-
 // The size of the segments in the long header of a page, if it is one.
 #[tactic(auto, unfolding(crate::specs::Segment::size_in))]
 fn size_in(head: &[u8; 40]) -> Option<SegSize>
     ensures { result ≡ size_in head.now }
 {
     if u16_at(head, 0) == MAGIC {
-        size_of_bytes(u32_at(head, 32))
+        SegSize::new(u32_at(head, 32))
     } else {
         None
     }
@@ -43,7 +37,7 @@ fn size_read<F: Tree>(
     ensures exact { IsTrue F.tells → Meets IsFree
         (size_read folder.now file (head_at (F.contents tree.old) file)) result }
     ensures cause { IfErr result IsOfTree }
-    ensures reads { OnlyReads F.contents F.calls F.failed_reads F.failed_changes tree.old tree.new }
+    ensures reads { Reads F.Tree tree.old tree.new }
     ensures read_fault { IsErrOf result FolderFault.ReadFault →
         Rose (F.failed_reads tree.old) (F.failed_reads tree.new) }
 {
@@ -75,7 +69,7 @@ pub(crate) fn size_of<F: Tree>(
     ensures exact { IsTrue F.tells →
         Meets IsFree (size_of (F.contents tree.old) folder.now name.now) result }
     ensures cause { IfErr result IsOfTree }
-    ensures reads { OnlyReads F.contents F.calls F.failed_reads F.failed_changes tree.old tree.new }
+    ensures reads { Reads F.Tree tree.old tree.new }
     ensures read_fault { IsErrOf result FolderFault.ReadFault →
         Rose (F.failed_reads tree.old) (F.failed_reads tree.new) }
 {

@@ -1,12 +1,12 @@
 // The folder that a log is read from.
 ghost use Rattle.std.specs.Prelude.{◌≡◌, ◌≤◌, length, IfOk, IfErr, IsTrue, IsErrOf};
-ghost use Rattle.cluster_tree.specs.Causes.{Meets, OnlyReads, Rose};
+ghost use Rattle.cluster_tree.specs.Causes.{Meets, Rose};
+ghost use Rattle.cluster_tree.specs.Frame.{Reads};
 ghost use Rattle.log_folder.specs.Faults.{IsFree, IsOfTree};
 ghost use Rattle.log_folder.specs.Folder.{wal_in, wal_taken, taken_of};
 
 use crate::FolderFault;
 use crate::listing::least_in;
-use crate::part::joined;
 use cluster_tree::{Path, Tree};
 use std::alloc::Global;
 use wal_base::Text;
@@ -26,7 +26,7 @@ fn wal_in(alloc: Global, folder: &Path) -> Result<Path, FolderFault>
     ensures room { IfOk result (λ path. length path.parts ≤ 63) }
     ensures memory { IfErr result (λ e. e ≡ FolderFault.OutOfMemory) }
 {
-    joined(alloc, folder, "pg_wal")
+    Ok(folder.below(alloc, "pg_wal")?)
 }
 
 // The folder pg_wal in one that has no segment.
@@ -37,7 +37,7 @@ fn wal_taken<F: Tree>(alloc: Global, tree: &mut F, folder: Path) -> Result<Taken
         Meets IsFree (wal_taken (F.contents tree.old) folder) result }
     ensures room { IfOk result (λ taken. length taken.folder.parts ≤ 63) }
     ensures cause { IfErr result IsOfTree }
-    ensures reads { OnlyReads F.contents F.calls F.failed_reads F.failed_changes tree.old tree.new }
+    ensures reads { Reads F.Tree tree.old tree.new }
     ensures read_fault { IsErrOf result FolderFault.ReadFault →
         Rose (F.failed_reads tree.old) (F.failed_reads tree.new) }
 {
@@ -64,7 +64,7 @@ pub(crate) fn taken_of<F: Tree>(
         Meets IsFree (taken_of (F.contents tree.old) folder) result }
     ensures room { IfOk result (λ taken. length taken.folder.parts ≤ 63) }
     ensures cause { IfErr result IsOfTree }
-    ensures reads { OnlyReads F.contents F.calls F.failed_reads F.failed_changes tree.old tree.new }
+    ensures reads { Reads F.Tree tree.old tree.new }
     ensures read_fault { IsErrOf result FolderFault.ReadFault →
         Rose (F.failed_reads tree.old) (F.failed_reads tree.new) }
 {

@@ -1,5 +1,4 @@
 mod DumpLemmas
 mod GrammarLemmas
-mod NumberLemmas
 mod SlashLemmas
 mod TableLemmas

@@ -1,10 +1,9 @@
 -- The forms of values in words. Own: "Numbers in words".
-use Rattle.std.specs.Prelude.{ℕ, ◌==◌, ◌^◌, ◌&&◌, Bool, not, List, [], ◌∷◌, ◌++◌, Option, Some, None, length, nat_lt, slice_index, bytes_eq, if◌then◌else◌, option_map}
-use Rattle.std.specs.Char.{is_ascii_digit}
-use Rattle.std.specs.List.{list_all, find, before_first, after_first}
+use Rattle.std.specs.Prelude.{ℕ, ◌==◌, ◌^◌, List, [], ◌∷◌, ◌++◌, Option, Some, None, bytes_eq, if◌then◌else◌, option_map}
+use Rattle.std.specs.List.{find, before_first, after_first}
 use Rattle.std.specs.Path.{rsplit_once}
-use Rattle.std.specs.Str.Parse.{digits_value}
 use Rattle.clap.specs.Walk.{Row, first_of}
+use Rattle.wal_base.specs.Decimal.{decimal_number}
 use Rattle.wal_base.specs.Hex.{is_long_name}
 use Rattle.block_refs.specs.declared.names.Fork.{Fork}
 use Rattle.block_refs.specs.declared.names.Fork.TheVariants.{Main, FreeSpace, Visibility, Init}
@@ -26,19 +25,6 @@ read_as form (Some text) = option_map Some (form text)
 abbrev pub given : {X : Type 0} → (List ℕ → Option X) → List ℕ → List Row → Option (Option X)
 given form id rows = read_as form (first_of id rows)
 
--- a 0 (48) with more behind it
-abbrev pub has_leading_zero : List ℕ → Bool
-has_leading_zero text = nat_lt 1 (length text) && slice_index text 0 == 48
-
--- one decimal digit or more, and no leading zero
-abbrev pub is_decimal : List ℕ → Bool
-is_decimal text = nat_lt 0 (length text) && list_all is_ascii_digit text && not (has_leading_zero text)
-
--- a decimal number below 2 ^ 32
-unfoldable pub number_of : List ℕ → Option ℕ
-number_of text =
-    if is_decimal text && nat_lt (digits_value 10 text) (2 ^ 32) then Some (digits_value 10 text) else None
-
 abbrev pub slash : ℕ
 slash = 47
 
@@ -52,9 +38,9 @@ after_slash text = after_first (λ byte. byte == slash) text
 -- a relation: its tablespace, its database and its number, a slash between each two
 unfoldable pub relation_of : List ℕ → Option RelName
 relation_of text =
-    with_value (number_of (before_slash text)) (λ space.
-    with_value (number_of (before_slash (after_slash text))) (λ database.
-    with_value (number_of (after_slash (after_slash text))) (λ relation.
+    with_value (decimal_number (2 ^ 32) (before_slash text)) (λ space.
+    with_value (decimal_number (2 ^ 32) (before_slash (after_slash text))) (λ database.
+    with_value (decimal_number (2 ^ 32) (after_slash (after_slash text))) (λ relation.
     Some (record { space = space; database = database; relation = relation }))))
 
 abbrev pub forks : List Fork

@@ -1,13 +1,14 @@
 -- The words of pg_waldump: PostgreSQL 16 manual, reference page of pg_waldump; src/bin/pg_waldump/pg_waldump.c, main. Own:
 -- "The words of pg_waldump".
-use Rattle.std.specs.Prelude.{ℕ, ◌&&◌, ◌||◌, Bool, false, not, is_some, List, [], ◌∷◌, Option, Some, None, codes, if◌then◌else◌}
+use Rattle.std.specs.Prelude.{ℕ, ◌^◌, ◌&&◌, ◌||◌, Bool, false, not, is_some, List, [], ◌∷◌, Option, Some, None, codes, if◌then◌else◌}
 use Rattle.std.specs.Option.{option_map_or, unwrap_or}
 use Rattle.std.specs.Str.{str_eq_ignore_ascii_case}
 use Rattle.clap.specs.Walk.{Row, Rule, first_of}
 use Rattle.command_words.specs.Table.{flag, found_in, is_on, letter, option, word}
 use Rattle.wal_base.specs.Lsn.{lsn_of}
 use Rattle.rmgr_desc.specs.Naming.{manager_named}
-use Rattle.tool_words.specs.Forms.{fork_of, given, number_of, relation_of, segment_name, segment_word, with_value}
+use Rattle.wal_base.specs.Decimal.{decimal_number}
+use Rattle.tool_words.specs.Forms.{fork_of, given, relation_of, segment_name, segment_word, with_value}
 use Rattle.tool_words.specs.Roots.{root_of}
 use Rattle.tool_words.specs.declared.waldump.DumpWords.{DumpWords}
 use Rattle.tool_words.specs.declared.waldump.Filters.{Filters}
@@ -45,12 +46,12 @@ manager_in rows = if is_list rows then Some None else given manager_named (codes
 -- which records are shown, and how: the limit 0 is none, and a block is given only with a relation
 unfoldable pub filters_in : List Row → Option Filters
 filters_in rows =
-    with_value (given number_of (codes "limit") rows) (λ limit.
+    with_value (given (decimal_number (2 ^ 32)) (codes "limit") rows) (λ limit.
     with_value (manager_in rows) (λ manager.
     with_value (given relation_of (codes "relation") rows) (λ rel.
-    with_value (given number_of (codes "block") rows) (λ block.
+    with_value (given (decimal_number (2 ^ 32)) (codes "block") rows) (λ block.
     with_value (given fork_of (codes "fork") rows) (λ fork.
-    with_value (given number_of (codes "xid") rows) (λ xid.
+    with_value (given (decimal_number (2 ^ 32)) (codes "xid") rows) (λ xid.
     if is_some block && not (is_some rel) then None
     else Some (record {
       limit = unwrap_or limit 0;
@@ -70,7 +71,7 @@ dump_in rows =
     with_value (filters_in rows) (λ filters.
     with_value (given lsn_of (codes "start") rows) (λ start.
     with_value (given lsn_of (codes "end") rows) (λ stop.
-    with_value (given number_of (codes "timeline") rows) (λ timeline.
+    with_value (given (decimal_number (2 ^ 32)) (codes "timeline") rows) (λ timeline.
     with_value (given root_of (codes "path") rows) (λ path.
     with_value (given segment_word (codes "STARTSEG") rows) (λ first.
     with_value (given segment_name (codes "ENDSEG") rows) (λ last.

@@ -1,19 +1,18 @@
 // The forms of values in words.
-ghost use Rattle.std.specs.Prelude.{◌≡◌, ℕ, List, Option, Some, bytes_eq, option_map};
-ghost use Rattle.std.specs.List.{list_all};
-ghost use Rattle.std.specs.Char.{is_ascii_digit};
+ghost use Rattle.std.specs.Prelude.{◌≡◌, ℕ, ◌^◌, List, Option, Some, bytes_eq, option_map};
 ghost use Rattle.std.specs.Path.{rsplit_once};
+ghost use Rattle.wal_base.specs.Decimal.{decimal_number};
 ghost use Rattle.wal_base.specs.Lsn.{lsn_of};
 ghost use Rattle.block_refs.specs.Names.{fork_name};
 ghost use Rattle.command_words.specs.Answers.{AnswersAs};
-ghost use Rattle.tool_words.specs.Forms.{after_slash, before_slash, fork_of, given, has_leading_zero, is_decimal, number_of};
+ghost use Rattle.tool_words.specs.Forms.{after_slash, before_slash, fork_of, given};
 ghost use Rattle.tool_words.specs.Forms.{folder_of, last_part_of, relation_of, segment_name, segment_word};
 
 use crate::waldump::SegmentWord;
 use block_refs::{Fork, RelName};
 use command_words::{Found, WordsFault};
 use std::alloc::Global;
-use wal_base::{Lsn, Text, is_long_name};
+use wal_base::{Lsn, Text, decimal_u32, is_long_name};
 
 /// A value that is written in a form of its own.
 pub(crate) trait Form: Copy {
@@ -38,36 +37,14 @@ pub(crate) fn optional<T: Form>(found: &Found<'_>, id: &str) -> Result<Option<T>
     }
 }
 
-fn all_digits(text: &[u8]) -> bool
-    ensures { result ≡ list_all is_ascii_digit text.now }
-{
-    text.iter().all(|byte| byte.is_ascii_digit())
-}
-
-fn has_leading_zero(text: &[u8]) -> bool
-    ensures { result ≡ has_leading_zero text.now }
-{
-    text.len() > 1 && text[0] == b'0'
-}
-
-fn is_decimal(text: &[u8]) -> bool
-    ensures { result ≡ is_decimal text.now }
-{
-    !text.is_empty() && all_digits(text) && !has_leading_zero(text)
-}
-
-#[tactic(auto, unfolding(crate::specs::Forms::number_of))]
 fn number(text: &str) -> Option<u32>
-    ensures { result ≡ number_of text.now }
+    ensures { result ≡ decimal_number (2 ^ 32) text.now }
 {
-    if !is_decimal(text.as_bytes()) {
-        return None;
-    }
-    text.parse().ok()
+    decimal_u32(text.as_bytes())
 }
 
 impl Form for u32 {
-    ghost form = { number_of };
+    ghost form = { decimal_number (2 ^ 32) };
 
     fn parse(text: &str) -> Option<u32> {
         number(text)

@@ -1,8 +1,11 @@
 // The names in a folder of the machine.
+ghost use Rattle.std.specs.Prelude.{◌≡◌, true, IfOk};
+ghost use Rattle.std.specs.List.{list_all};
+ghost use Rattle.cluster_tree.specs.PathValue.{is_part};
 ghost use Rattle.cluster_tree.specs.Tree.{RefusesOnly, list_faults};
 
 use crate::seen::{Seen, seen_at};
-use cluster_tree::{Names, Path, TreeFault};
+use cluster_tree::{Names, Path, TreeFault, is_part};
 use std::alloc::Global;
 use std::io::ErrorKind;
 use std::rt::Files;
@@ -22,10 +25,16 @@ fn sorted_names<R: Files + AllocGlobal + Clone + Drop>(
     Ok(names)
 }
 
-fn names_of<R: Files + AllocGlobal + Clone + Drop>(rt: &R, path: &Path) -> io::Result<Names> {
+// The names in the folder at a path. A name that can't be a part of a path is a fault of the device.
+fn names_of<R: Files + AllocGlobal + Clone + Drop>(rt: &R, path: &Path) -> io::Result<Names>
+    ensures { IfOk result (λ names. list_all is_part names ≡ true) }
+{
     let text = format!(in rt.alloc(); "{path}")?;
     let mut names = Names::new(rt.alloc());
     for name in &sorted_names(rt, text.as_str())? {
+        if !is_part(name.as_str()) {
+            return Err(ErrorKind::InvalidData.into());
+        }
         if names.push(name.as_str()).is_err() {
             return Err(ErrorKind::OutOfMemory.into());
         }
@@ -39,7 +48,8 @@ pub(crate) fn list_at<R: Files + AllocGlobal + Clone + Drop>(
     alloc: Global,
     path: &Path,
 ) -> Result<Names, TreeFault>
-    ensures { RefusesOnly list_faults result }
+    ensures row { RefusesOnly list_faults result }
+    ensures parts { IfOk result (λ names. list_all is_part names ≡ true) }
 {
     match seen_at(rt, alloc, path, path.len())? {
         Seen::Absent => return Err(TreeFault::Absent),

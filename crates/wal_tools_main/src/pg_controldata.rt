@@ -1,7 +1,8 @@
 // pg_controldata.
 ghost use Rattle.std.specs.Prelude.{◌≡◌, ◌≢◌, ◌≤◌, ◌⊎◌, IsTrue, Err, IsErrOf};
 ghost use Rattle.cluster_tree.specs.PathValue.{PathValue};
-ghost use Rattle.cluster_tree.specs.Causes.{OnlyReads, Passes, Rose};
+ghost use Rattle.cluster_tree.specs.Causes.{Passes, Rose};
+ghost use Rattle.cluster_tree.specs.Frame.{Reads};
 ghost use Rattle.rewind_core.specs.RootControl.{control_at};
 ghost use Rattle.wal_tools_main.specs.Causes.{IsFree, cause_of};
 ghost use Rattle.wal_tools_main.specs.Words.{IsFitRoot};
@@ -25,7 +26,7 @@ pub(crate) fn pg_controldata<F: Tree, O: Sink>(
     requires { IsFitRoot root.now }
     ensures exact { IsTrue F.tells → Passes IsFree
         (control_refusal (control_at (F.contents tree.old) root.now)) result }
-    ensures reads { OnlyReads F.contents F.calls F.failed_reads F.failed_changes tree.old tree.new }
+    ensures reads { Reads F.Tree tree.old tree.new }
     ensures out { IsTrue O.tells → (cause_of result ≡ Cause.Done) ⊎
         (cause_of result ≡ Cause.SinkFault) ⊎ (O.written out.new ≡ O.written out.old) }
     ensures shown { IsTrue F.tells → IsTrue O.tells → Shows

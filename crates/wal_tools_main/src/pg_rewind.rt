@@ -1,7 +1,8 @@
 // pg_rewind.
 ghost use Rattle.std.specs.Prelude.{◌≡◌, ◌≢◌, ◌≤◌, IsTrue, IfErr, Err, IsErrOf};
 ghost use Rattle.cluster_tree.specs.PathValue.{PathValue};
-ghost use Rattle.cluster_tree.specs.Causes.{OnlyReads, Passes, Rose};
+ghost use Rattle.cluster_tree.specs.Causes.{Passes, Rose};
+ghost use Rattle.cluster_tree.specs.Frame.{Reads};
 ghost use Rattle.rewind_core.specs.Rewind.{rewind_of};
 ghost use Rattle.wal_tools_main.specs.Causes.{IsFree, cause_of};
 ghost use Rattle.wal_tools_main.specs.Words.{AreFitRoots};
@@ -55,7 +56,7 @@ pub(crate) fn pg_rewind<F: Tree, E: Sink>(
     requires { AreFitRoots target.now source.now }
     ensures exact { IsTrue F.tells → Passes IsFree
         (rewind_refusal (rewind_of (F.contents tree.old) target.now source.now)) result }
-    ensures reads { OnlyReads F.contents F.calls F.failed_reads F.failed_changes tree.old tree.new }
+    ensures reads { Reads F.Tree tree.old tree.new }
     ensures report { IsTrue E.tells → Puts same_report (cause_of result) (E.written err.old)
         (E.written err.new) (E.failed_writes err.old) (E.failed_writes err.new) }
 

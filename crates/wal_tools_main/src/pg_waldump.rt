@@ -1,7 +1,8 @@
 // pg_waldump.
 ghost use Rattle.std.specs.Prelude.{◌≡◌, ◌≢◌, ◌⊎◌, IsTrue, Ok, Err, None, Some, IfErr, IsErrOf};
 ghost use Rattle.cluster_tree.specs.PathValue.{PathValue};
-ghost use Rattle.cluster_tree.specs.Causes.{OnlyReads, Passes, Rose};
+ghost use Rattle.cluster_tree.specs.Causes.{Passes, Rose};
+ghost use Rattle.cluster_tree.specs.Frame.{Reads};
 ghost use Rattle.waldump_core.specs.Texts.{Extends};
 ghost use Rattle.log_folder.specs.Found.{found_in, IsMisused};
 ghost use Rattle.log_folder.specs.FolderText.{folder_of};
@@ -47,7 +48,7 @@ fn show_log<F: Tree, O: Sink>(
         (found_in (F.contents tree.old) words.now)).text (cause_of result) (O.written out.old)
         (O.written out.new) }
     ensures out { IsTrue O.tells → Extends (O.written out.old) (O.written out.new) }
-    ensures reads { OnlyReads F.contents F.calls F.failed_reads F.failed_changes tree.old tree.new }
+    ensures reads { Reads F.Tree tree.old tree.new }
 
     ensures read_fault { IsErrOf result Cause.ReadFault →
         Rose (F.failed_reads tree.old) (F.failed_reads tree.new) }
@@ -83,7 +84,7 @@ pub(crate) fn pg_waldump<F: Tree, O: Sink>(
         (O.written out.new) }
     ensures out { IsTrue O.tells → Prints (Ok (Command.PgWaldump words.now)) (cause_of result)
         (O.written out.old) (O.written out.new) }
-    ensures reads { OnlyReads F.contents F.calls F.failed_reads F.failed_changes tree.old tree.new }
+    ensures reads { Reads F.Tree tree.old tree.new }
     ensures listed { words.now ≡ WaldumpWords.Managers → Passes IsFree None result }
     ensures texts { (p : PathCause) → IsTrue (is_of_text p) → result ≡ Err (Cause.Paths p) →
         refused_by_words (Ok (Command.PgWaldump words.now)) ≡ Some (Cause.Paths p) }

@@ -1,7 +1,8 @@
 // The top call.
 ghost use Rattle.std.specs.Prelude.{◌≡◌, ◌≢◌, ◌≤◌, ◌⊎◌, IsTrue, Ok, Err, None, Some, IsErrOf, map, string_bytes};
 ghost use Rattle.cluster_tree.specs.PathValue.{PathValue};
-ghost use Rattle.cluster_tree.specs.Causes.{OnlyReads, Passes, Rose};
+ghost use Rattle.cluster_tree.specs.Causes.{Passes, Rose};
+ghost use Rattle.cluster_tree.specs.Frame.{Reads};
 ghost use Rattle.tool_words.specs.declared.waldump.WaldumpWords.TheVariants as WaldumpWords;
 ghost use Rattle.wal_tools_main.specs.Causes.{IsFree, cause_of, is_of_text, status_of};
 ghost use Rattle.wal_tools_main.specs.Command.{name_of};
@@ -35,8 +36,7 @@ fn carry_out<F: Tree, O: Sink, E: Sink>(
         (answer_to (F.contents tree.old) command).refusal result }
     ensures writes { IsTrue F.tells → Changes (answer_to (F.contents tree.old) command)
         (cause_of result) (F.calls tree.old) (F.calls tree.new) (F.contents tree.new) }
-    ensures reads { ¬ MayChange (Ok command) → OnlyReads F.contents F.calls F.failed_reads
-        F.failed_changes tree.old tree.new }
+    ensures reads { ¬ MayChange (Ok command) → Reads F.Tree tree.old tree.new }
 
     ensures out { IsTrue O.tells → Prints (Ok command) (cause_of result) (O.written out.old)
         (O.written out.new) }
@@ -90,7 +90,7 @@ fn answer<F: Tree, O: Sink, E: Sink>(
         (F.contents tree.old)) (cause_of result) (F.calls tree.old) (F.calls tree.new)
         (F.contents tree.new) }
     ensures reads { ¬ MayChange (command_of (map string_bytes words.now)) →
-        OnlyReads F.contents F.calls F.failed_reads F.failed_changes tree.old tree.new }
+        Reads F.Tree tree.old tree.new }
 
     ensures out { IsTrue O.tells → Prints (command_of (map string_bytes words.now))
         (cause_of result) (O.written out.old) (O.written out.new) }
@@ -157,7 +157,7 @@ pub fn run<F: Tree, O: Sink, E: Sink>(
         (F.contents tree.old)) result.cause (F.calls tree.old) (F.calls tree.new)
         (F.contents tree.new) }
     ensures reads { ¬ MayChange (command_of (map string_bytes words.now)) →
-        OnlyReads F.contents F.calls F.failed_reads F.failed_changes tree.old tree.new }
+        Reads F.Tree tree.old tree.new }
 
     // what the words alone decide, over every tree
     ensures usage { result.cause ≡ Cause.Usage →

@@ -1,10 +1,10 @@
 use Rattle.std.proofs.Common.{◌≡◌, IsTrue, None, find, take}
-use Rattle.cluster_tree.specs.Causes.{OnlyReads}
+use Rattle.cluster_tree.specs.Frame.{Reads}
 use Rattle.log_folder.specs.Listing.{is_segment}
 use Rattle.log_folder.proofs.listing.first_segment.Given as goal
 
 abbrev pub invariant-loop-at : goal.invariant-loop-at
 invariant-loop-at g l = record {
   none : IsTrue g.F.Tree.tells → find (is_segment (g.F.Tree.contents l.fn.tree) l.folder) (take l.at l.names) ≡ None;
-  reads : OnlyReads g.F.Tree.contents g.F.Tree.calls g.F.Tree.failed_reads g.F.Tree.failed_changes l.fn.tree l.tree;
+  reads : Reads g.F.Tree l.fn.tree l.tree;
 }
