@@ -1,0 +1,9 @@
+pub mod Stages
+pub mod Ages
+pub mod GoneAhead
+pub mod OneStep
+pub mod BlockLaw
+pub mod Anew
+pub mod SmallLogs
+pub mod Anywhere
+pub mod StampedEffects
