@@ -7,7 +7,7 @@ use crate::{FailPlan, Kind, MemoryTree, Names, Path, Tree, TreeFault};
 use std::alloc::Global;
 
 /// A tree in memory whose calls fail by a plan, besides those that find no memory. A call that
-/// fails changes nothing and is not listed.
+/// the plan fails changes nothing and is not listed.
 #[derive(Drop)]
 pub struct FailingTree {
     inner: MemoryTree,
