@@ -7,6 +7,7 @@ pub mod NodeLemmas
 pub mod ContentsLemmas
 pub mod FolderLemmas
 pub mod ListingLemmas
+pub mod NamesLemmas
 pub mod TreeLemmas
 pub mod StepLemmas
 pub mod PointLemmas
@@ -16,3 +17,4 @@ pub mod ChangeLemmas
 pub mod MadeLemmas
 pub mod RootLemmas
 pub mod RunLemmas
+pub mod HoldLemmas

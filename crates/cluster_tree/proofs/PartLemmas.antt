@@ -1,7 +1,7 @@
 -- Proper parts: a text holds only such, and a path of such is read back from its text.
-use Rattle.std.proofs.Common.{◌≡◌, ℕ, ◌+◌, ◌≤◌, ◌==◌, Bool, true, false, not, cond, ◌&&◌, ◌||◌, nat_lt, zero, suc, List, [], ◌∷◌, ◌++◌, String, string_bytes, length, map, filter, slice_get, Some, Result, Ok, Err, refl, ap, sym, ◌∙◌, arith, true≢false}
+use Rattle.std.proofs.Common.{◌≡◌, ℕ, ◌+◌, ◌≤◌, ◌==◌, Bool, true, false, not, cond, ◌&&◌, ◌||◌, nat_lt, zero, suc, List, [], ◌∷◌, ◌++◌, String, string_bytes, length, map, filter, take, slice_get, Some, Result, Ok, Err, refl, ap, sym, ◌∙◌, arith, true≢false}
 use Rattle.std.proofs.lemmas.Bool.Decides.{nat_tests}
-use Rattle.std.proofs.lemmas.List.{length-map, length-append}
+use Rattle.std.proofs.lemmas.List.{length-map, length-append, length-take}
 use Rattle.std.proofs.lemmas.List.Splits.{slice_split-cons_no, slice_split-cons_yes}
 use Rattle.std.proofs.lemmas.List.Folds.{list_all-append}
 use Rattle.std.specs.List.{list_all, list_any, onto_first, join_with_byte}
@@ -165,3 +165,16 @@ pub part_at : (names : List (List ℕ)) (i : ℕ) (name : List ℕ) → slice_ge
 part_at [] i name e h = absurd cc
 part_at (part ∷ names) zero name e h = let same : name ≡ part = cc in ap is_part same ∙ (and_parts (is_part part) (list_all is_part names) h).0
 part_at (part ∷ names) (suc i) name e h = part_at names i name e (and_parts (is_part part) (list_all is_part names) h).1
+
+all_taken : (test : List ℕ → Bool) (n : ℕ) (xs : List (List ℕ)) → list_all test xs ≡ true → list_all test (take n xs) ≡ true
+all_taken test zero xs h = refl
+all_taken test (suc n) [] h = refl
+all_taken test (suc n) (x ∷ xs) h = let e = and_parts (test x) (list_all test xs) h in and_both (test x) (list_all test (take n xs)) e.0 (all_taken test n xs e.1)
+
+-- the first parts of a path are parts
+pub front_parts : {Z : Type 0} (first parts : List (String Z)) (n : ℕ) → map string_bytes first ≡ take n (map string_bytes parts) → (length parts ≤ 64) × (list_all is_part (map string_bytes parts) ≡ true) → (length first ≤ 64) × (list_all is_part (map string_bytes first) ≡ true)
+front_parts first parts n is good = (
+  let short : length first ≤ length parts = rw (← length-map first string_bytes, ← length-map parts string_bytes, is, length-take) (omega arith) in
+      omega arith,
+  ap (list_all is_part) is ∙ all_taken is_part n (map string_bytes parts) good.1,
+)

@@ -37,4 +37,4 @@ pub run_of : {F : Type 0} (t : Ghosts F) (a b : F) → Came t a b → Run (state
 run_of t a b p = p.run _ Still
 
 pub reads_on : {F : Type 0} (t : Ghosts F) (a b c : F) → Reads t a b → Reads t b c → Reads t a c
-reads_on t a b c p q = record { same = q.same ∙ p.same; uncalled = q.uncalled ∙ p.uncalled; reads = omega (arith, p.reads, q.reads); changes = omega (arith, p.changes, q.changes) }
+reads_on t a b c p q = record { same = q.same ∙ p.same; uncalled = q.uncalled ∙ p.uncalled; reads = omega (arith, p.reads, q.reads); changes = q.changes ∙ p.changes }

@@ -40,9 +40,9 @@ MeetsInto IsFree meant into result = MatchResult result (λ _. meant ≡ Ok into
 abbrev pub Passes : {A E : Type 0} → (E → Type 0) → Option E → Result A E → Type 0
 Passes IsFree refusal result = MatchResult result (λ _. refusal ≡ None) (λ e. IsFree e ⊎ (refusal ≡ Some e))
 
--- what changes nothing: the contents and the list of changing calls stay, and no count falls
+-- what changes nothing: the contents, the list of changing calls and the count of those that failed stay, and that of failed reads doesn't fall
 pub record OnlyReads {F : Type 0} (contents : F → Contents) (calls : F → List ChangeCall) (failed_reads failed_changes : F → ℕ) (old new : F) : Type 0 where
   pub same : contents new ≡ contents old
   pub uncalled : calls new ≡ calls old
   pub reads : failed_reads old ≤ failed_reads new
-  pub changes : failed_changes old ≤ failed_changes new
+  pub changes : failed_changes new ≡ failed_changes old

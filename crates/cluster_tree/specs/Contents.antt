@@ -1,8 +1,8 @@
 -- What a tree of files holds: POSIX.1-2017, Base Definitions, "File Hierarchy". Own: "The tree of files".
-use Rattle.std.specs.Prelude.{◌≡◌, ℕ, ◌-◌, Bool, true, false, List, [], ◌∷◌, length, take, Option, None, Some, is_some}
+use Rattle.std.specs.Prelude.{◌≡◌, ℕ, ◌-◌, Bool, true, false, List, [], ◌∷◌, length, Option, None, Some, is_some}
 use Rattle.std.specs.Coded.{Coded-set, coded_bool, Π_prop}
 use Rattle.std.specs.FinMap.{FinMap, get}
-use Rattle.cluster_tree.specs.PathValue.{PathValue, path_cmp}
+use Rattle.cluster_tree.specs.PathValue.{PathValue, path_cmp, front}
 
 -- A folder tells whether it holds a name that isn't UTF-8. A link stands for every link or special file.
 pub data Entry : Type 0 where
@@ -16,7 +16,7 @@ Contents = FinMap path_cmp Entry
 
 -- the folder that a path lies in
 abbrev pub parent : PathValue → PathValue
-parent path = record { absolute = path.absolute; parts = take (length path.parts - 1) path.parts }
+parent path = front (length path.parts - 1) path
 
 -- the current folder and the root are always folders
 abbrev pub or_root : List (List ℕ) → Option Entry → Option Entry

@@ -75,15 +75,15 @@ abbrev pub TakesTurn : FailPlan → FailPlan → Type 0
 TakesTurn old new = (n : ℕ) → 0 < n → fails_at new n ≡ fails_at old (n + 1)
 
 -- a call of the plan fails, is counted and leaves the tree within; another fails only where that tree does
-pub record Planned {A : Type 0} (count : FailingTree → ℕ) (count_within : MemoryTree → ℕ) (old new : FailingTree) (result : Result A TreeFault) : Type 0 where
+pub record Planned {A : Type 0} (count : FailingTree → ℕ) (count_within other_within : MemoryTree → ℕ) (old new : FailingTree) (result : Result A TreeFault) : Type 0 where
   pub turn : TakesTurn old.plan new.plan
   pub fails : fails_at old.plan 1 ≡ true → (result ≡ Err fault.Failed) × (new.inner ≡ old.inner) × Rose (count old) (count new)
-  pub answers : fails_at old.plan 1 ≡ false → (count new ≡ count old) × Counts (count_within old.inner) (count_within new.inner) result
+  pub answers : fails_at old.plan 1 ≡ false → (count new ≡ count old) × Counts count_within other_within old.inner new.inner result
 
 -- the same of a read
 abbrev pub PlannedRead : {A : Type 0} → FailingTree → FailingTree → Result A TreeFault → Type 0
-PlannedRead old new result = Planned planned_reads no_failures old new result
+PlannedRead old new result = Planned planned_reads no_failures failures_in old new result
 
 -- and of a changing call
 abbrev pub PlannedChange : {A : Type 0} → FailingTree → FailingTree → Result A TreeFault → Type 0
-PlannedChange old new result = Planned planned_changes failures_in old new result
+PlannedChange old new result = Planned planned_changes failures_in no_failures old new result

@@ -1,5 +1,5 @@
 -- What lies in a folder, and what may be removed: POSIX.1-2017, System Interfaces: readdir, rmdir, unlink. Own: "The tree of files".
-use Rattle.std.specs.Prelude.{◌≡◌, ℕ, ◌==◌, Bool, ◌&&◌, ◌||◌, cond, nat_lt, List, [], ◌∷◌, length, bytes_eq, Option, None, Some, is_some}
+use Rattle.std.specs.Prelude.{◌≡◌, ℕ, ◌-◌, ◌==◌, Bool, ◌&&◌, ◌||◌, cond, nat_lt, List, [], ◌∷◌, length, filter, map, get_or, bytes_eq, Option, None, Some, is_some}
 use Rattle.std.specs.List.{list_any}
 use Rattle.std.specs.List.Sorted.{IsStrictlySortedBy}
 use Rattle.std.specs.Ordering.{nat_cmp}
@@ -18,6 +18,14 @@ lies_in folder path = nat_lt 0 (length path.parts) && path_eq folder (parent pat
 -- whether something lies in a folder
 abbrev pub has_child : Contents → PathValue → Bool
 has_child c folder = list_any (lies_in folder) (keys c)
+
+-- the name of what stands at a path
+abbrev pub last_part : PathValue → List ℕ
+last_part path = get_or path.parts (length path.parts - 1) []
+
+-- the names of what lies in a folder, in the order of their paths
+unfoldable pub names_in : Contents → PathValue → List (List ℕ)
+names_in c folder = map last_part (filter (lies_in folder) (keys c))
 
 -- why what stands there can't be listed, if so
 abbrev pub list_refusal : Option Entry → Option TreeFault

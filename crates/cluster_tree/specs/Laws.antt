@@ -3,7 +3,7 @@ use Rattle.std.specs.Prelude.{◌≡◌, ◌≢◌, ◌↔◌, ℕ, ◌+◌, tru
 use Rattle.std.specs.FinMap.{get, insert, remove}
 use Rattle.cluster_tree.specs.PathValue.{PathValue, below, Holds}
 use Rattle.cluster_tree.specs.Contents.{Contents, Entry, or_root, entry_at}
-use Rattle.cluster_tree.specs.Folders.{has_child, IsListing}
+use Rattle.cluster_tree.specs.Folders.{has_child, names_in, IsListing}
 use Rattle.cluster_tree.specs.Step.{Step}
 use Rattle.cluster_tree.specs.Below.{tree_below, SameTree}
 use Rattle.cluster_tree.specs.Joined.{joined_writes}
@@ -62,6 +62,10 @@ ChildHasName = (c : Contents) (folder : PathValue) → (has_child c folder ≡ t
 -- a folder has one listing
 abbrev pub ListingIsOne : Type 0
 ListingIsOne = (c : Contents) (folder : PathValue) (names others : List (List ℕ)) → IsListing c folder names → IsListing c folder others → names ≡ others
+
+-- which is of its names
+abbrev pub NamesAreListing : Type 0
+NamesAreListing = (c : Contents) (folder : PathValue) → IsListing c folder (names_in c folder)
 
 -- a write is two, one for the first bytes and one for the rest
 abbrev pub CutWritesAreOne : Type 0

@@ -2,6 +2,7 @@ pub mod PathValue
 pub mod PathOrder
 pub mod Paths
 pub mod PathLaws
+pub mod Apart
 pub mod Contents
 pub mod Causes
 pub mod Tree

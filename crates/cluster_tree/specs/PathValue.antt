@@ -51,6 +51,10 @@ parsed text = record { absolute = is_rooted text; parts = kept_parts text }
 abbrev pub below : PathValue → List (List ℕ) → PathValue
 below path parts = record { absolute = path.absolute; parts = path.parts ++ parts }
 
+-- the path of the first parts of a path, so many of them
+abbrev pub front : ℕ → PathValue → PathValue
+front n path = record { absolute = path.absolute; parts = take n path.parts }
+
 -- the parts joined by slashes, with a leading one where absolute, and `.` for no part
 abbrev pub text_of : Bool → List (List ℕ) → List ℕ
 text_of true parts = 47 ∷ join_with_byte 47 parts

@@ -1,5 +1,5 @@
 -- What the calls on a tree answer and leave: POSIX.1-2017, System Interfaces: stat, pread, pwrite, open, mkdir, ftruncate. Own: "The tree of files".
-use Rattle.std.specs.Prelude.{◌≡◌, ℕ, ◌+◌, ◌≤◌, cond, nat_lt, List, [], ◌∷◌, length, take, drop, Option, None, Some, Result, Ok, Err, IfErr, is_some}
+use Rattle.std.specs.Prelude.{◌≡◌, ℕ, ◌+◌, ◌≤◌, ◌⊎◌, cond, nat_lt, List, [], ◌∷◌, length, take, drop, Option, None, Some, Result, Ok, Err, IfErr, MatchResult, is_some}
 use Rattle.std.specs.FinMap.{insert}
 use Rattle.cluster_tree.specs.PathValue.{PathValue}
 use Rattle.cluster_tree.specs.Contents.{Entry, FolderEntry, FileEntry, LinkEntry, Contents, entry_at, parent}
@@ -113,7 +113,9 @@ remove_faults = fault.Absent ∷ fault.NotEmpty ∷ fault.Link ∷ []
 abbrev pub IsFreeOfListing : TreeFault → Type 0
 IsFreeOfListing = IsAmong (fault.Failed ∷ fault.OutOfMemory ∷ [])
 
--- the count doesn't fall, and `Failed` comes only where it rose
-pub record Counts {A : Type 0} (before after : ℕ) (result : Result A TreeFault) : Type 0 where
-  pub later : before ≤ after
-  pub failed : result ≡ Err fault.Failed → Rose before after
+-- a call's own count doesn't fall, `Failed` comes only where it rose, and with every other answer it stays, as the other count always does
+pub record Counts {F A : Type 0} (own other : F → ℕ) (old new : F) (result : Result A TreeFault) : Type 0 where
+  pub later : own old ≤ own new
+  pub failed : result ≡ Err fault.Failed → Rose (own old) (own new)
+  pub kept : MatchResult result (λ _. own new ≡ own old) (λ e. (e ≡ fault.Failed) ⊎ (own new ≡ own old))
+  pub stays : other new ≡ other old

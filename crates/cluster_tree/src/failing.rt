@@ -101,7 +101,7 @@ impl Tree for FailingTree {
         ensures planned { PlannedRead self.old self.new result }
         ensures answer { Meets HasFailed (kind_of (entry_at (contents_left self.old) path.now)) result }
         ensures row { RefusesOnly (TreeFault.Link ∷ []) result }
-        ensures cause { Counts (planned_reads self.old) (planned_reads self.new) result }
+        ensures cause { Counts planned_reads changes_failed self.old self.new result }
         ensures frame { Reads ⟦<FailingTree as Tree>⟧ self.old self.new }
     {
         if self.read_fails() {
@@ -117,7 +117,7 @@ impl Tree for FailingTree {
         ensures refused { Passes IsFreeOfListing (list_refusal (entry_at (contents_left self.old)
             path.now)) result }
         ensures row { RefusesOnly list_faults result }
-        ensures cause { Counts (planned_reads self.old) (planned_reads self.new) result }
+        ensures cause { Counts planned_reads changes_failed self.old self.new result }
         ensures frame { Reads ⟦<FailingTree as Tree>⟧ self.old self.new }
     {
         if self.read_fails() {
@@ -131,7 +131,7 @@ impl Tree for FailingTree {
         ensures answer { Meets HasFailed (size_of (file_of (entry_at (contents_left self.old)
             path.now))) result }
         ensures row { RefusesOnly file_faults result }
-        ensures cause { Counts (planned_reads self.old) (planned_reads self.new) result }
+        ensures cause { Counts planned_reads changes_failed self.old self.new result }
         ensures frame { Reads ⟦<FailingTree as Tree>⟧ self.old self.new }
     {
         if self.read_fails() {
@@ -145,7 +145,7 @@ impl Tree for FailingTree {
         ensures answer { MeetsInto HasFailed (range_of (file_of (entry_at (contents_left self.old)
             path.now)) at (length into.old)) into.new result }
         ensures row { RefusesOnly range_faults result }
-        ensures cause { Counts (planned_reads self.old) (planned_reads self.new) result }
+        ensures cause { Counts planned_reads changes_failed self.old self.new result }
         ensures frame { Reads ⟦<FailingTree as Tree>⟧ self.old self.new }
     {
         if self.read_fails() {
@@ -162,7 +162,7 @@ impl Tree for FailingTree {
         ensures row { RefusesOnly range_faults result }
         ensures made { Makes (ChangeCall.Write path.now at (length bytes.now)) (state_left self.old)
             (state_left self.new) result }
-        ensures cause { Counts (changes_failed self.old) (changes_failed self.new) result }
+        ensures cause { Counts changes_failed planned_reads self.old self.new result }
         ensures frame { Came ⟦<FailingTree as Tree>⟧ self.old self.new }
     {
         if self.change_fails() {
@@ -181,7 +181,7 @@ impl Tree for FailingTree {
         ensures row { RefusesOnly range_faults result }
         ensures made { Makes (ChangeCall.Cut path.now size) (state_left self.old) (state_left
             self.new) result }
-        ensures cause { Counts (changes_failed self.old) (changes_failed self.new) result }
+        ensures cause { Counts changes_failed planned_reads self.old self.new result }
         ensures frame { Came ⟦<FailingTree as Tree>⟧ self.old self.new }
     {
         if self.change_fails() {
@@ -198,7 +198,7 @@ impl Tree for FailingTree {
         ensures row { RefusesOnly make_faults result }
         ensures made { Makes (ChangeCall.MakeFile path.now) (state_left self.old) (state_left
             self.new) result }
-        ensures cause { Counts (changes_failed self.old) (changes_failed self.new) result }
+        ensures cause { Counts changes_failed planned_reads self.old self.new result }
         ensures frame { Came ⟦<FailingTree as Tree>⟧ self.old self.new }
     {
         if self.change_fails() {
@@ -215,7 +215,7 @@ impl Tree for FailingTree {
         ensures row { RefusesOnly make_faults result }
         ensures made { Makes (ChangeCall.MakeFolder path.now) (state_left self.old) (state_left
             self.new) result }
-        ensures cause { Counts (changes_failed self.old) (changes_failed self.new) result }
+        ensures cause { Counts changes_failed planned_reads self.old self.new result }
         ensures frame { Came ⟦<FailingTree as Tree>⟧ self.old self.new }
     {
         if self.change_fails() {
@@ -230,7 +230,7 @@ impl Tree for FailingTree {
         ensures refused { Passes HasFailed (remove_refusal (contents_left self.old) path.now) result }
         ensures row { RefusesOnly remove_faults result }
         ensures made { Makes (ChangeCall.Remove path.now) (state_left self.old) (state_left self.new) result }
-        ensures cause { Counts (changes_failed self.old) (changes_failed self.new) result }
+        ensures cause { Counts changes_failed planned_reads self.old self.new result }
         ensures frame { Came ⟦<FailingTree as Tree>⟧ self.old self.new }
     {
         if self.change_fails() {
@@ -244,7 +244,7 @@ impl Tree for FailingTree {
         ensures same { contents_left self.new ≡ contents_left self.old }
         ensures row { RefusesOnly [] result }
         ensures made { Makes ChangeCall.Sync (state_left self.old) (state_left self.new) result }
-        ensures cause { Counts (changes_failed self.old) (changes_failed self.new) result }
+        ensures cause { Counts changes_failed planned_reads self.old self.new result }
         ensures frame { Came ⟦<FailingTree as Tree>⟧ self.old self.new }
     {
         if self.change_fails() {

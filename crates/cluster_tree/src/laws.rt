@@ -1,5 +1,5 @@
 // What follows from the definitions, for callers: each function's contract is a law.
-ghost use Rattle.cluster_tree.specs.Laws.{PutStands, PutElsewhere, RemovedIsGone, RemovedElsewhere, StepElsewhere, HoldsBelow, HeldIsBelow, RootsApart, StepOutside, ChildHasName, ListingIsOne, CutWritesAreOne};
+ghost use Rattle.cluster_tree.specs.Laws.{PutStands, PutElsewhere, RemovedIsGone, RemovedElsewhere, StepElsewhere, HoldsBelow, HeldIsBelow, RootsApart, StepOutside, ChildHasName, ListingIsOne, NamesAreListing, CutWritesAreOne};
 ghost use Rattle.cluster_tree.specs.ChangeLaws.{Pointwise, Elsewhere, ChangedInTurn, JoinedByParts, FirstArePart};
 
 /// What stands at a path, and at every other, after an entry was put or removed there.
@@ -27,6 +27,7 @@ pub fn root_laws()
 pub fn folder_laws()
     ensures child { ChildHasName }
     ensures listing { ListingIsOne }
+    ensures names { NamesAreListing }
 {}
 
 /// What changes leave, path by path.

@@ -63,7 +63,7 @@ pub fn mark_present<F: Tree>(tree: &mut F, marks: &Marks) -> Result<Option<u8>, 
         IfOk result (λ mark. first_mark (F.contents tree.old) marks.now ≡ mark) }
     ensures known { IfOk result (λ mark. IfSome mark (λ number. number ≤ 2)) }
     ensures row { RefusesOnly [] result }
-    ensures cause { Counts (F.failed_reads tree.old) (F.failed_reads tree.new) result }
+    ensures cause { Counts F.failed_reads F.failed_changes tree.old tree.new result }
     ensures reads { Reads F.Tree tree.old tree.new }
 {
     if is_there(tree, &marks.rewind)? {
@@ -83,7 +83,7 @@ fn is_there<F: Tree>(tree: &mut F, path: &Path) -> Result<bool, TreeFault>
     ensures there { IsTrue F.tells →
         IfOk result (λ there. is_there (F.contents tree.old) path.now ≡ there) }
     ensures row { RefusesOnly [] result }
-    ensures cause { Counts (F.failed_reads tree.old) (F.failed_reads tree.new) result }
+    ensures cause { Counts F.failed_reads F.failed_changes tree.old tree.new result }
     ensures reads { Reads F.Tree tree.old tree.new }
 {
     match tree.kind(path) {

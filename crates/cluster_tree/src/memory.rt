@@ -28,7 +28,7 @@ pub struct MemoryTree {
 }
 
 impl MemoryTree {
-    ghost use Rattle.cluster_tree.specs.Fakes.{contents_in, calls_in, failures_in};
+    ghost use Rattle.cluster_tree.specs.Fakes.{contents_in, calls_in, failures_in, no_failures};
 
     /// An empty tree, in which no changing call was made.
     pub fn new(alloc: Global) -> MemoryTree
@@ -65,7 +65,7 @@ impl MemoryTree {
         ensures refused { Passes HasFailed (make_refusal (contents_in self.old) path.now) result }
         ensures kept { OnErr result (contents_in self.new ≡ contents_in self.old) }
         ensures uncalled { calls_in self.new ≡ calls_in self.old }
-        ensures cause { Counts (failures_in self.old) (failures_in self.new) result }
+        ensures cause { Counts failures_in no_failures self.old self.new result }
     {
         check_room(&self.nodes, path)?;
         let done = set_node(self.alloc, &mut self.nodes, path, Node::Link);
@@ -81,7 +81,7 @@ impl MemoryTree {
             (refusal_in (entry_at (contents_in self.old) folder.now)) result }
         ensures kept { OnErr result (contents_in self.new ≡ contents_in self.old) }
         ensures uncalled { calls_in self.new ≡ calls_in self.old }
-        ensures cause { Counts (failures_in self.old) (failures_in self.new) result }
+        ensures cause { Counts failures_in no_failures self.old self.new result }
     {
         check_folder(&self.nodes, folder)?;
         let done = set_node(self.alloc, &mut self.nodes, folder, Node::Folder(true));

@@ -57,6 +57,7 @@ impl Sink for MemorySink {
         ensures ok { OnOk result (sink_bytes self.new ≡ sink_bytes self.old ++ bytes.now) }
         ensures err { OnErr result (AddsPart bytes.now (sink_bytes self.old) (sink_bytes self.new)) }
         ensures later { sink_failures self.old ≤ sink_failures self.new }
+        ensures uncounted { OnOk result (sink_failures self.new ≡ sink_failures self.old) }
         ensures cause { OnErr result (Rose (sink_failures self.old) (sink_failures self.new)) }
     {
         if self.plan.fails_next(&mut self.failed) {

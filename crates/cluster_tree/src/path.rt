@@ -3,7 +3,7 @@ ghost use Rattle.std.specs.Prelude.{◌≡◌, ◌++◌, ◌+◌, ◌≤◌, ◌
 ghost use Rattle.std.specs.Option.{option_copied};
 ghost use Rattle.std.specs.List.{list_all, list_any, join_with_byte};
 ghost use Rattle.std.specs.Fmt.{WritesOnOk};
-ghost use Rattle.cluster_tree.specs.PathValue.{path_of, parsed, below, pieces, is_dot_dot, is_kept, is_part, kept_parts, no_slash, path_text, Holds};
+ghost use Rattle.cluster_tree.specs.PathValue.{path_of, parsed, below, front, pieces, is_dot_dot, is_kept, is_part, kept_parts, no_slash, path_text, Holds};
 ghost use Rattle.cluster_tree.specs.PathOrder.{path_eq};
 ghost use Rattle.cluster_tree.specs.Paths.{checked, Refuses};
 
@@ -88,6 +88,17 @@ impl Path {
         Ok(Path {
             absolute: self.absolute,
             parts: copy_parts(alloc, &self.parts)?,
+        })
+    }
+
+    /// The path of its first parts, so many of them.
+    pub fn front(&self, alloc: Global, parts: usize) -> Result<Path, OutOfMemory>
+        requires { parts ≤ length self.now.parts }
+        ensures { IfOk result (λ path. path ≡ front parts self.now) }
+    {
+        Ok(Path {
+            absolute: self.absolute,
+            parts: first_parts(alloc, &self.parts, parts)?,
         })
     }
 
@@ -252,6 +263,15 @@ fn add_parts(alloc: Global, parts: &mut Vec<String>, text: &str) -> Result<(), O
         }
     }
     Ok(())
+}
+
+// The first parts, so many of them.
+fn first_parts(alloc: Global, parts: &[String], count: usize) -> Result<Vec<String>, OutOfMemory>
+    requires { count ≤ length parts.now }
+    ensures { IfOk result (λ first. map string_bytes first.items
+        ≡ take count (map string_bytes parts.now)) }
+{
+    copy_parts(alloc, &parts[..count])
 }
 
 fn copy_parts(alloc: Global, parts: &[String]) -> Result<Vec<String>, OutOfMemory>

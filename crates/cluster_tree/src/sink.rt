@@ -27,5 +27,6 @@ pub trait Sink {
         ensures err { IsTrue tells →
             OnErr result (AddsPart bytes.now (written self.old) (written self.new)) }
         ensures later { failed_writes self.old ≤ failed_writes self.new }
+        ensures uncounted { OnOk result (failed_writes self.new ≡ failed_writes self.old) }
         ensures cause { OnErr result (Rose (failed_writes self.old) (failed_writes self.new)) };
 }

@@ -116,7 +116,7 @@ pub trait Tree {
         ensures answer { IsTrue tells →
             Meets HasFailed (kind_of (entry_at (contents self.old) path.now)) result }
         ensures row { RefusesOnly (TreeFault.Link ∷ []) result }
-        ensures cause { Counts (failed_reads self.old) (failed_reads self.new) result }
+        ensures cause { Counts failed_reads failed_changes self.old self.new result }
         ensures frame { OnlyReads contents calls failed_reads failed_changes self.old self.new };
 
     /// The names of what lies in a folder, in ascending order of their bytes, each a part of a path.
@@ -128,7 +128,7 @@ pub trait Tree {
         ensures refused { IsTrue tells →
             Passes IsFreeOfListing (list_refusal (entry_at (contents self.old) path.now)) result }
         ensures row { RefusesOnly list_faults result }
-        ensures cause { Counts (failed_reads self.old) (failed_reads self.new) result }
+        ensures cause { Counts failed_reads failed_changes self.old self.new result }
         ensures frame { OnlyReads contents calls failed_reads failed_changes self.old self.new };
 
     /// The size of a file in bytes. Answers `Absent`, `IsFolder` or `Link` where no file is there.
@@ -136,7 +136,7 @@ pub trait Tree {
         ensures answer { IsTrue tells →
             Meets HasFailed (size_of (file_of (entry_at (contents self.old) path.now))) result }
         ensures row { RefusesOnly file_faults result }
-        ensures cause { Counts (failed_reads self.old) (failed_reads self.new) result }
+        ensures cause { Counts failed_reads failed_changes self.old self.new result }
         ensures frame { OnlyReads contents calls failed_reads failed_changes self.old self.new };
 
     /// Fills `into` with the bytes of a file from the offset `at` on. Answers as `size` does, and
@@ -147,7 +147,7 @@ pub trait Tree {
             (range_of (file_of (entry_at (contents self.old) path.now)) at (length into.old))
             into.new result }
         ensures row { RefusesOnly range_faults result }
-        ensures cause { Counts (failed_reads self.old) (failed_reads self.new) result }
+        ensures cause { Counts failed_reads failed_changes self.old self.new result }
         ensures frame { OnlyReads contents calls failed_reads failed_changes self.old self.new };
 
     /// Writes over the bytes of a file from the offset `at` on, and past its end. Answers as `size`
@@ -161,7 +161,7 @@ pub trait Tree {
         ensures row { RefusesOnly range_faults result }
         ensures made { IsTrue tells → Makes (ChangeCall.Write path.now at (length bytes.now))
             (state_by contents calls self.old) (state_by contents calls self.new) result }
-        ensures cause { Counts (failed_changes self.old) (failed_changes self.new) result }
+        ensures cause { Counts failed_changes failed_reads self.old self.new result }
         ensures frame { Goes contents calls failed_reads failed_changes self.old self.new };
 
     /// Cuts a file to a size in bytes. Answers as `size` does, and then `PastEnd` where the file is
@@ -176,7 +176,7 @@ pub trait Tree {
         ensures row { RefusesOnly range_faults result }
         ensures made { IsTrue tells → Makes (ChangeCall.Cut path.now size)
             (state_by contents calls self.old) (state_by contents calls self.new) result }
-        ensures cause { Counts (failed_changes self.old) (failed_changes self.new) result }
+        ensures cause { Counts failed_changes failed_reads self.old self.new result }
         ensures frame { Goes contents calls failed_reads failed_changes self.old self.new };
 
     /// Makes an empty file. Answers `Exists` where an entry is there, and then `Absent`,
@@ -189,7 +189,7 @@ pub trait Tree {
         ensures row { RefusesOnly make_faults result }
         ensures made { IsTrue tells → Makes (ChangeCall.MakeFile path.now)
             (state_by contents calls self.old) (state_by contents calls self.new) result }
-        ensures cause { Counts (failed_changes self.old) (failed_changes self.new) result }
+        ensures cause { Counts failed_changes failed_reads self.old self.new result }
         ensures frame { Goes contents calls failed_reads failed_changes self.old self.new };
 
     /// Makes an empty folder, with the refusals of `make_file`. One that failed may have made it.
@@ -201,7 +201,7 @@ pub trait Tree {
         ensures row { RefusesOnly make_faults result }
         ensures made { IsTrue tells → Makes (ChangeCall.MakeFolder path.now)
             (state_by contents calls self.old) (state_by contents calls self.new) result }
-        ensures cause { Counts (failed_changes self.old) (failed_changes self.new) result }
+        ensures cause { Counts failed_changes failed_reads self.old self.new result }
         ensures frame { Goes contents calls failed_reads failed_changes self.old self.new };
 
     /// Removes a file or an empty folder. Answers `Absent` where nothing is there, `NotEmpty` where
@@ -215,7 +215,7 @@ pub trait Tree {
         ensures row { RefusesOnly remove_faults result }
         ensures made { IsTrue tells → Makes (ChangeCall.Remove path.now)
             (state_by contents calls self.old) (state_by contents calls self.new) result }
-        ensures cause { Counts (failed_changes self.old) (failed_changes self.new) result }
+        ensures cause { Counts failed_changes failed_reads self.old self.new result }
         ensures frame { Goes contents calls failed_reads failed_changes self.old self.new };
 
     /// Makes all that was changed durable. It changes no contents.
@@ -224,7 +224,7 @@ pub trait Tree {
         ensures row { RefusesOnly [] result }
         ensures made { IsTrue tells → Makes ChangeCall.Sync
             (state_by contents calls self.old) (state_by contents calls self.new) result }
-        ensures cause { Counts (failed_changes self.old) (failed_changes self.new) result }
+        ensures cause { Counts failed_changes failed_reads self.old self.new result }
         ensures frame { Goes contents calls failed_reads failed_changes self.old self.new };
 
     /// Whatever is there lies in a folder.
