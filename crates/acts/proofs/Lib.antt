@@ -1,0 +1,4 @@
+pub mod ActSteps
+pub mod LeadLemmas
+pub mod PrintLemmas
+pub mod LawLemmas
