@@ -2,3 +2,4 @@ pub mod PartLemmas
 pub mod PageLemmas
 pub mod ValidLemmas
 pub mod LogLemmas
+pub mod FilesLemmas

@@ -1,8 +1,10 @@
 -- What follows from the definitions of valid pages, for all that reads or writes a log.
 use Rattle.std.specs.Prelude.{◌≡◌, ◌↔◌, ℕ, ◌+◌, ◌%◌, ◌<◌, List, length, map, Some, None, Ok, slice_get}
 use Rattle.wal_pages.specs.declared.log_path.LogPath.{LogPath}
-use Rattle.wal_pages.specs.Folder.{Folder}
-use Rattle.wal_pages.specs.LogBytes.{log_byte}
+use Rattle.cluster_tree.specs.Contents.{Contents}
+use Rattle.wal_pages.specs.Cursor.{PageView, Knows}
+use Rattle.wal_pages.specs.Folder.{Folder, folder_of}
+use Rattle.wal_pages.specs.LogBytes.{log_byte, SameSegments}
 use Rattle.wal_pages.specs.ValidPage.{first_bad_field, IsValidPage}
 use Rattle.wal_pages.specs.Page.{page_at}
 use Rattle.wal_pages.specs.Payload.{payload, page_payload}
@@ -22,3 +24,11 @@ PageIsLogBytes = (log : LogPath) (files : Folder) (at : ℕ) (page : List ℕ) �
 -- and what it carries is the payload at its positions
 abbrev pub PageIsPayload : Type 0
 PageIsPayload = (log : LogPath) (files : Folder) (at : ℕ) (page : List ℕ) → at % 8192 ≡ 0 → page_at log files at ≡ Ok page → payload log files at 8192 ≡ map Some (page_payload log at page)
+
+-- the pages of a log are a function of its segments' files
+abbrev pub PagesAreOfFiles : Type 0
+PagesAreOfFiles = (log : LogPath) (files others : Folder) → SameSegments log files others → (at : ℕ) → page_at log files at ≡ page_at log others at
+
+-- and so a cursor that knows its log in some contents knows it in all that have these files
+abbrev pub KnownByFiles : Type 0
+KnownByFiles = (cursor : PageView) (old new : Contents) → SameSegments cursor.log (folder_of old cursor.log.folder) (folder_of new cursor.log.folder) → Knows cursor old → Knows cursor new

@@ -1,6 +1,6 @@
 //! The pages of a log, one at a time.
 
-ghost use Rattle.std.specs.Prelude.{◌≡◌, ◌⊎◌, ◌≤◌, [], None, Some, Ok, length, IsOk, IfOk, IfErr, OnOk, OnErr, IsTrue, IsErrOf};
+ghost use Rattle.std.specs.Prelude.{◌≡◌, ◌⊎◌, ◌≤◌, [], None, Some, Ok, length, IsOk, IfOk, IfErr, IfSome, IfNone, OnOk, OnErr, IsTrue, IsErrOf};
 ghost use Rattle.cluster_tree.specs.Causes.{Meets, Rose};
 ghost use Rattle.cluster_tree.specs.Frame.{Reads};
 ghost use Rattle.wal_pages.specs.Cursor.{Knows, forgotten};
@@ -153,6 +153,20 @@ impl PageCursor {
         match self.held {
             Some(_) => &self.bytes,
             None => &[],
+        }
+    }
+
+    /// The page that is held, where that is the one that holds a position: its 8192 bytes.
+    pub fn page_with(&self, at: Lsn) -> Option<&[u8]>
+        ensures held { IfSome result (λ page. self.now.held ≡ Some (page_of at.0)) }
+        ensures page { IfSome result (λ page. page.now ≡ self.now.page) }
+        ensures whole { IfSome result (λ page. length page.now ≡ 8192) }
+        ensures none { IfNone result (self.now.held ≡ Some (page_of at.0) → ⊥) }
+    {
+        if self.held == Some(page_of(at).0) {
+            Some(&self.bytes)
+        } else {
+            None
         }
     }
 

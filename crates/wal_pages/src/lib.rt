@@ -17,7 +17,7 @@ pub use header::{
     FIRST_IS_CONTRECORD, FIRST_IS_OVERWRITE_CONTRECORD, LONG_HEADER, LONG_HEADER_SIZE, PAGE_SIZE,
     PageHeader, REMOVABLE, SHORT_HEADER_SIZE, header_of, header_size, page_of,
 };
-pub use laws::page_laws;
+pub use laws::{page_laws, pages_are_of_files};
 pub use log_path::LogPath;
 
 #[cfg(test)]
