@@ -25,3 +25,8 @@ pub mod PaddedLemmas
 pub mod StoredLemmas
 pub mod WroteLemmas
 pub mod BackLemmas
+pub mod FilesLemmas
+pub mod DecidesLemmas
+pub mod OutcomeLemmas
+pub mod TurnLemmas
+pub mod WithinLemmas

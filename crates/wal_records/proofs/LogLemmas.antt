@@ -1,5 +1,5 @@
 -- Each step of a log moves up, and so the log is what a place has and the log from where that goes on.
-use Rattle.std.proofs.Common.{◌≡◌, ℕ, zero, suc, ◌+◌, ◌-◌, ◌%◌, ◌^◌, ◌<◌, ◌≤◌, Bool, true, false, cond, List, [], ◌∷◌, length, Option, Some, None, Result, Ok, Err, refl, sym, ap, ◌∙◌, arith, nat_lt, eqb, inl, inr}
+use Rattle.std.proofs.Common.{◌≡◌, ℕ, zero, suc, ◌+◌, ◌-◌, ◌%◌, ◌^◌, ◌<◌, ◌≤◌, Bool, true, false, cond, List, [], ◌∷◌, length, Option, Some, None, Result, Ok, Err, refl, sym, ap, subst, ◌∙◌, arith, nat_lt, eqb, inl, inr}
 use Rattle.std.proofs.lemmas.Bool.{cases_lt, le-leb, lt-leb}
 use Rattle.layout.specs.Readers.{u32_at}
 use Rattle.wal_pages.specs.Header.{page_of, has_bit, header_of as page_header}
@@ -12,7 +12,7 @@ use Rattle.wal_records.specs.Place.{place_at, is_place}
 use Rattle.wal_records.specs.Header.{header_of, header_fault, length_fault}
 use Rattle.wal_records.specs.Further.{Pages, FurtherPage, further_page, room, further_in, further, stop_in, stop_at, or_stop, first_stop, Gathered, gathered}
 use Rattle.wal_records.specs.Reading.{Reading, Spelled, Stopped, reading, reading_in, continues_at, after_first, after_front, after_header, after_rest, sealed, seal_fault, unless, ends}
-use Rattle.wal_records.specs.Log.{Log, ended, with_first, log_step, log_in, log_from}
+use Rattle.wal_records.specs.Log.{Log, ended, with_first, log_step, log_in, log_from, AreInOrder}
 use Rattle.wal_records.proofs.ExtentLemmas.{end_up}
 use Rattle.wal_records.proofs.PlaceLemmas.{place_at_up, page_up}
 
@@ -23,7 +23,7 @@ StopAhead size place (Some (Ends why)) = Unit {0}
 StopAhead size place (Some (Dropped page)) = place < place_at size page
 
 abbrev pub Ahead : ℕ → ℕ → Reading → Type 0
-Ahead size place (Spelled r) = place < place_at size r.end
+Ahead size place (Spelled r) = (r.start ≡ place) × (place < r.end)
 Ahead size place (Stopped stop) = StopAhead size place (Some stop)
 
 ahead_ends : (size place : ℕ) (why : Option Why) → StopAhead size place (ends why)
@@ -75,7 +75,7 @@ ahead_first pages size place (page ∷ rest) h = ahead_or size place (stop_at pa
 ahead_sealed : (size place total : ℕ) (bytes : List ℕ) → 0 < total → 0 < size → Ahead size place (Spelled (sealed size place total bytes))
 ahead_sealed size place total bytes t s =
     let up = end_up size place total (header_of bytes) s t in
-    omega (arith, up, place_at_up size (sealed size place total bytes).end)
+    (refl, omega (arith, up, t))
 
 ahead_rest : (size place total : ℕ) (found : Gathered) → 0 < total → 0 < size → StopAhead size place found.stop → Ahead size place (after_rest size place total found)
 unfolding after_rest
@@ -128,12 +128,16 @@ unfolding log_in
 past_top pages size zero place before h = refl
 past_top pages size (suc n) place before h = rw (le-leb (2 ^ 64) place h) refl
 
+none_left : (pages : Pages) (size place : ℕ) (before : Option ℕ) → log_in pages size zero before place ≡ ended place why.NoSegment
+unfolding log_in
+none_left pages size place before = refl
+
 one_step : (pages : Pages) (size n place : ℕ) (before : Option ℕ) → place < 2 ^ 64 → log_in pages size (suc n) before place ≡ log_step (log_in pages size n) size before place (reading pages size before place)
 unfolding log_in
 one_step pages size n place before h = rw (lt-leb (2 ^ 64) place h) refl
 
 step_same : (f g : Option ℕ → ℕ → Log) (size place : ℕ) (before : Option ℕ) (r : Reading) → Ahead size place r → ((b : Option ℕ) (p : ℕ) → place < p → f b p ≡ g b p) → log_step f size before place r ≡ log_step g size before place r
-step_same f g size place before (Spelled r) a h = ap (with_first r) (h (Some r.start) (place_at size r.end) a)
+step_same f g size place before (Spelled r) a h = ap (with_first r) (h (Some r.start) (place_at size r.end) (omega (arith, a.1, place_at_up size r.end)))
 step_same f g size place before (Stopped (Dropped page)) a h = h before (place_at size page) a
 step_same f g size place before (Stopped (Ends why)) a h = refl
 
@@ -163,3 +167,27 @@ log_next pages size place before s h =
 -- the same, from what was read
 pub log_on : (pages : Pages) (size place : ℕ) (before : Option ℕ) (found : Reading) → 0 < size → place < 2 ^ 64 → reading pages size before place ≡ found → log_from pages size before place ≡ log_step (log_from pages size) size before place found
 log_on pages size place before found s h e = log_next pages size place before s h ∙ ap (log_step (log_from pages size) size before place) e
+
+-- what stands at a place, and then what stands behind it, is in order
+order_step : (go : Option ℕ → ℕ → Log) (size from place : ℕ) (before : Option ℕ) (r : Reading) → from ≤ place → Ahead size place r
+    → ((b : Option ℕ) (f p : ℕ) → f ≤ p → AreInOrder f (go b p).records) → AreInOrder from (log_step go size before place r).records
+order_step go size from place before (Spelled r) low a h =
+    (omega (arith, low, a.0), omega (arith, a.0, a.1), h (Some r.start) r.end (place_at size r.end) (place_at_up size r.end))
+order_step go size from place before (Stopped (Dropped page)) low a h = h before from (place_at size page) (omega (arith, low, a))
+order_step go size from place before (Stopped (Ends why)) low a h = tt
+
+in_order : (pages : Pages) (size : ℕ) → 0 < size → (n from place : ℕ) (before : Option ℕ) → from ≤ place → AreInOrder from (log_in pages size n before place).records
+in_order pages size s zero from place before low = subst (λ (l : Log). AreInOrder from l.records) (sym (none_left pages size place before)) tt
+in_order pages size s (suc n) from place before low =
+    elim (cases_lt place (2 ^ 64)) [
+      | inl under ↦
+          subst (λ (l : Log). AreInOrder from l.records) (sym (one_step pages size n place before under))
+          (order_step (log_in pages size n) size from place before (reading pages size before place) low (ahead_reading pages size place before s)
+          (λ b f p up. in_order pages size s n f p b up))
+      | inr high ↦ subst (λ (l : Log). AreInOrder from l.records) (sym (past_top pages size (suc n) place before high)) tt
+    ]
+
+-- the records of the log from a place on stand one after another
+pub log_in_order : (pages : Pages) (size from place : ℕ) (before : Option ℕ) → 0 < size → from ≤ place → AreInOrder from (log_from pages size before place).records
+unfolding log_from
+log_in_order pages size from place before s low = in_order pages size s (2 ^ 64 - place) from place before low

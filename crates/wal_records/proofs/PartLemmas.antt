@@ -1,11 +1,15 @@
 -- The bytes of a record, as they grow page by page.
-use Rattle.std.proofs.Common.{◌≡◌, ℕ, ◌+◌, ◌-◌, ◌%◌, ◌<◌, ◌≤◌, min, List, ◌++◌, take, drop, length, refl, sym, ap, ◌∙◌, subst, arith, length-append, length-drop}
+use Rattle.std.proofs.Common.{◌≡◌, ℕ, ◌+◌, ◌-◌, ◌%◌, ◌<◌, ◌≤◌, min, List, ◌++◌, take, drop, length, Option, refl, sym, ap, ◌∙◌, subst, arith, length-append, length-drop}
 use Rattle.std.proofs.lemmas.List.{take-append-drop, take-append-le, drop-append-le, get_or_append_left, length-take, take_all}
 use Rattle.std.proofs.Math.Seq.{take-append_seam, take-length}
 use Rattle.layout.specs.Readers.{u8_at, u32_at, u64_at}
-use Rattle.wal_records.specs.Header.{greatest_total}
-use Rattle.wal_records.specs.Reading.{record_of}
-use Rattle.wal_records.specs.Cursor.{IsWhole}
+use Rattle.wal_pages.specs.declared.log_path.LogPath.{LogPath}
+use Rattle.wal_records.specs.declared.cursor.LogEnd.{LogEnd}
+use Rattle.wal_records.specs.declared.header.RecordHeader.{RecordHeader}
+use Rattle.wal_records.specs.Header.{header_of, greatest_total}
+use Rattle.wal_records.specs.Reading.{LogRecord, record_of}
+use Rattle.wal_records.specs.Spells.{LinksTo}
+use Rattle.wal_records.specs.Cursor.{CursorView, IsWhole}
 use Rattle.wal_records.specs.Steps.{Grows, IsPart, HasFirst, IsAll}
 
 -- what stands at the front of some bytes stands there still when more are added
@@ -128,3 +132,24 @@ whole_record at end bytes all = record {
 
 pub part_of : (a b : ℕ) (bytes : List ℕ) → a ≡ b → IsPart a bytes → IsPart b bytes
 part_of a b bytes e part = let P : ℕ → Type 0 = λ n. IsPart n bytes in subst P e part
+
+-- the link of a record is that of its first bytes
+pub link_kept : (before : Option ℕ) (place : ℕ) (old new : List ℕ) (header : RecordHeader) → take (length old) new ≡ old → 24 ≤ length old
+    → header ≡ header_of old → LinksTo before place header.prev.0 → LinksTo before place (u64_at 8 new)
+link_kept before place old new header front long is linked =
+    subst (LinksTo before place)
+    (ap (λ (h : RecordHeader). h.prev.0) is ∙ sym (long_front 8 old (drop (length old) new) (omega (arith, long))) ∙ sym (ap (u64_at 8) (whole_of old new front)))
+    linked
+
+-- and that of the record that was found
+pub link_of_record : (old before : Option ℕ) (start end : ℕ) (bytes : List ℕ) (r : LogRecord) → r ≡ record_of start end bytes → old ≡ before
+    → LinksTo old start (u64_at 8 bytes) → LinksTo before r.start r.header.prev.0
+link_of_record old before start end bytes r is e linked =
+    subst (λ (x : LogRecord). LinksTo before x.start x.header.prev.0) (sym is) (subst (λ (x : Option ℕ). LinksTo x start (u64_at 8 bytes)) e linked)
+
+-- a cursor of which a call left all but the page that it holds and the record that it gave
+pub same_but_read : (log : LogPath) (old : CursorView) (held : Option ℕ) (page : List ℕ) (before : Option ℕ) (place : ℕ) (ended : Option LogEnd) (current : Option LogRecord)
+    → log ≡ old.log → before ≡ old.before → place ≡ old.place → ended ≡ old.ended
+    → (let new : CursorView = record { log = log; held = held; page = page; before = before; place = place; ended = ended; current = current } in
+    new ≡ record old { held = held; page = page; current = current })
+same_but_read log old held page before place ended current a b c d = cc

@@ -1,6 +1,7 @@
 -- Bytes that go on in zeros, and what is written over the first of them.
-use Rattle.std.proofs.Common.{◌≡◌, ℕ, ◌+◌, ◌-◌, ◌≤◌, ◌++◌, List, [], take, drop, length, replicate, sym, ap, ◌∙◌, append_assoc, arith, length-append, length-take-le}
+use Rattle.std.proofs.Common.{◌≡◌, ℕ, ◌+◌, ◌-◌, ◌≤◌, ◌++◌, List, [], take, drop, length, replicate, refl, sym, ap, ◌∙◌, append_assoc, arith, length-append, length-take-le}
 use Rattle.std.proofs.lemmas.List.{length-replicate, drop-replicate, replicate-append-replicate, take_at, append-nil, drop-drop, drop_at}
+use Rattle.layout.specs.Splice.{splice}
 use Rattle.wal_records.specs.Zeros.{ZeroEnded, with_bytes}
 
 -- so many bytes, and zeros behind them
@@ -32,13 +33,14 @@ beyond used more all h =
 
 -- what is written over the first zeros
 pub written_over : (used : ℕ) (all piece : List ℕ) → EndsInZeros used all → length piece ≤ length all - used
-    → take used all ++ (piece ++ drop (used + length piece) all) ≡ (take used all ++ piece) ++ replicate (length all - used - length piece) 0
+    → splice all used piece ≡ (take used all ++ piece) ++ replicate (length all - used - length piece) 0
+unfolding splice
 written_over used all piece h room =
     let front : List ℕ = take used all in
     let size : length front ≡ used = length-take-le used all h.0 in
     let more : drop (used + length piece) all ≡ drop (length piece) (replicate (length all - used) 0) = beyond used (length piece) all h in
-    ap (λ t. front ++ (piece ++ t)) (more ∙ drop-replicate (length piece) (length all - used) 0)
-    ∙ sym (append_assoc front piece (replicate (length all - used - length piece) 0))
+    let laid : splice all used piece ≡ (front ++ piece) ++ drop (used + length piece) all = refl in
+    laid ∙ ap (λ t. (front ++ piece) ++ t) (more ∙ drop-replicate (length piece) (length all - used) 0)
 
 -- what is kept of a list by its length
 pub kept_len : (len : ℕ) (w b : List ℕ) → len ≡ length w → take len (w ++ drop (length w) b) ≡ w

@@ -8,11 +8,13 @@ use Rattle.wal_records.specs.declared.cursor.LogEnd.{LogEnd}
 use Rattle.wal_records.specs.declared.cursor.Step.{Step}
 use Rattle.wal_records.specs.declared.cursor.Step.TheVariants as step
 use Rattle.wal_records.specs.declared.why.Why.{Why}
+use Rattle.wal_records.specs.declared.why.Stop.TheVariants.{Ends}
 use Rattle.wal_records.specs.Place.{place_at}
 use Rattle.wal_records.specs.Header.{greatest_total}
 use Rattle.wal_records.specs.Further.{pages_of}
-use Rattle.wal_records.specs.Reading.{LogRecord}
+use Rattle.wal_records.specs.Reading.{LogRecord, Reading, Spelled, Stopped}
 use Rattle.wal_records.specs.Log.{Log, ended, with_first, log_from}
+use Rattle.wal_records.specs.Spells.{LinksTo}
 
 -- A cursor: where it reads, the position of the page that it holds and that page, if it holds one, the start of the record
 -- before, the place where the next one is looked for, the end that it answered, and the record that the last call gave.
@@ -53,6 +55,7 @@ pub record GoesOn (old new : CursorView) (r : LogRecord) : Type 0 where
   pub whole : IsWhole r
   pub later : old.place ≤ r.start
   pub longer : r.start + r.header.total ≤ r.end
+  pub linked : LinksTo old.before r.start r.header.prev.0
   pub up : old.place + 24 ≤ new.place
   pub before : new.before ≡ Some r.start
   pub place : new.place ≡ place_at (bytes_of old.log.size) r.end
@@ -67,3 +70,26 @@ ended_at cursor place why = record cursor { held = None; page = []; ended = Some
 abbrev pub Moves : CursorView → CursorView → Step → Type 0
 Moves old new step.Record = IsSomeAnd new.current (GoesOn old new)
 Moves old new (step.End at why) = new ≡ ended_at old at.0 why
+
+-- a cursor that goes on at a place, behind no record: it holds the page that it held
+abbrev pub going_on_at : CursorView → ℕ → CursorView
+going_on_at cursor place = record cursor { before = None; place = place; ended = None; current = None }
+
+-- what a call of `read_alone` gives of a place: its record, or why it has none
+abbrev pub GivesAlone : CursorView → Step → Reading → Type 0
+GivesAlone new step.Record found = IsSomeAnd new.current (λ r. found ≡ Spelled r)
+GivesAlone new (step.End at why) found = found ≡ Stopped (Ends why)
+
+-- a record that was read alone stands at its place, and links to one below it
+pub record IsAlone (place : ℕ) (r : LogRecord) : Type 0 where
+  pub whole : IsWhole r
+  pub start : r.start ≡ place
+  pub longer : r.start + r.header.total ≤ r.end
+  pub linked : r.header.prev.0 < r.start
+
+-- Whatever the tree holds: a cursor that read a record alone goes on where it did, as does one that found none at the
+-- place, which holds no page.
+abbrev pub StandsAlone : CursorView → CursorView → ℕ → Step → Type 0
+StandsAlone old new place step.Record =
+    IsSomeAnd new.current (IsAlone place) × (new ≡ record old { held = new.held; page = new.page; current = new.current })
+StandsAlone old new place (step.End at why) = (at.0 ≡ place) × (new ≡ without_current old)

@@ -7,6 +7,7 @@ pub mod Log
 pub mod Cursor
 pub mod Steps
 pub mod Spells
+pub mod Outcome
 pub mod Laws
 pub mod Writer
 pub mod Zeros

@@ -1,6 +1,6 @@
 -- The records of a log in order, the place at which it ends, and why: PostgreSQL 16 manual, chapter "Reliability and the
 -- Write-Ahead Log", section "WAL Internals"; src/backend/access/transam/xlogreader.c, XLogReadRecord.
-use Rattle.std.specs.Prelude.{ℕ, zero, suc, ◌-◌, ◌^◌, List, [], ◌∷◌, Option, Some, None, nat_le, if◌then◌else◌}
+use Rattle.std.specs.Prelude.{ℕ, zero, suc, ◌-◌, ◌^◌, ◌<◌, ◌≤◌, List, [], ◌∷◌, Option, Some, None, nat_le, if◌then◌else◌}
 use Rattle.wal_records.specs.declared.why.Why.{Why}
 use Rattle.wal_records.specs.declared.why.Why.TheVariants as why
 use Rattle.wal_records.specs.declared.why.Stop.TheVariants.{Ends, Dropped}
@@ -53,3 +53,9 @@ end_after start (r ∷ rest) = end_after r.end rest
 -- The end of the log from a position on: that of its last record. Own: "A log's place and its end".
 abbrev pub end_of_log : Pages → ℕ → ℕ → ℕ
 end_of_log pages size start = end_after start (log_of pages size start).records
+
+-- records that stand one after another from a position on: each starts no earlier than the one before it ends, and ends
+-- above its start
+abbrev pub AreInOrder : ℕ → List LogRecord → Type 0
+AreInOrder from [] = Unit {0}
+AreInOrder from (r ∷ rest) = (from ≤ r.start) × (r.start < r.end) × AreInOrder r.end rest

@@ -8,7 +8,7 @@ use Rattle.wal_records.specs.declared.header.RecordHeader.{RecordHeader}
 use Rattle.wal_records.specs.declared.why.Why.{Why}
 use Rattle.wal_records.specs.declared.why.Why.TheVariants as why
 use Rattle.wal_records.specs.declared.why.Stop.{Stop}
-use Rattle.wal_records.specs.declared.why.Stop.TheVariants.{Ends}
+use Rattle.wal_records.specs.declared.why.Stop.TheVariants.{Ends, Dropped}
 use Rattle.wal_records.specs.Place.{is_place}
 use Rattle.wal_records.specs.Header.{header_of, length_fault, header_fault, checksum}
 use Rattle.wal_records.specs.Further.{Pages, FurtherPage, further_page, why_refused, room, further, stop_at, piece, Gathered, gathered}
@@ -93,3 +93,13 @@ unfoldable pub reading : Pages → ℕ → Option ℕ → ℕ → Reading
 reading pages size before place =
     if is_place size place then reading_in pages size before place (pages (page_of place))
     else Stopped (Ends why.Place)
+
+-- what is told of a place by itself: a record that was dropped there doesn't go on
+abbrev pub alone : Reading → Reading
+alone (Spelled r) = Spelled r
+alone (Stopped (Ends why)) = Stopped (Ends why)
+alone (Stopped (Dropped page)) = Stopped (Ends why.Continuation)
+
+-- what a place has by itself: a record there links to one below its own place. Own: "A record that is read alone".
+abbrev pub lone : Pages → ℕ → ℕ → Reading
+lone pages size place = alone (reading pages size None place)

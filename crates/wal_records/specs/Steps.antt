@@ -1,6 +1,9 @@
 -- What the steps of reading a record answer, held to the reading of its place.
-use Rattle.std.specs.Prelude.{◌≡◌, ℕ, ◌+◌, ◌-◌, ◌%◌, ◌≤◌, min, List, ◌++◌, length, take, Option, Some, None, Result, Ok, Err}
-use Rattle.layout.specs.Readers.{u32_at}
+use Rattle.std.specs.Prelude.{◌≡◌, ℕ, ◌+◌, ◌-◌, ◌*◌, ◌/◌, ◌%◌, ◌^◌, ◌<◌, ◌≤◌, false, min, List, ◌++◌, length, take, drop, Option, Some, None, Result, Ok, Err, IsTrue}
+use Rattle.layout.specs.Readers.{u32_at, u64_at}
+use Rattle.cluster_tree.specs.Frame.{Reads}
+use Rattle.cluster_tree.specs.declared.tree.Tree.{Ghosts}
+use Rattle.wal_pages.specs.Cursor.{PageView, Knows}
 use Rattle.wal_pages.specs.Header.{header_of as page_header}
 use Rattle.wal_pages.specs.Page.{Refusal}
 use Rattle.wal_records.specs.declared.why.Why.{Why}
@@ -15,10 +18,19 @@ use Rattle.wal_records.specs.declared.reading.Found.TheVariants as found
 use Rattle.wal_records.specs.declared.search.Sought.{Sought}
 use Rattle.wal_records.specs.declared.search.Sought.TheVariants as sought
 use Rattle.wal_records.specs.Place.{place_at}
-use Rattle.wal_records.specs.Header.{greatest_total}
+use Rattle.wal_records.specs.Header.{header_of, header_fault, checksum, greatest_total}
+use Rattle.wal_records.specs.Extent.{is_switch}
 use Rattle.wal_records.specs.Further.{Pages, why_refused, FurtherPage, stop_at, piece, Gathered}
 use Rattle.wal_records.specs.Reading.{Reading, Spelled, Stopped, reading, after_first, record_of}
 use Rattle.wal_records.specs.Log.{ended, with_first, log_from}
+use Rattle.wal_records.specs.Spells.{LinksTo}
+
+-- What a step of reading keeps, whatever it answers: the log of its pages, what is known of the page that is held, and the
+-- tree but for its count of failed reads.
+pub record Turns {F : Type 0} (tree : Ghosts F) (pages : PageView) (now : F) (new : PageView) (after : F) : Type 0 where
+  pub log : new.log ≡ pages.log
+  pub knows : IsTrue tree.tells → Knows pages (tree.contents now) → Knows new (tree.contents after)
+  pub reads : Reads tree now after
 
 -- why there is no page, if there is none
 abbrev pub page_why : Result (List ℕ) Refusal → Option Why
@@ -83,9 +95,14 @@ pub record IsAll (place end : ℕ) (bytes : List ℕ) : Type 0 where
   pub total : u32_at 0 bytes ≡ length bytes
   pub longer : place + length bytes ≤ end
 
-abbrev pub AllFit : ℕ → Found → List ℕ → Type 0
-AllFit place (found.Stopped stop) bytes = Unit {0}
-AllFit place (found.Record end) bytes = IsAll place end bytes
+-- all bytes of a record, which links back as the record before it wants
+pub record IsLinkedAll (before : Option ℕ) (place end : ℕ) (bytes : List ℕ) : Type 0 where
+  pub all : IsAll place end bytes
+  pub linked : LinksTo before place (u64_at 8 bytes)
+
+abbrev pub AllFit : Option ℕ → ℕ → Found → List ℕ → Type 0
+AllFit before place (found.Stopped stop) bytes = Unit {0}
+AllFit before place (found.Record end) bytes = IsLinkedAll before place end bytes
 
 -- a record is dropped only by a page from a position on
 abbrev pub DropsFrom : ℕ → Stop → Type 0
@@ -112,10 +129,27 @@ Seeks pages size before place (sought.Record at end) bytes =
 Seeks pages size before place (sought.End at why) bytes = log_from pages size before place ≡ ended at why
 
 -- whatever the tree holds, the record that was found has its bytes, and stands no earlier
-pub record IsSought (place at end : ℕ) (bytes : List ℕ) : Type 0 where
+pub record IsSought (before : Option ℕ) (place at end : ℕ) (bytes : List ℕ) : Type 0 where
   pub later : place ≤ at
-  pub all : IsAll at end bytes
+  pub found : IsLinkedAll before at end bytes
 
-abbrev pub SoughtFits : ℕ → Sought → List ℕ → Type 0
-SoughtFits place (sought.Record at end) bytes = IsSought place at end bytes
-SoughtFits place (sought.End at why) bytes = Unit {0}
+abbrev pub SoughtFits : Option ℕ → ℕ → Sought → List ℕ → Type 0
+SoughtFits before place (sought.Record at end) bytes = IsSought before place at end bytes
+SoughtFits before place (sought.End at why) bytes = Unit {0}
+
+-- the bytes of a record that lies on its page, behind the longest header of a page
+pub record IsWithin (page : List ℕ) (place : ℕ) (bytes : List ℕ) : Type 0 where
+  pub behind : 40 < place % 8192
+  pub aligned : place % 8 ≡ 0
+  pub least : 24 ≤ length bytes
+  pub fits : place % 8192 + length bytes ≤ 8192
+  pub total : u32_at (place % 8192) page ≡ length bytes
+  pub part : bytes ≡ take (length bytes) (drop (place % 8192) page)
+
+-- nothing is wrong with these bytes of a record, which isn't a switch and ends there
+pub record EndsWithin (before : Option ℕ) (place : ℕ) (bytes : List ℕ) (end : ℕ) : Type 0 where
+  pub header : header_fault before place (header_of bytes) ≡ None
+  pub plain : is_switch (header_of bytes) ≡ false
+  pub sum : checksum bytes ≡ (header_of bytes).crc
+  pub at : end ≡ (place + length bytes + 7) / 8 * 8
+  pub low : end < 2 ^ 64

@@ -9,13 +9,16 @@ ghost use Rattle.wal_records.specs.declared.cursor.LogEnd.{LogEnd};
 ghost use Rattle.wal_records.specs.Place.{place_at};
 ghost use Rattle.wal_records.specs.Further.{pages_of};
 ghost use Rattle.wal_records.specs.Log.{log_of};
-ghost use Rattle.wal_records.specs.Cursor.{IsWhole, Knows, Moves, Steps, to_come, without_current};
+ghost use Rattle.wal_records.specs.declared.why.Stop.TheVariants.{Ends};
+ghost use Rattle.wal_records.specs.Reading.{Stopped, alone, lone};
+ghost use Rattle.wal_records.specs.Cursor.{GivesAlone, IsWhole, Knows, Moves, StandsAlone, Steps, going_on_at, to_come, without_current};
 
 use crate::fault::LogFault;
 use crate::log_record::{Record, emptied};
 use crate::place::place_at;
+use crate::reading::{Found, read_record};
 use crate::search::{Sought, find};
-use crate::why::Why;
+use crate::why::{Stop, Why};
 use cluster_tree::Tree;
 use std::alloc::Global;
 use std::marker::Model;
@@ -47,6 +50,16 @@ pub struct RecordCursor {
     place: u64,
     ended: Option<LogEnd>,
     current: Option<Record>,
+}
+
+/// Why a place by itself has no record: one that was dropped doesn't go on.
+fn why_alone(stop: Stop) -> Why
+    ensures { alone (Stopped stop) ≡ Stopped (Ends result) }
+{
+    match stop {
+        Stop::Ends(why) => why,
+        Stop::Dropped(_) => Why::Continuation,
+    }
 }
 
 impl Model for RecordCursor {
@@ -173,8 +186,59 @@ impl RecordCursor {
         }
     }
 
-    /// The record that the last call of `next` or `next_unchanged` gave. `None` before the first
-    /// call, and after one that answered an end or a fault.
+    /// Reads the record at a place by itself, which `current` then lends, or tells why the place has
+    /// none: as the walk back over the links of records does. The link of the record lies below its
+    /// own place. A place in a page's header is none, and a record that was dropped there doesn't go
+    /// on: `Place` and `Continuation`.
+    ///
+    /// `next` then goes on where it would have. The page that is held isn't read again, as in
+    /// `next_unchanged`. Answers `ReadFault` only where a read failed, which the tree has counted,
+    /// and `OutOfMemory` only for want of memory. It makes no changing call.
+    pub fn read_alone<F: Tree>(&mut self, tree: &mut F, place: Lsn) -> Result<Step, LogFault>
+        ensures read { IsTrue F.tells → Knows self.old (F.contents tree.old) →
+            IfOk result (λ step. GivesAlone self.new step
+            (lone (pages_of self.old.log (F.contents tree.old)) (bytes_of self.old.log.size) place.0)) }
+        ensures stands { IfOk result (StandsAlone self.old self.new place.0) }
+        ensures knows { IsTrue F.tells → Knows self.old (F.contents tree.old) →
+            Knows self.new (F.contents tree.new) }
+        ensures fault { OnErr result (self.new ≡ without_current self.old) }
+        ensures reads { Reads F.Tree tree.old tree.new }
+        ensures read_fault { IsErrOf result LogFault.ReadFault →
+            Rose (F.failed_reads tree.old) (F.failed_reads tree.new) }
+    {
+        let mut bytes = emptied(self.current.take(), self.alloc);
+        match read_record(&mut self.pages, tree, None, place.0, &mut bytes) {
+            Ok(Found::Record(end)) => {
+                self.current = Some(Record::new(place.0, end, bytes));
+                Ok(Step::Record)
+            }
+            Ok(Found::Stopped(stop)) => {
+                self.pages.forget();
+                Ok(Step::End(place, why_alone(stop)))
+            }
+            Err(fault) => {
+                self.pages.forget();
+                Err(fault)
+            }
+        }
+    }
+
+    /// Goes to another start, as a new cursor at it: before the first record from there on. The page
+    /// that is held stays held, and no memory is taken.
+    pub fn go_to(&mut self, start: Lsn)
+        ensures value { self.new ≡ going_on_at self.old (place_at (bytes_of self.old.log.size) start.0) }
+        ensures starts { (contents : Contents) → to_come self.new contents
+            ≡ log_of (pages_of self.old.log contents) (bytes_of self.old.log.size) start.0 }
+        ensures knows { (contents : Contents) → Knows self.old contents → Knows self.new contents }
+    {
+        self.before = None;
+        self.place = place_at(start, self.pages.size()).0;
+        self.ended = None;
+        self.current = None;
+    }
+
+    /// The record that the last call of `next`, `next_unchanged` or `read_alone` gave. `None` before
+    /// the first call, after one that answered an end or a fault, and after `go_to`.
     pub fn current(&self) -> Option<&Record>
         ensures none { IfNone result (self.now.current ≡ None) }
         ensures some { IfSome result (λ r. self.now.current ≡ Some r.now) }

@@ -63,7 +63,7 @@ pub fn behind(size: SegSize, place: u64, total: u32) -> Option<Lsn>
 }
 
 /// Whether it is the header of a switch record (`XLOG_SWITCH`).
-fn is_switch(header: RecordHeader) -> bool
+pub fn is_switch(header: RecordHeader) -> bool
     ensures value { result ≡ is_switch header }
 {
     header.manager == 0 && header.info / 16 == 4

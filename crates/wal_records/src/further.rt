@@ -2,15 +2,15 @@
 
 ghost use Rattle.std.specs.Prelude.{◌≡◌, ◌+◌, ◌-◌, ◌*◌, ◌<◌, ◌≤◌, ◌^◌, ◌++◌, None, length, min, take, drop, IsTrue, IfOk, IsErrOf};
 ghost use Rattle.cluster_tree.specs.Causes.{Rose};
-ghost use Rattle.cluster_tree.specs.Frame.{Reads};
 ghost use Rattle.wal_base.specs.Segment.{bytes_of};
 ghost use Rattle.wal_pages.specs.Cursor.{Knows};
 ghost use Rattle.wal_records.specs.Further.{pages_of, further_page, further, room, stop_of, stop_at, piece, gathered};
-ghost use Rattle.wal_records.specs.Steps.{Adds, Gathers, Grows, StopsFrom};
+ghost use Rattle.wal_records.specs.Steps.{Adds, Gathers, Grows, StopsFrom, Turns};
 
 use crate::extent::PAGES;
 use crate::fault::LogFault;
 use crate::opening::{Opened, open_page};
+use crate::room::add_piece;
 use crate::why::{Stop, Why};
 use cluster_tree::Tree;
 use wal_base::{Lsn, SegSize};
@@ -63,7 +63,6 @@ pub fn add_page<F: Tree>(
     bytes: &mut Vec<u8>,
 ) -> Result<Option<Stop>, LogFault>
     requires low { number < 2 ^ 51 }
-    ensures log { pages.new.log ≡ pages.old.log }
     ensures added { IsTrue F.tells → Knows pages.old (F.contents tree.old) →
         IfOk result (λ stop. Adds stop bytes.old.items bytes.new.items
         (pages_of pages.old.log (F.contents tree.old)) (bytes_of pages.old.log.size)
@@ -71,9 +70,7 @@ pub fn add_page<F: Tree>(
     ensures grows { IfOk result (λ stop. stop ≡ None → Grows bytes.old.items bytes.new.items
         (min left (room (bytes_of pages.old.log.size) (number * 8192)))) }
     ensures from { IfOk result (StopsFrom (number * 8192)) }
-    ensures knows { IsTrue F.tells → Knows pages.old (F.contents tree.old) →
-        Knows pages.new (F.contents tree.new) }
-    ensures reads { Reads F.Tree tree.old tree.new }
+    ensures turns { Turns F.Tree pages.old tree.old pages.new tree.new }
     ensures read_fault { IsErrOf result LogFault.ReadFault →
         Rose (F.failed_reads tree.old) (F.failed_reads tree.new) }
 {
@@ -87,7 +84,7 @@ pub fn add_page<F: Tree>(
         None => {}
     }
     let offset = header_size(Lsn(at), pages.size()) as usize;
-    bytes.extend_from_slice(piece_of(pages.page(), offset, left))?;
+    add_piece(bytes, piece_of(pages.page(), offset, left), left)?;
     Ok(None)
 }
 
@@ -101,7 +98,6 @@ pub fn add_rest<F: Tree>(
     bytes: &mut Vec<u8>,
 ) -> Result<Option<Stop>, LogFault>
     requires low { number ≤ 2 ^ 51 }
-    ensures log { pages.new.log ≡ pages.old.log }
     ensures gathered { IsTrue F.tells → Knows pages.old (F.contents tree.old) →
         IfOk result (λ stop. Gathers stop bytes.new.items
         (gathered (pages_of pages.old.log (F.contents tree.old)) (bytes_of pages.old.log.size)
@@ -109,9 +105,7 @@ pub fn add_rest<F: Tree>(
     ensures grows { IfOk result (λ stop. stop ≡ None →
         Grows bytes.old.items bytes.new.items left) }
     ensures from { IfOk result (StopsFrom (number * 8192)) }
-    ensures knows { IsTrue F.tells → Knows pages.old (F.contents tree.old) →
-        Knows pages.new (F.contents tree.new) }
-    ensures reads { Reads F.Tree tree.old tree.new }
+    ensures turns { Turns F.Tree pages.old tree.old pages.new tree.new }
     ensures read_fault { IsErrOf result LogFault.ReadFault →
         Rose (F.failed_reads tree.old) (F.failed_reads tree.new) }
 {

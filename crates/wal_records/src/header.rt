@@ -2,6 +2,7 @@
 
 ghost use Rattle.std.specs.Prelude.{◌≡◌, ◌≤◌, length, IfNone};
 ghost use Rattle.wal_records.specs.Header.{header_of, length_fault, header_fault, checksum, greatest_total};
+ghost use Rattle.wal_records.specs.Spells.{LinksTo};
 
 use crate::why::Why;
 use layout::{u8_at, u32_at, u64_at};
@@ -66,6 +67,7 @@ pub fn length_fault(total: u32) -> Option<Why>
 /// the record before it starts at `before`.
 pub fn header_fault(before: Option<u64>, place: u64, header: RecordHeader) -> Option<Why>
     ensures value { result ≡ header_fault before place header }
+    ensures linked { IfNone result (LinksTo before place header.prev.0) }
 {
     if header.manager >= 22 && header.manager < 128 {
         return Some(Why::Manager);

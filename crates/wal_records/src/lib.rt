@@ -14,8 +14,10 @@ mod new_record;
 mod opening;
 mod place;
 mod reading;
+mod room;
 mod search;
 mod why;
+mod within;
 mod write_fault;
 mod writer;
 mod writer_laws;
@@ -24,7 +26,9 @@ mod zeros;
 pub use cursor::{RecordCursor, Step};
 pub use fault::LogFault;
 pub use header::RecordHeader;
-pub use laws::{log_goes_on, spells_exactly};
+pub use laws::{
+    log_goes_on, log_is_in_order, log_is_of_files, place_has_one_outcome, spells_exactly,
+};
 pub use log_origin::LogOrigin;
 pub use log_record::Record;
 pub use place::place_at;

@@ -2,11 +2,10 @@
 
 ghost use Rattle.std.specs.Prelude.{◌≡◌, length, IsTrue, IfOk, IsErrOf};
 ghost use Rattle.cluster_tree.specs.Causes.{Rose};
-ghost use Rattle.cluster_tree.specs.Frame.{Reads};
 ghost use Rattle.wal_pages.specs.Cursor.{Knows};
 ghost use Rattle.wal_pages.specs.Header.{header_of, page_of};
 ghost use Rattle.wal_records.specs.Further.{pages_of};
-ghost use Rattle.wal_records.specs.Steps.{Opens, IsOpened};
+ghost use Rattle.wal_records.specs.Steps.{Opens, IsOpened, Turns};
 
 use crate::fault::LogFault;
 use crate::why::Why;
@@ -24,14 +23,11 @@ pub enum Opened {
 
 /// Reads the page that holds a position.
 pub fn open_page<F: Tree>(pages: &mut PageCursor, tree: &mut F, at: u64) -> Result<Opened, LogFault>
-    ensures log { pages.new.log ≡ pages.old.log }
     ensures opened { IsTrue F.tells → Knows pages.old (F.contents tree.old) →
         IfOk result (λ opened. Opens opened pages.new.page
         (pages_of pages.old.log (F.contents tree.old) (page_of at))) }
     ensures page { IfOk result (λ opened. IsOpened opened pages.new.page) }
-    ensures knows { IsTrue F.tells → Knows pages.old (F.contents tree.old) →
-        Knows pages.new (F.contents tree.new) }
-    ensures reads { Reads F.Tree tree.old tree.new }
+    ensures turns { Turns F.Tree pages.old tree.old pages.new tree.new }
     ensures read_fault { IsErrOf result LogFault.ReadFault →
         Rose (F.failed_reads tree.old) (F.failed_reads tree.new) }
 {

@@ -2,12 +2,11 @@
 
 ghost use Rattle.std.specs.Prelude.{◌≡◌, ℕ, ◌+◌, ◌*◌, ◌<◌, ◌≤◌, ◌^◌, [], None, Some, Option, length, IsTrue, IfOk, IfErr, IsErrOf};
 ghost use Rattle.cluster_tree.specs.Causes.{Rose};
-ghost use Rattle.cluster_tree.specs.Frame.{Reads};
 ghost use Rattle.wal_base.specs.Segment.{bytes_of};
 ghost use Rattle.wal_pages.specs.Cursor.{Knows};
 ghost use Rattle.wal_records.specs.Further.{pages_of, further};
 ghost use Rattle.wal_records.specs.Reading.{sealed_end, seal_fault, after_header, reading};
-ghost use Rattle.wal_records.specs.Steps.{Begins, FirstFits, IsPart, Gives, AllFit, BeginsFrom, FindsFrom};
+ghost use Rattle.wal_records.specs.Steps.{Begins, FirstFits, IsPart, Gives, AllFit, BeginsFrom, FindsFrom, Turns};
 
 use crate::extent::{PAGES, end_at};
 use crate::fault::LogFault;
@@ -15,7 +14,9 @@ use crate::further::{add_page, add_rest, piece_of, room_of};
 use crate::header::{HEADER_SIZE, checksum, header_fault, header_of, length_fault};
 use crate::opening::{Opened, open_page};
 use crate::place::{continues_at, is_place};
+use crate::room::add_piece;
 use crate::why::{Stop, Why};
+use crate::within::read_within;
 use cluster_tree::Tree;
 use layout::u32_at;
 use wal_base::{Lsn, SegSize};
@@ -45,16 +46,13 @@ fn begin<F: Tree>(
     bytes: &mut Vec<u8>,
 ) -> Result<Begun, LogFault>
     requires empty { bytes.old.items ≡ [] }
-    ensures log { pages.new.log ≡ pages.old.log }
     ensures read { IsTrue F.tells → Knows pages.old (F.contents tree.old) →
         IfOk result (λ begun. (before : Option ℕ) →
         Begins (pages_of pages.old.log (F.contents tree.old)) (bytes_of pages.old.log.size)
         before place begun bytes.new.items) }
     ensures fits { IfOk result (λ begun. FirstFits place begun bytes.new.items) }
     ensures from { IfOk result (BeginsFrom (place + 1)) }
-    ensures knows { IsTrue F.tells → Knows pages.old (F.contents tree.old) →
-        Knows pages.new (F.contents tree.new) }
-    ensures reads { Reads F.Tree tree.old tree.new }
+    ensures turns { Turns F.Tree pages.old tree.old pages.new tree.new }
     ensures read_fault { IsErrOf result LogFault.ReadFault →
         Rose (F.failed_reads tree.old) (F.failed_reads tree.new) }
 {
@@ -75,7 +73,7 @@ fn begin<F: Tree>(
         Some(why) => return Ok(Begun::Stopped(Stop::Ends(why))),
         None => {}
     }
-    bytes.extend_from_slice(piece_of(pages.page(), offset, total))?;
+    add_piece(bytes, piece_of(pages.page(), offset, total), total)?;
     Ok(Begun::Total(total))
 }
 
@@ -114,17 +112,14 @@ fn read_body<F: Tree>(
     requires part { IsPart (length bytes.old.items + left) bytes.old.items }
     requires whole { 24 ≤ length bytes.old.items }
     requires low { number ≤ 2 ^ 51 }
-    ensures log { pages.new.log ≡ pages.old.log }
     ensures read { IsTrue F.tells → Knows pages.old (F.contents tree.old) →
         IfOk result (λ found. Gives place found bytes.new.items
         (after_header (pages_of pages.old.log (F.contents tree.old)) (bytes_of pages.old.log.size)
         before place (length bytes.old.items + left)
         (further (bytes_of pages.old.log.size) (number * 8192) left) bytes.old.items)) }
-    ensures fits { IfOk result (λ found. AllFit place found bytes.new.items) }
+    ensures fits { IfOk result (λ found. AllFit before place found bytes.new.items) }
     ensures from { IfOk result (FindsFrom (number * 8192)) }
-    ensures knows { IsTrue F.tells → Knows pages.old (F.contents tree.old) →
-        Knows pages.new (F.contents tree.new) }
-    ensures reads { Reads F.Tree tree.old tree.new }
+    ensures turns { Turns F.Tree pages.old tree.old pages.new tree.new }
     ensures read_fault { IsErrOf result LogFault.ReadFault →
         Rose (F.failed_reads tree.old) (F.failed_reads tree.new) }
 {
@@ -144,9 +139,9 @@ fn read_body<F: Tree>(
     }
 }
 
-/// Reads what a place has, where the record before starts at `before`, and leaves the bytes of a
-/// record in `bytes`.
-pub fn read_record<F: Tree>(
+/// Reads what a place has, page by page, where the record before starts at `before`, and leaves the
+/// bytes of a record in `bytes`.
+fn read_paged<F: Tree>(
     pages: &mut PageCursor,
     tree: &mut F,
     before: Option<u64>,
@@ -154,16 +149,13 @@ pub fn read_record<F: Tree>(
     bytes: &mut Vec<u8>,
 ) -> Result<Found, LogFault>
     requires empty { bytes.old.items ≡ [] }
-    ensures log { pages.new.log ≡ pages.old.log }
     ensures read { IsTrue F.tells → Knows pages.old (F.contents tree.old) →
         IfOk result (λ found. Gives place found bytes.new.items
         (reading (pages_of pages.old.log (F.contents tree.old)) (bytes_of pages.old.log.size)
         before place)) }
-    ensures fits { IfOk result (λ found. AllFit place found bytes.new.items) }
+    ensures fits { IfOk result (λ found. AllFit before place found bytes.new.items) }
     ensures from { IfOk result (FindsFrom (place + 1)) }
-    ensures knows { IsTrue F.tells → Knows pages.old (F.contents tree.old) →
-        Knows pages.new (F.contents tree.new) }
-    ensures reads { Reads F.Tree tree.old tree.new }
+    ensures turns { Turns F.Tree pages.old tree.old pages.new tree.new }
     ensures read_fault { IsErrOf result LogFault.ReadFault →
         Rose (F.failed_reads tree.old) (F.failed_reads tree.new) }
 {
@@ -186,4 +178,30 @@ pub fn read_record<F: Tree>(
     }
     let left = left.saturating_sub(room_of(number, size));
     read_body(pages, tree, before, place, number + 1, left, bytes)
+}
+
+/// Reads what a place has, where the record before starts at `before`, and leaves the bytes of a
+/// record in `bytes`. Most records lie within the page that is held.
+pub fn read_record<F: Tree>(
+    pages: &mut PageCursor,
+    tree: &mut F,
+    before: Option<u64>,
+    place: u64,
+    bytes: &mut Vec<u8>,
+) -> Result<Found, LogFault>
+    requires empty { bytes.old.items ≡ [] }
+    ensures read { IsTrue F.tells → Knows pages.old (F.contents tree.old) →
+        IfOk result (λ found. Gives place found bytes.new.items
+        (reading (pages_of pages.old.log (F.contents tree.old)) (bytes_of pages.old.log.size)
+        before place)) }
+    ensures fits { IfOk result (λ found. AllFit before place found bytes.new.items) }
+    ensures from { IfOk result (FindsFrom (place + 1)) }
+    ensures turns { Turns F.Tree pages.old tree.old pages.new tree.new }
+    ensures read_fault { IsErrOf result LogFault.ReadFault →
+        Rose (F.failed_reads tree.old) (F.failed_reads tree.new) }
+{
+    match read_within(pages, before, place, bytes)? {
+        Some(end) => Ok(Found::Record(end)),
+        None => read_paged(pages, tree, before, place, bytes),
+    }
 }

@@ -2,11 +2,10 @@
 
 ghost use Rattle.std.specs.Prelude.{◌≡◌, IsTrue, IfOk, IsErrOf};
 ghost use Rattle.cluster_tree.specs.Causes.{Rose};
-ghost use Rattle.cluster_tree.specs.Frame.{Reads};
 ghost use Rattle.wal_base.specs.Segment.{bytes_of};
 ghost use Rattle.wal_pages.specs.Cursor.{Knows};
 ghost use Rattle.wal_records.specs.Further.{pages_of};
-ghost use Rattle.wal_records.specs.Steps.{Seeks, SoughtFits};
+ghost use Rattle.wal_records.specs.Steps.{Seeks, SoughtFits, Turns};
 
 use crate::fault::LogFault;
 use crate::place::place_at;
@@ -33,15 +32,12 @@ pub fn find<F: Tree>(
     place: u64,
     bytes: &mut Vec<u8>,
 ) -> Result<Sought, LogFault>
-    ensures log { pages.new.log ≡ pages.old.log }
     ensures found { IsTrue F.tells → Knows pages.old (F.contents tree.old) →
         IfOk result (λ sought. Seeks
         (pages_of pages.old.log (F.contents tree.old)) (bytes_of pages.old.log.size)
         before place sought bytes.new.items) }
-    ensures fits { IfOk result (λ sought. SoughtFits place sought bytes.new.items) }
-    ensures knows { IsTrue F.tells → Knows pages.old (F.contents tree.old) →
-        Knows pages.new (F.contents tree.new) }
-    ensures reads { Reads F.Tree tree.old tree.new }
+    ensures fits { IfOk result (λ sought. SoughtFits before place sought bytes.new.items) }
+    ensures turns { Turns F.Tree pages.old tree.old pages.new tree.new }
     ensures read_fault { IsErrOf result LogFault.ReadFault →
         Rose (F.failed_reads tree.old) (F.failed_reads tree.new) }
 {

@@ -2,11 +2,10 @@
 
 ghost use Rattle.std.specs.Prelude.{◌≡◌, ◌≤◌, None, length, IfOk};
 
+mod alone;
 mod callers;
 mod faults;
-mod reasons;
-mod spans;
-mod unchanged;
+mod rows;
 mod written;
 
 use crate::{RecordCursor, Step, Why};
@@ -28,11 +27,19 @@ const FIRST_NAME: &str = "log/000000010000000000000001";
 
 const SECOND_NAME: &str = "log/000000010000000000000002";
 
+/// The last segment of all positions, and where its last page begins.
+const LAST_NAME: &str = "log/00000001FFFFFFFF00000FFF";
+
+const LAST_PAGE: u64 = u64::MAX - 8191;
+
 /// What stands at a position of the log.
 #[derive(Clone, Copy)]
 enum Cell<'a> {
     /// The header of a page: where it begins, its flags, and how many bytes are to come.
     Page(u64, u16, u32),
+    /// A record of a length, with a link back, whose body is of bytes 5A. What doesn't fit on its
+    /// page stands behind the short header of the next one.
+    Record(u64, u32, u64),
     /// Bytes.
     Bytes(u64, &'a [u8]),
 }
@@ -84,34 +91,47 @@ fn put(alloc: Global, tree: &mut MemoryTree, cell: Cell) -> Result<(), Fail> {
             let size = if at % FIRST == 0 { 40 } else { 24 };
             write(alloc, tree, at, &header[..size])
         }
+        Cell::Record(at, total, prev) => put_record(
+            alloc,
+            tree,
+            at,
+            &record_of(alloc, total, prev)?,
+        ),
         Cell::Bytes(at, bytes) => write(alloc, tree, at, bytes),
     }
 }
 
+/// Writes the bytes of a record, those that don't fit on its page behind the header of the next.
+fn put_record(alloc: Global, tree: &mut MemoryTree, at: u64, bytes: &[u8]) -> Result<(), Fail> {
+    let room = 8192 - at % 8192;
+    let first = bytes.len().min(room as usize);
+    write(alloc, tree, at, &bytes[..first])?;
+    if first < bytes.len() {
+        write(alloc, tree, at.saturating_add(room + 24), &bytes[first..])?;
+    }
+    Ok(())
+}
+
 /// Writes bytes at a position of the log.
 fn write(alloc: Global, tree: &mut MemoryTree, at: u64, bytes: &[u8]) -> Result<(), Fail> {
-    let name = if at < SECOND { FIRST_NAME } else { SECOND_NAME };
+    let name = if at < SECOND {
+        FIRST_NAME
+    } else if at < LAST_PAGE {
+        SECOND_NAME
+    } else {
+        LAST_NAME
+    };
     tree.write_at(&Path::parse(alloc, name)?, at % FIRST, bytes)?;
     Ok(())
 }
 
-/// The first 20 bytes of the header of a record.
-fn head_of(total: u32, prev: u64, manager: u8, info: u8) -> [u8; 20] {
+/// The bytes of a record of a length, with a link back, whose body is of bytes 5A.
+fn record_of(alloc: Global, total: u32, prev: u64) -> Result<Vec<u8>, Fail> {
+    let body = vec![in alloc; 0x5A; total.saturating_sub(24) as usize]?;
     let mut head = [0; 20];
     head[..4].copy_from_slice(&total.to_le_bytes());
     head[8..16].copy_from_slice(&prev.to_le_bytes());
-    head[16] = info;
-    head[17] = manager;
-    head
-}
-
-/// The bytes of a record of a length, with a link back, whose body is of bytes 5A.
-fn record_of(alloc: Global, total: u32, prev: u64, manager: u8, info: u8) -> Result<Vec<u8>, Fail>
-    requires { 24 ≤ total }
-    ensures { IfOk result (λ bytes. length bytes.items ≡ total) }
-{
-    let body = vec![in alloc; 0x5A; total as usize - 24]?;
-    let head = head_of(total, prev, manager, info);
+    head[17] = 10;
     let mut crc = Crc32c::new();
     crc.add(&body);
     crc.add(&head);

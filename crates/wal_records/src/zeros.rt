@@ -1,6 +1,7 @@
 //! Bytes that go on in zeros, over which more are written.
 
-ghost use Rattle.std.specs.Prelude.{◌≡◌, ◌+◌, ◌-◌, ◌≤◌, ◌++◌, [], length, take, drop, replicate, OnOk, OnErr};
+ghost use Rattle.std.specs.Prelude.{◌≡◌, ◌+◌, ◌-◌, ◌≤◌, ◌++◌, [], length, replicate, OnOk, OnErr};
+ghost use Rattle.layout.specs.Splice.{splice};
 ghost use Rattle.wal_records.specs.Zeros.{with_bytes};
 
 use std::alloc::{AllocError, Global};
@@ -29,9 +30,10 @@ impl Model for ZeroEnded {
 }
 
 /// Writes bytes at an offset, over what stood there.
+#[tactic(auto, unfolding(layout::specs::Splice::splice))]
 fn put(into: &mut [u8], at: usize, bytes: &[u8])
     requires room { at + length bytes.now ≤ length into.old }
-    ensures { into.new ≡ take at into.old ++ (bytes.now ++ drop (at + length bytes.now) into.old) }
+    ensures { into.new ≡ splice into.old at bytes.now }
 {
     into[at..at + bytes.len()].copy_from_slice(bytes);
 }

@@ -1,7 +1,7 @@
 //! Logs that are written, and read again. The expected positions are worked out by hand from the
 //! format: 40 bytes of header on a segment's first page and 24 on each other page.
 
-use super::spans::CHECKPOINT;
+use super::rows::CHECKPOINT;
 use super::*;
 use crate::LogWriter;
 use std::test::*;
@@ -50,103 +50,80 @@ pub fn tree_with(alloc: Global, writer: &LogWriter) -> Result<MemoryTree, Fail> 
     Ok(tree)
 }
 
-/// Appends records, and reads them again: where they start and end, and where the log ends and why.
-fn written_and_read(alloc: Global, records: &[New]) -> Result<(Given, Vec<u64>, u64), Fail> {
+/// A log of such records; where the last one starts and ends, the place where the log ends, and why.
+type Row<'a> = (&'a [New], (u64, u64), u64, Why);
+
+const ROWS: [Row; 8] = [
+    (&[], (0, FIRST), 0x10_0028, Why::ZeroLength),
+    // 8 bytes stand on the first page, 106 on the second
+    (
+        &[(0, 10, 8144), (0, 10, 114)],
+        (0x10_1FF8, 0x10_2088),
+        0x10_2088,
+        Why::ZeroLength,
+    ),
+    // the rest stands behind the long header of the next segment
+    (
+        &[(0, 10, 1_045_480), (0, 10, 114)],
+        (0x1F_FFF8, 0x20_0098),
+        0x20_0098,
+        Why::ZeroLength,
+    ),
+    // 256 bytes stand on the first page, 8168 on the second and 7976 on the third
+    (
+        &[(0, 10, 16_064), (0, 10, 16_400)],
+        (0x10_3F00, 0x10_7F40),
+        0x10_7F40,
+        Why::ZeroLength,
+    ),
+    // the second record begins behind the header of a page
+    (
+        &[(0, 10, 8152), (0, 10, 25)],
+        (0x10_2018, 0x10_2038),
+        0x10_2038,
+        Why::ZeroLength,
+    ),
+    // the next page has not begun
+    (
+        &[(0, 10, 8128), (0, 10, 24)],
+        (0x10_1FE8, 0x10_2000),
+        0x10_2018,
+        Why::Page,
+    ),
+    // a switch ends its segment
+    (
+        &[(0, 10, 1240), (0x40, 0, 24)],
+        (0x10_0500, 0x20_0000),
+        0x20_0028,
+        Why::Page,
+    ),
+    (
+        &[(0x40, 0, 24), (0, 10, 26)],
+        (0x20_0028, 0x20_0048),
+        0x20_0048,
+        Why::ZeroLength,
+    ),
+];
+
+/// Whether a log is written, and read again, as its row says.
+fn is_so(alloc: Global, row: Row) -> Result<bool, Fail> {
+    let (records, last, place, why) = row;
     let (writer, starts) = log_of(alloc, records)?;
-    let mut tree = tree_with(alloc, &writer)?;
-    let given = read_all(alloc, &mut tree, FIRST)?;
-    Ok((given, starts, writer.position().0))
+    let given = read_all(alloc, &mut tree_with(alloc, &writer)?, FIRST)?;
+    let start = starts.last().copied().unwrap_or(0);
+    let read = given.records.last().copied().unwrap_or((0, FIRST));
+    Ok(
+        (start, writer.position().0) == last
+            && read == last
+            && (given.place, given.why) == (place, why),
+    )
 }
 
-/// Each row: how long a record is that fills up to the one that is meant, and that one; where both
-/// start and end, the place where the log ends, and why.
 #[test]
 fn what_was_written_is_read_again(rt: HostRuntime) -> Result<(), Fail> {
-    let heap = 10;
-    let rows = [
-        // 8 bytes stand on the first page, 106 on the second
-        (
-            [(0, heap, 8144), (0, heap, 114)],
-            0x10_1FF8,
-            0x10_2088,
-            0x10_2088,
-            Why::ZeroLength,
-        ),
-        // the rest stands behind the long header of the next segment
-        (
-            [(0, heap, 1_045_480), (0, heap, 114)],
-            0x1F_FFF8,
-            0x20_0098,
-            0x20_0098,
-            Why::ZeroLength,
-        ),
-        // 256 bytes stand on the first page, 8168 on the second and 7976 on the third
-        (
-            [(0, heap, 16_064), (0, heap, 16_400)],
-            0x10_3F00,
-            0x10_7F40,
-            0x10_7F40,
-            Why::ZeroLength,
-        ),
-        // the second record begins behind the header of a page
-        (
-            [(0, heap, 8152), (0, heap, 25)],
-            0x10_2018,
-            0x10_2038,
-            0x10_2038,
-            Why::ZeroLength,
-        ),
-        // the next page has not begun
-        (
-            [(0, heap, 8128), (0, heap, 24)],
-            0x10_1FE8,
-            0x10_2000,
-            0x10_2018,
-            Why::Page,
-        ),
-        // a switch ends its segment
-        (
-            [(0, heap, 1240), (0x40, 0, 24)],
-            0x10_0500,
-            0x20_0000,
-            0x20_0028,
-            Why::Page,
-        ),
-        (
-            [(0x40, 0, 24), (0, heap, 26)],
-            0x20_0028,
-            0x20_0048,
-            0x20_0048,
-            Why::ZeroLength,
-        ),
-    ];
-    for (records, start, end, place, why) in rows {
-        let (given, starts, position) = written_and_read(rt.alloc(), &records)?;
-        assert_eq!(rt;
-            given.records.last().copied(),
-            Some((start, end)),
-            "{start:X}"
-        );
-        assert_eq!(rt;
-            starts.as_slice(),
-            [0x10_0028, start].as_slice(),
-            "{start:X}"
-        );
-        assert_eq!(rt;
-            (given.place, given.why, position),
-            (place, why, end),
-            "{start:X}"
-        );
+    for row in ROWS {
+        assert!(rt; is_so(rt.alloc(), row)?);
     }
-    Ok(())
-}
-
-#[test]
-fn a_log_of_no_records_is_at_its_end(rt: HostRuntime) -> Result<(), Fail> {
-    let (given, _, position) = written_and_read(rt.alloc(), &[])?;
-    assert!(rt; given.records.is_empty());
-    assert_eq!(rt; (given.place, given.why), (0x10_0028, Why::ZeroLength));
-    assert_eq!(rt; position, FIRST);
     Ok(())
 }
 

@@ -1,9 +1,8 @@
 use Rattle.std.proofs.Common.{◌≡◌, ◌≤◌, ◌*◌, ◌^◌, ◌-◌, IsTrue}
-use Rattle.cluster_tree.specs.Frame.{Reads}
 use Rattle.wal_base.specs.Segment.{bytes_of}
 use Rattle.wal_pages.specs.Cursor.{Knows}
 use Rattle.wal_records.specs.Further.{pages_of, further, gathered}
-use Rattle.wal_records.specs.Steps.{Grows}
+use Rattle.wal_records.specs.Steps.{Grows, Turns}
 use Rattle.wal_records.proofs.further.add_rest.Given as goal
 
 abbrev pub invariant-loop-left : goal.invariant-loop-left
@@ -11,13 +10,11 @@ invariant-loop-left g l =
     let pages = pages_of l.fn.pages.log (g.F.Tree.contents l.fn.tree) in
     let size = bytes_of l.fn.pages.log.size in
     record {
-      log : l.pages.log ≡ l.fn.pages.log;
-      reads : Reads g.F.Tree l.fn.tree l.tree;
+      turns : Turns g.F.Tree l.fn.pages l.fn.tree l.pages l.tree;
       fewer : l.left ≤ l.fn.left;
       grows : Grows l.fn.bytes.items l.bytes.items (l.fn.left - l.left);
       later : l.fn.number ≤ l.number;
       within : l.number ≤ 2 ^ 51;
-      knows : IsTrue g.F.Tree.tells → Knows l.fn.pages (g.F.Tree.contents l.fn.tree) → Knows l.pages (g.F.Tree.contents l.tree);
       on : IsTrue g.F.Tree.tells → Knows l.fn.pages (g.F.Tree.contents l.fn.tree) →
           gathered pages size l.bytes.items (further size (l.number * 8192) l.left)
           ≡ gathered pages size l.fn.bytes.items (further size (l.fn.number * 8192) l.fn.left);

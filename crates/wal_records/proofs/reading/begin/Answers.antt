@@ -60,7 +60,7 @@ returns-clause-read g c = λ tells knows before.
     let total : c.u32_at-total.result ≡ u32_at (c.args.place % 8192) page = c.u32_at-total.ensures ∙ ap (u32_at (c.args.place % 8192)) c.page.ensures.value in
     read_first (pages_of log (g.F.Tree.contents c.args.tree.now)) (bytes_of log.size) c.args.place before page c.u32_at-total.result _ here (opened.opened tells knows) on
     (sym c.length_fault.ensures.value ∙ c.in-None.is) total
-    (c.in_ok-extend_from_slice.ensures.items ∙ ap (λ b. b ++ c.piece_of.result.now) c.requires.empty ∙ c.piece_of.ensures.value ∙ ap (λ p. take c.u32_at-total.result (drop (c.args.place % 8192) p)) c.page-2.ensures.value)
+    (c.in_ok-add_piece.ensures.items ∙ ap (λ b. b ++ c.piece_of.result.now) c.requires.empty ∙ c.piece_of.ensures.value ∙ ap (λ p. take c.u32_at-total.result (drop (c.args.place % 8192) p)) c.page-2.ensures.value)
 
 pub returns-clause-fits : goal.returns-clause-fits
 returns-clause-fits g c =
@@ -68,4 +68,4 @@ returns-clause-fits g c =
     let opened = rw c.in-Page.is at c.in_ok-header.ensures in
     let total : c.u32_at-total.result ≡ u32_at (c.args.place % 8192) page = c.u32_at-total.ensures ∙ ap (u32_at (c.args.place % 8192)) c.page.ensures.value in
     first_part c.args.place c.u32_at-total.result page _ opened.page.0 (c.is_place.ensures.whole c.if-not-is_place.false) c.in-None.ensures.least c.in-None.ensures.greatest total
-    (c.in_ok-extend_from_slice.ensures.items ∙ ap (λ b. b ++ c.piece_of.result.now) c.requires.empty ∙ c.piece_of.ensures.value ∙ ap (λ p. take c.u32_at-total.result (drop (c.args.place % 8192) p)) c.page-2.ensures.value)
+    (c.in_ok-add_piece.ensures.items ∙ ap (λ b. b ++ c.piece_of.result.now) c.requires.empty ∙ c.piece_of.ensures.value ∙ ap (λ p. take c.u32_at-total.result (drop (c.args.place % 8192) p)) c.page-2.ensures.value)

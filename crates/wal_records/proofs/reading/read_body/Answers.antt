@@ -4,7 +4,7 @@ use Rattle.wal_records.specs.Header.{header_of, header_fault}
 use Rattle.wal_records.specs.Further.{pages_of, further, gathered}
 use Rattle.wal_records.specs.Reading.{seal_fault, sealed_end, record_of, Spelled}
 use Rattle.wal_records.proofs.ReadingLemmas.{body_fault, body_on, rest_stops, rest_sealed}
-use Rattle.wal_records.proofs.PartLemmas.{part_grows, all_there}
+use Rattle.wal_records.proofs.PartLemmas.{part_grows, all_there, link_kept}
 use Rattle.wal_records.proofs.reading.read_body.Goals as goal
 
 pub returns-in-Some-clause-read : goal.returns-in-Some-clause-read
@@ -60,7 +60,11 @@ returns-in-Ok-clause-fits g c =
     let all = c.add_rest.new.bytes.items in
     let total : ℕ = length bytes + c.args.left in
     let grows = c.in_ok-stop.ensures.grows c.in-None-2.is in
-    all_there c.args.place c.in-Ok.end total all (part_grows total c.args.left bytes all c.requires.part grows) grows.size (omega (arith, c.in-Ok.ensures.up, c.len.ensures))
+    record {
+      all = all_there c.args.place c.in-Ok.end total all (part_grows total c.args.left bytes all c.requires.part grows) grows.size (omega (arith, c.in-Ok.ensures.up, c.len.ensures));
+      linked = link_kept c.args.before c.args.place bytes all c.header_of.result grows.front c.requires.whole
+          (c.header_of.ensures.value ∙ ap header_of c.deref.ensures.value) c.in-None.ensures.linked;
+    }
 
 pub returns-in-Err-clause-read : goal.returns-in-Err-clause-read
 returns-in-Err-clause-read g c = λ tells knows.

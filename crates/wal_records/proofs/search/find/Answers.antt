@@ -5,13 +5,14 @@ use Rattle.wal_records.specs.Place.{place_at}
 use Rattle.wal_records.specs.Further.{pages_of}
 use Rattle.wal_records.specs.Reading.{Spelled, Stopped, record_of}
 use Rattle.wal_records.specs.Log.{log_from}
+use Rattle.wal_records.proofs.TurnLemmas.{turned_on}
 use Rattle.wal_records.proofs.LogLemmas.{log_on}
 use Rattle.wal_records.proofs.search.find.Goals as goal
 
 pub returns-in-Record-clause-found : goal.returns-in-Record-clause-found
 returns-in-Record-clause-found g c = λ tells knows.
     let log = c.args.pages.now.log in
-    let read = rw (c.in-Record.is, c.pages.invariant.log, c.pages.invariant.reads.same) at (c.in_ok-end.ensures.read tells (c.pages.invariant.knows tells knows)) in
+    let read = rw (c.in-Record.is, c.pages.invariant.turns.log, c.pages.invariant.turns.reads.same) at (c.in_ok-end.ensures.read tells (c.pages.invariant.turns.knows tells knows)) in
     c.pages.invariant.on tells knows
     ∙ log_on (pages_of log (g.F.Tree.contents c.args.tree.now)) (bytes_of log.size) c.pages.place c.args.before (Spelled (record_of c.pages.place c.in-Record.end c.read_record.new.bytes.items))
     (omega (arith, log.size.is_size.least)) c.pages.invariant.low read
@@ -19,7 +20,7 @@ returns-in-Record-clause-found g c = λ tells knows.
 pub returns-in-Stopped-Ends-clause-found : goal.returns-in-Stopped-Ends-clause-found
 returns-in-Stopped-Ends-clause-found g c = λ tells knows.
     let log = c.args.pages.now.log in
-    let read = rw (c.in-Stopped-Ends.is, c.in-Stopped-Ends.field-0-is, c.pages.invariant.log, c.pages.invariant.reads.same) at (c.in_ok-end.ensures.read tells (c.pages.invariant.knows tells knows)) in
+    let read = rw (c.in-Stopped-Ends.is, c.in-Stopped-Ends.field-0-is, c.pages.invariant.turns.log, c.pages.invariant.turns.reads.same) at (c.in_ok-end.ensures.read tells (c.pages.invariant.turns.knows tells knows)) in
     c.pages.invariant.on tells knows
     ∙ log_on (pages_of log (g.F.Tree.contents c.args.tree.now)) (bytes_of log.size) c.pages.place c.args.before (Stopped (Ends c.in-Stopped-Ends.why))
     (omega (arith, log.size.is_size.least)) c.pages.invariant.low read
@@ -29,18 +30,11 @@ pages-preserved g c =
     let log = c.args.pages.now.log in
     let from = (rw (c.in-Stopped-Dropped.is, c.in-Stopped-Dropped.field-0-is) at c.in_ok-end.ensures).from in
     record {
-      log = c.read_record.ensures.log ∙ c.pages.invariant.log;
-      reads = record {
-        same = c.read_record.ensures.reads.same ∙ c.pages.invariant.reads.same;
-        uncalled = c.read_record.ensures.reads.uncalled ∙ c.pages.invariant.reads.uncalled;
-        reads = omega (arith, c.read_record.ensures.reads.reads, c.pages.invariant.reads.reads);
-        changes = omega (arith, c.read_record.ensures.reads.changes, c.pages.invariant.reads.changes);
-      };
+      turns = turned_on g.F.Tree _ _ _ _ _ _ c.pages.invariant.turns c.read_record.ensures.turns;
       up = omega (arith, from, c.place_at-place.ensures.up, c.pages.invariant.up);
       low = omega arith;
-      knows = λ tells knows. c.read_record.ensures.knows tells (c.pages.invariant.knows tells knows);
       on = λ tells knows.
-          let read = rw (c.in-Stopped-Dropped.is, c.in-Stopped-Dropped.field-0-is, c.pages.invariant.log, c.pages.invariant.reads.same) at (c.in_ok-end.ensures.read tells (c.pages.invariant.knows tells knows)) in
+          let read = rw (c.in-Stopped-Dropped.is, c.in-Stopped-Dropped.field-0-is, c.pages.invariant.turns.log, c.pages.invariant.turns.reads.same) at (c.in_ok-end.ensures.read tells (c.pages.invariant.turns.knows tells knows)) in
           c.pages.invariant.on tells knows
           ∙ log_on (pages_of log (g.F.Tree.contents c.args.tree.now)) (bytes_of log.size) c.pages.place c.args.before (Stopped (Dropped c.in-Stopped-Dropped.page))
           (omega (arith, log.size.is_size.least)) c.pages.invariant.low read

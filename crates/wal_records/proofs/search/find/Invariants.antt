@@ -1,9 +1,9 @@
 use Rattle.std.proofs.Common.{◌≡◌, ◌-◌, ◌^◌, ◌≤◌, ◌<◌, IsTrue}
-use Rattle.cluster_tree.specs.Frame.{Reads}
 use Rattle.wal_base.specs.Segment.{bytes_of}
 use Rattle.wal_pages.specs.Cursor.{Knows}
 use Rattle.wal_records.specs.Further.{pages_of}
 use Rattle.wal_records.specs.Log.{log_from}
+use Rattle.wal_records.specs.Steps.{Turns}
 use Rattle.wal_records.proofs.search.find.Given as goal
 
 abbrev pub invariant-pages : goal.invariant-pages
@@ -11,11 +11,9 @@ invariant-pages g l =
     let pages = pages_of l.fn.pages.log (g.F.Tree.contents l.fn.tree) in
     let size = bytes_of l.fn.pages.log.size in
     record {
-      log : l.pages.log ≡ l.fn.pages.log;
-      reads : Reads g.F.Tree l.fn.tree l.tree;
+      turns : Turns g.F.Tree l.fn.pages l.fn.tree l.pages l.tree;
       up : l.fn.place ≤ l.place;
       low : l.place < 2 ^ 64;
-      knows : IsTrue g.F.Tree.tells → Knows l.fn.pages (g.F.Tree.contents l.fn.tree) → Knows l.pages (g.F.Tree.contents l.tree);
       on : IsTrue g.F.Tree.tells → Knows l.fn.pages (g.F.Tree.contents l.fn.tree) → log_from pages size l.before l.fn.place ≡ log_from pages size l.before l.place;
     }
 

@@ -9,7 +9,7 @@ use Rattle.wal_records.proofs.FurtherLemmas.{past_end, same_further}
 use Rattle.wal_records.proofs.PlaceLemmas.{next_page}
 use Rattle.wal_records.proofs.ReadingLemmas.{first_whole, first_reaches, front_stops, front_on, header_at}
 use Rattle.wal_records.proofs.PartLemmas.{part_grows, part_of}
-use Rattle.wal_records.proofs.reading.read_record.Goals as goal
+use Rattle.wal_records.proofs.reading.read_paged.Goals as goal
 
 pub returns-in-Stopped-clause-read : goal.returns-in-Stopped-clause-read
 returns-in-Stopped-clause-read g c = λ tells knows. (rw c.in-Stopped.is at c.in_ok-stop.ensures).read tells knows c.args.before
@@ -24,7 +24,7 @@ returns-then-len-ge-HEADER_SIZE-clause-read g c = λ tells knows.
     let page : ℕ = (c.args.place / 8192 + 1) * 8192 in
     let left : ℕ = total - c.len.result in
     let begun = rw c.in-Total.is at c.in_ok-stop.ensures in
-    let held = rw (c.begin.ensures.log, c.begin.ensures.reads.same) at (c.read_body.ensures.read tells (c.begin.ensures.knows tells knows)) in
+    let held = rw (c.begin.ensures.turns.log, c.begin.ensures.turns.reads.same) at (c.read_body.ensures.read tells (c.begin.ensures.turns.knows tells knows)) in
     let sum : total ≡ length bytes + left = omega (arith, begun.fits.first, c.len.ensures) in
     let is = begun.read tells knows c.args.before
     ∙ first_whole pages size c.args.place total page left c.args.before bytes (omega arith) (next_page c.args.place) (omega arith)
@@ -55,7 +55,7 @@ returns-in-Some-clause-read g c = λ tells knows.
     let page : ℕ = (c.args.place / 8192 + 1) * 8192 in
     let left : ℕ = total - c.len.result in
     let begun = rw c.in-Total.is at c.in_ok-stop.ensures in
-    let added = rw (c.in-Some.is, c.begin.ensures.log, c.begin.ensures.reads.same) at (c.in_ok-stop-2.ensures.added tells (c.begin.ensures.knows tells knows)) in
+    let added = rw (c.in-Some.is, c.begin.ensures.turns.log, c.begin.ensures.turns.reads.same) at (c.in_ok-stop-2.ensures.added tells (c.begin.ensures.turns.knows tells knows)) in
     begun.read tells knows c.args.before
     ∙ first_reaches pages (bytes_of log.size) c.args.place total page left c.args.before bytes (omega arith) (next_page c.args.place) (omega arith)
     ∙ front_stops pages (bytes_of log.size) c.args.place total c.args.before (further_page page left) bytes c.in-Some.stop added.stop_is
@@ -68,7 +68,7 @@ read_body-requires-2-clause-part g c =
     let page : ℕ = (c.args.place / 8192 + 1) * 8192 in
     let left : ℕ = total - c.len.result in
     let begun = rw c.in-Total.is at c.in_ok-stop.ensures in
-    let grows = rw c.begin.ensures.log at (c.in_ok-stop-2.ensures.grows c.in-None.is) in
+    let grows = rw c.begin.ensures.turns.log at (c.in_ok-stop-2.ensures.grows c.in-None.is) in
     let room_is : c.room_of.result ≡ room (bytes_of log.size) page = c.room_of.ensures.value ∙ ap (λ s. room (bytes_of s) page) c.size-size.ensures.value in
     let sum : total ≡ length c.add_page.new.bytes.items + c.saturating_sub-left.result = omega (arith, grows.size, room_is, begun.fits.first, c.len.ensures, c.saturating_sub-left.ensures) in
     part_of total _ c.add_page.new.bytes.items sum (part_grows total (min left (room (bytes_of log.size) page)) bytes c.add_page.new.bytes.items begun.fits.part grows)
@@ -84,13 +84,13 @@ returns-clause-read g c = λ tells knows.
     let page : ℕ = (c.args.place / 8192 + 1) * 8192 in
     let left : ℕ = total - c.len.result in
     let begun = rw c.in-Total.is at c.in_ok-stop.ensures in
-    let grows = rw c.begin.ensures.log at (c.in_ok-stop-2.ensures.grows c.in-None.is) in
-    let added = rw (c.in-None.is, c.begin.ensures.log, c.begin.ensures.reads.same) at (c.in_ok-stop-2.ensures.added tells (c.begin.ensures.knows tells knows)) in
+    let grows = rw c.begin.ensures.turns.log at (c.in_ok-stop-2.ensures.grows c.in-None.is) in
+    let added = rw (c.in-None.is, c.begin.ensures.turns.log, c.begin.ensures.turns.reads.same) at (c.in_ok-stop-2.ensures.added tells (c.begin.ensures.turns.knows tells knows)) in
     let room_is : c.room_of.result ≡ room size page = c.room_of.ensures.value ∙ ap (λ s. room (bytes_of s) page) c.size-size.ensures.value in
     let sum : total ≡ length all + c.saturating_sub-left.result = omega (arith, grows.size, room_is, begun.fits.first, c.len.ensures, c.saturating_sub-left.ensures) in
     let after : left - room size page ≡ c.saturating_sub-left.result = omega (arith, room_is, c.saturating_sub-left.ensures) in
     let next : page + 8192 ≡ (c.args.place / 8192 + 1 + 1) * 8192 = omega arith in
-    let held = rw (c.add_page.ensures.log, c.begin.ensures.log, c.add_page.ensures.reads.same, c.begin.ensures.reads.same) at (c.read_body-2.ensures.read tells (c.add_page.ensures.knows tells (c.begin.ensures.knows tells knows))) in
+    let held = rw (c.add_page.ensures.turns.log, c.begin.ensures.turns.log, c.add_page.ensures.turns.reads.same, c.begin.ensures.turns.reads.same) at (c.read_body-2.ensures.read tells (c.add_page.ensures.turns.knows tells (c.begin.ensures.turns.knows tells knows))) in
     let is = begun.read tells knows c.args.before
     ∙ first_reaches pages size c.args.place total page left c.args.before bytes (omega arith) (next_page c.args.place) (omega arith)
     ∙ front_on pages size c.args.place total c.args.before (further_page page left) bytes added.stop_is
