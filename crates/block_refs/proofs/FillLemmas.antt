@@ -5,7 +5,7 @@ use Rattle.std.proofs.lemmas.List.{take-append-drop, drop-drop}
 use Rattle.block_refs.specs.declared.fragment.Fragment.{Fragment}
 use Rattle.block_refs.specs.declared.fragment.Fragment.TheVariants.{Block, Main, Other}
 use Rattle.block_refs.specs.declared.fragment.Piece.{Piece}
-use Rattle.block_refs.specs.declared.fragment.Placed.{Placed}
+use Rattle.block_refs.specs.declared.placed.Placed.{Placed}
 use Rattle.block_refs.specs.declared.fragment.Seen.{Seen}
 use Rattle.block_refs.specs.Fragment.{image_size, announced_by}
 use Rattle.block_refs.specs.Parts.{PartsView, nothing_seen, after, placed_by}

@@ -16,7 +16,7 @@ use Rattle.block_refs.specs.Names.{fork_number, fork_of}
 use Rattle.block_refs.specs.Bits.{has_image, has_bytes, will_init, is_same_rel, has_hole, is_applied, is_compressed, has_unknown}
 use Rattle.block_refs.specs.Image.{fills_page, image_of, image_at, image_end}
 use Rattle.block_refs.specs.Header.{is_above, is_id_after, bytes_agree, relation_at, relation_before, relation_end, relation_of, head_with, head_whole, head_from, head_behind, head_at}
-use Rattle.block_refs.specs.Standing.{IsImage, IsRelation, flags_at, behind_image, behind_relation, IsHead}
+use Rattle.block_refs.specs.Standing.{IsImage, IsImageWidth, IsRelation, IsRelationWidth, flags_at, IsHead}
 use Rattle.block_refs.proofs.Steps.{then_some, else_some, either_some, bind_some, some_is, agree_found, agree_again}
 
 -- ---- forks
@@ -156,6 +156,58 @@ relation_again body at flags before rel (inr h) room =
 
 -- ---- headers
 
+-- where the header's image and relation end
+abbrev behind_image : List ℕ → ℕ → ℕ
+behind_image body at = image_end body (at + 4) (flags_at body at)
+
+abbrev behind_relation : List ℕ → ℕ → ℕ
+behind_relation body at = relation_end (behind_image body at) (flags_at body at)
+
+-- an image's header has so many bytes
+image_ends : (body : List ℕ) (at flags : ℕ) (image : Image) (width : ℕ) → IsImage body at flags image → IsImageWidth (u8_at (at + 4) body) image width → image_end body at flags ≡ at + width
+image_ends body at flags Missing width h w = rw h (omega (arith, w))
+image_ends body at flags (Plain image) width h w = rw (h.0, h.2.plain) (omega (arith, w))
+image_ends body at flags Compressed width h (inl w) = rw (h.0, h.3, w.0) (omega (arith, w.1))
+image_ends body at flags Compressed width h (inr w) = rw (h.0, h.3, w.0) (omega (arith, w.1))
+
+-- and there is one such number
+image_width_of : (info : ℕ) (image : Image) → (width : ℕ) × IsImageWidth info image width
+image_width_of info Missing = (0, refl)
+image_width_of info (Plain image) = (5, refl)
+image_width_of info Compressed = by (has_hole info) refl
+  where
+    by : (b : Bool) → has_hole info ≡ b → (width : ℕ) × IsImageWidth info Compressed width
+    by true h = (7, inl (h, refl))
+    by false h = (5, inr (h, refl))
+
+relation_ends : (at flags width : ℕ) → IsRelationWidth flags width → relation_end at flags ≡ at + width
+relation_ends at flags width (inl w) = rw w.0 (omega (arith, w.1))
+relation_ends at flags width (inr w) = rw w.0 (omega (arith, w.1))
+
+relation_width_of : (flags : ℕ) → (width : ℕ) × IsRelationWidth flags width
+relation_width_of flags = by (is_same_rel flags) refl
+  where
+    by : (b : Bool) → is_same_rel flags ≡ b → (width : ℕ) × IsRelationWidth flags width
+    by true h = (0, inl (h, refl))
+    by false h = (12, inr (h, refl))
+
+info_at : (body : List ℕ) (at : ℕ) → u8_at (at + 8) body ≡ u8_at (at + 4 + 4) body
+info_at body at = let e : at + 8 ≡ at + 4 + 4 = omega arith in ap (λ (k : ℕ). u8_at k body) e
+
+-- both ends, where the widths are these
+record Ends (body : List ℕ) (at image_width relation_width : ℕ) : Type 0 where
+  image : behind_image body at ≡ at + 4 + image_width
+  relation : behind_relation body at ≡ at + 4 + image_width + relation_width
+
+ends_by : (body : List ℕ) (at : ℕ) (image : Image) (image_width relation_width : ℕ) → IsImage body (at + 4) (flags_at body at) image → IsImageWidth (u8_at (at + 8) body) image image_width
+    → IsRelationWidth (flags_at body at) relation_width → Ends body at image_width relation_width
+ends_by body at image image_width relation_width h w r =
+    let first : behind_image body at ≡ at + 4 + image_width = image_ends body (at + 4) (flags_at body at) image image_width h (subst (λ i. IsImageWidth i image image_width) (info_at body at) w) in
+    record {
+      image = first;
+      relation = relation_ends (behind_image body at) (flags_at body at) relation_width r ∙ ap (λ (k : ℕ). k + relation_width) first;
+    }
+
 -- the id is behind the one before
 rises_found : (before : Option BlockRef) (id : ℕ) → is_above before id ≡ true → IfSome before (λ last. last.id < id)
 rises_found None id e = tt
@@ -177,6 +229,11 @@ head_found body at before head e =
     let i = bind_some (head_from body at (behind_image body at) before f.0) (image_at body (at + 4) flags) head f.2 in
     let r = bind_some (head_whole body at (behind_relation body at) f.0 i.0) (relation_of body (behind_image body at) flags before) head i.2 in
     let w = else_some (ltb (length body) (behind_relation body at + 4)) (Some (head_with body at (behind_relation body at) f.0 i.0 r.0)) head r.2 in
+    let is = image_found body (at + 4) flags i.0 i.1 in
+    let iw = image_width_of (u8_at (at + 8) body) i.0 in
+    let rel = relation_width_of flags in
+    let ends = ends_by body at i.0 iw.0 rel.0 is iw.1 rel.1 in
+    let end = ends.relation in
     subst (λ h. IsHead body at before h) (some_is (head_with body at (behind_relation body at) f.0 i.0 r.0) head w.1) (record {
       id = refl {a = u8_at at body};
       greatest = grind (arith, nat_tests, ids.0);
@@ -185,45 +242,35 @@ head_found body at before head e =
       will_init = refl {a = will_init (flags_at body at)};
       size = refl {a = u16_at (at + 2) body};
       bytes = agree_found (has_bytes flags) (u16_at (at + 2) body) tests.1;
-      image = image_found body (at + 4) flags i.0 i.1;
-      relation = relation_found body (behind_image body at) flags before r.0 r.1;
-      block = refl {a = u32_at (behind_relation body at) body};
-      next = refl {a = behind_relation body at + 4};
+      image = is;
+      image_width = iw.0;
+      image_fills = iw.1;
+      relation = subst (λ k. IsRelation body k flags before r.0) ends.image (relation_found body (behind_image body at) flags before r.0 r.1);
+      relation_width = rel.0;
+      relation_fills = rel.1;
+      block = ap (λ (k : ℕ). u32_at k body) (sym end);
+      next = omega arith;
       within = ltb-false (length body) (behind_relation body at + 4) w.0;
     })
 
 -- the header of these parts
-head_is : (body : List ℕ) (at : ℕ) (before : Option BlockRef) (head : Head) → IsHead body at before head → head_with body at (behind_relation body at) head.name.fork head.image head.name.rel ≡ head
-head_is body at before head h = rw (h.id, h.block, h.will_init, h.size, ← h.next) refl
-
-pub image_end_above : (body : List ℕ) (at flags : ℕ) → at ≤ image_end body at flags
-image_end_above body at flags = by (has_image flags) (is_compressed (u8_at (at + 4) body) && has_hole (u8_at (at + 4) body))
-  where
-    by : (image long : Bool) → at ≤ cond image (at + cond long 7 5) at
-    by true true = omega arith
-    by true false = omega arith
-    by false long = omega arith
-
-pub relation_end_above : (at flags : ℕ) → at ≤ relation_end at flags
-relation_end_above at flags = by (is_same_rel flags)
-  where
-    by : (same : Bool) → at ≤ cond same at (at + 12)
-    by true = omega arith
-    by false = omega arith
+head_is : (body : List ℕ) (at number : ℕ) (before : Option BlockRef) (head : Head) → IsHead body at before head → u32_at number body ≡ head.name.block → head.next ≡ number + 4
+    → head_with body at number head.name.fork head.image head.name.rel ≡ head
+head_is body at number before head h block next = rw (h.id, block, h.will_init, h.size, ← next) refl
 
 pub head_above : (body : List ℕ) (at : ℕ) (before : Option BlockRef) (head : Head) → IsHead body at before head → at + 8 ≤ head.next
 head_above body at before head h =
-    let a = image_end_above body (at + 4) (flags_at body at) in
-    let b = relation_end_above (behind_image body at) (flags_at body at) in
-    let n = h.next in
-    omega arith
+    let n = h.next in omega arith
 
 pub head_again : (body : List ℕ) (at : ℕ) (before : Option BlockRef) (head : Head) → IsHead body at before head → head_at body at before ≡ Some head
 unfolding head_at head_behind head_from
 head_again body at before head h =
     let flags = flags_at body at in
     let above = head_above body at before head h in
-    let next = h.next in
+    let ends = ends_by body at head.image h.image_width h.relation_width h.image h.image_fills h.relation_fills in
+    let end = ends.relation in
+    let next : head.next ≡ behind_relation body at + 4 = omega (arith, h.next) in
+    let block : u32_at (behind_relation body at) body ≡ head.name.block = ap (λ (k : ℕ). u32_at k body) end ∙ h.block in
     let within = h.within in
     let room : ltb (length body) (at + 4) ≡ false = le-ltb (length body) (at + 4) (omega arith) in
     let small : leb (u8_at at body) 32 ≡ true = rw h.id (grind (arith, nat_tests, h.greatest)) in
@@ -231,6 +278,6 @@ head_again body at before head h =
     let bytes : bytes_agree flags (u16_at (at + 2) body) ≡ true = rw h.size (agree_again (has_bytes flags) head.size h.bytes) in
     let fork : fork_of (bit_and flags 0x0F) ≡ Some head.name.fork = ap fork_of h.fork ∙ fork_again head.name.fork in
     let image : image_at body (at + 4) flags ≡ Some head.image = image_again body (at + 4) flags head.image h.image in
-    let relation : relation_of body (behind_image body at) flags before ≡ Some head.name.rel = relation_again body (behind_image body at) flags before head.name.rel h.relation (omega arith) in
+    let relation : relation_of body (behind_image body at) flags before ≡ Some head.name.rel = relation_again body (behind_image body at) flags before head.name.rel (subst (λ k. IsRelation body k flags before head.name.rel) (sym ends.image) h.relation) (omega arith) in
     let end : ltb (length body) (behind_relation body at + 4) ≡ false = le-ltb (length body) (behind_relation body at + 4) (omega arith) in
-    rw (room, small, rises, bytes, fork, image, relation, end) (ap (λ (x : Head). Some x) (head_is body at before head h))
+    rw (room, small, rises, bytes, fork, image, relation, end) (ap (λ (x : Head). Some x) (head_is body at (behind_relation body at) before head h block next))

@@ -4,7 +4,7 @@ use Rattle.std.proofs.lemmas.Bool.{eqb-true}
 use Rattle.std.proofs.lemmas.Bool.Decides.{nat_tests}
 use Rattle.block_refs.specs.declared.fault.Flaw.{Flaw}
 use Rattle.block_refs.specs.declared.fragment.Piece.{Piece}
-use Rattle.block_refs.specs.declared.fragment.Placed.{Placed}
+use Rattle.block_refs.specs.declared.placed.Placed.{Placed}
 use Rattle.block_refs.specs.declared.fragment.Seen.{Seen}
 use Rattle.block_refs.specs.Fragment.{given, piece_at}
 use Rattle.block_refs.specs.Parts.{PartsView, nothing_seen, after, is_ended, placed_by, ended_at, with_blocks, led_by, parts_from, parts_of}

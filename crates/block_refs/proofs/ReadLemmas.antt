@@ -1,18 +1,25 @@
 -- Reading fragments one after another.
-use Rattle.std.proofs.Common.{◌≡◌, ℕ, zero, suc, ◌+◌, ◌-◌, ◌<◌, ◌≤◌, true, false, List, [], ◌++◌, length, Result, Ok, Err, refl, sym, ap, ◌∙◌, append_assoc, arith}
-use Rattle.std.proofs.lemmas.List.{append-nil}
+use Rattle.std.proofs.Common.{◌≡◌, ℕ, zero, suc, ◌+◌, ◌-◌, ◌<◌, ◌≤◌, true, false, List, [], ◌++◌, length, Option, Some, None, Result, Ok, Err, refl, sym, ap, ◌∙◌, append_assoc, arith}
+use Rattle.std.proofs.lemmas.List.{append-nil, length-append}
 use Rattle.std.proofs.lemmas.List.Sums.{sum_by-append}
+use Rattle.block_refs.specs.declared.block_ref.BlockRef.{BlockRef}
 use Rattle.block_refs.specs.declared.fault.Flaw.{Flaw}
 use Rattle.block_refs.specs.declared.fragment.Fragment.{Fragment}
 use Rattle.block_refs.specs.declared.fragment.Fragment.TheVariants.{Block, Main, Other}
 use Rattle.block_refs.specs.declared.fragment.Piece.{Piece}
-use Rattle.block_refs.specs.declared.fragment.Placed.{Placed}
+use Rattle.block_refs.specs.declared.placed.Placed.{Placed}
 use Rattle.block_refs.specs.declared.fragment.Seen.{Seen}
 use Rattle.block_refs.specs.Fragment.{image_size, announced_by, piece_at}
-use Rattle.block_refs.specs.Parts.{PartsView, nothing_seen, main_size, after, is_ended, placed_by, led_by, parts_from, parts_of}
+use Rattle.block_refs.specs.Parts.{PartsView, nothing_seen, last_block, main_size, after, is_ended, placed_by, led_by, parts_from, parts_of}
 use Rattle.block_refs.specs.Bytes.{image_total}
+use Rattle.block_refs.specs.Standing.{IsFragment}
 use Rattle.block_refs.proofs.PieceLemmas.{piece_found, piece_above}
 use Rattle.block_refs.proofs.PartsLemmas.{ended_step, piece_step, flaw_step}
+
+-- how many blocks there may be up to a block reference, since ids rise
+abbrev ids_to : Option BlockRef → ℕ
+ids_to None = 0
+ids_to (Some block) = suc block.id
 
 -- these blocks were read so far, and the rest is still read
 pub record Reading (body : List ℕ) (seen : Seen) (blocks : List Placed) : Type 0 where
@@ -21,6 +28,8 @@ pub record Reading (body : List ℕ) (seen : Seen) (blocks : List Placed) : Type
   pub room : seen.at + seen.announced ≤ length body
   pub main : seen.main ≤ seen.announced
   pub total : image_total blocks ≤ seen.announced
+  pub few : length blocks ≤ ids_to seen.before
+  pub most : ids_to seen.before ≤ 33
   pub so_far : led_by blocks (parts_from fuel body seen) ≡ parts_of body
 
 led_by_none : (r : Result PartsView Flaw) → led_by [] r ≡ r
@@ -39,6 +48,8 @@ begun body = record {
   room = omega arith;
   main = omega arith;
   total = omega arith;
+  few = omega arith;
+  most = omega arith;
   so_far = led_by_none (parts_from (suc (length body)) body nothing_seen);
 }
 
@@ -56,6 +67,23 @@ total_by at (Block block size) = omega arith
 total_by at (Main size) = omega arith
 total_by at Other = omega arith
 
+-- one more block at most, whose id is above those before it
+few_by : (body : List ℕ) (at : ℕ) (before : Option BlockRef) (fragment : Fragment) (next place count : ℕ) → IsFragment body at before fragment next → count ≤ ids_to before → ids_to before ≤ 33
+    → (count + length (placed_by place fragment) ≤ ids_to (last_block before fragment)) × (ids_to (last_block before fragment) ≤ 33)
+few_by body at None (Block block size) next place count h few most = let greatest = h.greatest in (omega arith, omega arith)
+few_by body at (Some last) (Block block size) next place count h few most = let greatest = h.greatest in let rises = h.rises in (omega arith, omega arith)
+few_by body at before (Main size) next place count h few most = (omega arith, most)
+few_by body at before Other next place count h few most = (omega arith, most)
+
+-- there is room for the block of a fragment that stands there
+pub has_room : (body : List ℕ) (seen : Seen) (blocks : List Placed) (piece : Piece) → Reading body seen blocks → piece_at body seen ≡ Ok piece → length blocks + length (placed_by seen.announced piece.fragment) ≤ 33
+has_room body seen blocks piece h read =
+    let stands = piece_found body seen piece read in
+    let few = few_by body seen.at seen.before piece.fragment piece.next seen.announced (length blocks) stands.stands h.few h.most in
+    let count = few.0 in
+    let most = few.1 in
+    omega arith
+
 -- a fragment that stands there, and what was read
 pub goes_on : (body : List ℕ) (seen : Seen) (blocks : List Placed) (piece : Piece) → Reading body seen blocks → is_ended body seen ≡ false → piece_at body seen ≡ Ok piece
     → Reading body (after seen piece) (blocks ++ placed_by seen.announced piece.fragment)
@@ -72,12 +100,17 @@ goes_on body seen blocks piece h e read = by h.fuel h.enough h.so_far
         let images : image_total placed ≤ announced_by piece.fragment = total_by seen.announced piece.fragment in
         let all : image_total (blocks ++ placed) ≡ image_total blocks + image_total placed = sum_by-append (λ p. image_size p.block) blocks placed in
         let total = h.total in
+        let few = few_by body seen.at seen.before piece.fragment piece.next seen.announced (length blocks) stands.stands h.few h.most in
+        let count : length (blocks ++ placed) ≡ length blocks + length placed = length-append blocks placed in
+        let added = few.0 in
         record {
           fuel = more;
           enough = omega arith;
           room = fits;
           main = main_within seen.main seen.announced piece.fragment h.main;
           total = omega arith;
+          few = omega arith;
+          most = few.1;
           so_far = sym (led_twice blocks placed (parts_from more body (after seen piece))) ∙ ap (led_by blocks) (sym (piece_step body more seen piece e read)) ∙ so_far;
         }
 

@@ -7,7 +7,7 @@ use Rattle.block_refs.specs.declared.block_ref.BlockRef.{BlockRef}
 use Rattle.block_refs.specs.declared.fragment.Fragment.{Fragment}
 use Rattle.block_refs.specs.declared.fragment.Fragment.TheVariants.{Block, Main, Other}
 use Rattle.block_refs.specs.declared.fragment.Piece.{Piece}
-use Rattle.block_refs.specs.declared.fragment.Placed.{Placed}
+use Rattle.block_refs.specs.declared.placed.Placed.{Placed}
 use Rattle.block_refs.specs.declared.fragment.Seen.{Seen}
 use Rattle.block_refs.specs.Fragment.{announced_by}
 use Rattle.block_refs.specs.Parts.{PartsView, nothing_seen, last_block, after, placed_by}

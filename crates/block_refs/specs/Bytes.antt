@@ -2,7 +2,7 @@
 -- XLogRecGetBlockData and RestoreBlockImage.
 use Rattle.std.specs.Prelude.{ℕ, ◌+◌, ◌==◌, List, ◌++◌, take, drop, replicate, find, sum_by, Option, Some, None, option_map, option_and_then}
 use Rattle.block_refs.specs.declared.block_ref.ImageRef.{ImageRef}
-use Rattle.block_refs.specs.declared.fragment.Placed.{Placed}
+use Rattle.block_refs.specs.declared.placed.Placed.{Placed}
 use Rattle.block_refs.specs.Fragment.{image_size}
 use Rattle.block_refs.specs.Parts.{PartsView}
 

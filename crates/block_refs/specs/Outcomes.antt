@@ -1,12 +1,12 @@
 -- What a caller is told of a record's parts.
-use Rattle.std.specs.Prelude.{List, ◌≡◌, ◌⊎◌, Result, Ok, Err, MatchResult}
+use Rattle.std.specs.Prelude.{List, ◌≡◌, Result, Ok, Err, MatchResult}
 use Rattle.wal_base.specs.declared.lsn.Lsn.{Lsn}
 use Rattle.wal_records.specs.Reading.{LogRecord}
 use Rattle.block_refs.specs.declared.fault.Flaw.{Flaw}
 use Rattle.block_refs.specs.declared.fault.Flaw.TheVariants.{Bad, Compressed}
 use Rattle.block_refs.specs.declared.fault.PartsFault.{PartsFault}
 use Rattle.block_refs.specs.declared.fault.PartsFault.TheVariants as fault
-use Rattle.block_refs.specs.declared.fragment.Placed.{Placed}
+use Rattle.block_refs.specs.declared.placed.Placed.{Placed}
 use Rattle.block_refs.specs.declared.reading.Bounds.{Bounds}
 use Rattle.block_refs.specs.Parts.{PartsView, parts_of}
 
@@ -27,15 +27,9 @@ start_of rec = record { 0 = rec.start }
 abbrev pub record_parts : LogRecord → Result PartsView PartsFault
 record_parts rec = told (start_of rec) (parts_of rec.body)
 
--- the answer is this one, or that there was no memory
-abbrev pub Meets : {A : Type 0} → Result A PartsFault → Result A PartsFault → Type 0
-Meets meant result =
-    MatchResult result (λ value. meant ≡ Ok value) (λ e. (e ≡ fault.OutOfMemory) ⊎ (meant ≡ Err e))
-
--- the same of an answer that leaves its value in a place
+-- an answer that leaves its value in a place is this one
 abbrev pub MeetsIn : {A : Type 0} → Result A PartsFault → A → Result (Unit {0}) PartsFault → Type 0
-MeetsIn meant value result =
-    MatchResult result (λ _. meant ≡ Ok value) (λ e. (e ≡ fault.OutOfMemory) ⊎ (meant ≡ Err e))
+MeetsIn meant value result = MatchResult result (λ _. meant ≡ Ok value) (λ e. meant ≡ Err e)
 
 -- parts with these bounds and blocks
 abbrev pub parts_in : Bounds → List Placed → PartsView
@@ -44,4 +38,4 @@ parts_in bounds blocks = record { start = bounds.start; blocks = blocks; main = 
 -- the parts of a record at a position, of which the blocks are left in a place and the bounds are told
 abbrev pub MeetsAt : Lsn → Result PartsView Flaw → List Placed → Result Bounds PartsFault → Type 0
 MeetsAt start meant blocks result =
-    MatchResult result (λ bounds. meant ≡ Ok (parts_in bounds blocks)) (λ e. (e ≡ fault.OutOfMemory) ⊎ (told start meant ≡ Err e))
+    MatchResult result (λ bounds. meant ≡ Ok (parts_in bounds blocks)) (λ e. told start meant ≡ Err e)

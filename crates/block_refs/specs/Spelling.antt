@@ -6,7 +6,7 @@ use Rattle.block_refs.specs.declared.fault.Flaw.TheVariants as flaw
 use Rattle.block_refs.specs.declared.fragment.Fragment.{Fragment}
 use Rattle.block_refs.specs.declared.fragment.Fragment.TheVariants.{Block, Main, Other}
 use Rattle.block_refs.specs.declared.fragment.Piece.{Piece}
-use Rattle.block_refs.specs.declared.fragment.Placed.{Placed}
+use Rattle.block_refs.specs.declared.placed.Placed.{Placed}
 use Rattle.block_refs.specs.declared.fragment.Seen.{Seen}
 use Rattle.block_refs.specs.declared.header.Head.{Head}
 use Rattle.block_refs.specs.declared.image.Image.TheVariants.{Compressed}

@@ -12,8 +12,7 @@ use Rattle.block_refs.specs.declared.image.Image.{Image}
 use Rattle.block_refs.specs.declared.image.Image.TheVariants.{Missing, Plain, Compressed}
 use Rattle.block_refs.specs.Names.{fork_number}
 use Rattle.block_refs.specs.Bits.{has_image, has_bytes, will_init, is_same_rel, has_hole, is_applied, is_compressed, has_unknown}
-use Rattle.block_refs.specs.Image.{image_end}
-use Rattle.block_refs.specs.Header.{relation_end, relation_at}
+use Rattle.block_refs.specs.Header.{relation_at}
 
 -- a page's hole: it has an offset and a length and lies within the page; or there is none
 abbrev pub IsHole : ImageRef → ℕ → Type 0
@@ -38,23 +37,31 @@ IsImage body at flags Compressed =
     (has_image flags ≡ true) × (at + 5 ≤ length body) × (has_unknown (u8_at (at + 4) body) ≡ false)
     × (is_compressed (u8_at (at + 4) body) ≡ true)
 
+-- how many bytes the header of an image has: none where there is none, five, and seven where the length of a hole
+-- stands behind them
+abbrev pub IsImageWidth : ℕ → Image → ℕ → Type 0
+IsImageWidth info Missing width = width ≡ 0
+IsImageWidth info (Plain image) width = width ≡ 5
+IsImageWidth info Compressed width =
+    ((has_hole info ≡ true) × (width ≡ 7)) ⊎ ((has_hole info ≡ false) × (width ≡ 5))
+
 -- the relation of a block reference with these flags: that of the block before, or the one at an offset
 abbrev pub IsRelation : List ℕ → ℕ → ℕ → Option BlockRef → RelName → Type 0
 IsRelation body at flags before rel =
     ((is_same_rel flags ≡ true) × (last : BlockRef) × (before ≡ Some last) × (rel ≡ last.name.rel))
     ⊎ ((is_same_rel flags ≡ false) × (rel ≡ relation_at body at))
 
--- where the header's image and relation end
+-- how many bytes its numbers have: none, or twelve
+abbrev pub IsRelationWidth : ℕ → ℕ → Type 0
+IsRelationWidth flags width =
+    ((is_same_rel flags ≡ true) × (width ≡ 0)) ⊎ ((is_same_rel flags ≡ false) × (width ≡ 12))
+
+-- the flags of the header at an offset
 abbrev pub flags_at : List ℕ → ℕ → ℕ
 flags_at body at = u8_at (at + 1) body
 
-abbrev pub behind_image : List ℕ → ℕ → ℕ
-behind_image body at = image_end body (at + 4) (flags_at body at)
-
-abbrev pub behind_relation : List ℕ → ℕ → ℕ
-behind_relation body at = relation_end (behind_image body at) (flags_at body at)
-
--- the header of a block reference stands at an offset, behind another one
+-- The header of a block reference stands at an offset, behind another one: its id, its flags and the number of its bytes
+-- in four bytes, then the header of its image, then the numbers of its relation, then the block's number in four bytes.
 pub record IsHead (body : List ℕ) (at : ℕ) (before : Option BlockRef) (head : Head) : Type 0 where
   pub id : u8_at at body ≡ head.id
   pub greatest : head.id ≤ 32
@@ -64,9 +71,13 @@ pub record IsHead (body : List ℕ) (at : ℕ) (before : Option BlockRef) (head 
   pub size : u16_at (at + 2) body ≡ head.size
   pub bytes : (has_bytes (flags_at body at) ≡ true) ↔ (0 < head.size)
   pub image : IsImage body (at + 4) (flags_at body at) head.image
-  pub relation : IsRelation body (behind_image body at) (flags_at body at) before head.name.rel
-  pub block : u32_at (behind_relation body at) body ≡ head.name.block
-  pub next : head.next ≡ behind_relation body at + 4
+  pub image_width : ℕ
+  pub image_fills : IsImageWidth (u8_at (at + 8) body) head.image image_width
+  pub relation : IsRelation body (at + 4 + image_width) (flags_at body at) before head.name.rel
+  pub relation_width : ℕ
+  pub relation_fills : IsRelationWidth (flags_at body at) relation_width
+  pub block : u32_at (at + 4 + image_width + relation_width) body ≡ head.name.block
+  pub next : head.next ≡ at + 8 + image_width + relation_width
   pub within : head.next ≤ length body
 
 -- a block reference of so many bytes, whose image isn't compressed, as a header that ends at an offset

@@ -1,10 +1,8 @@
 //! Why a record has no parts.
 
 ghost use Rattle.std.specs.Prelude.{◌≡◌};
-ghost use Rattle.block_refs.specs.declared.fault.PartsFault.TheVariants as faults;
 ghost use Rattle.block_refs.specs.Outcomes.{fault_of};
 
-use std::alloc::{AllocError, AllocFailed};
 use thiserror::Error;
 use wal_base::Lsn;
 
@@ -17,7 +15,7 @@ pub enum Flaw {
     Compressed(u8),
 }
 
-/// Why a record has no parts, or why they weren't told.
+/// Why a record has no parts.
 #[derive(Clone, Copy, Debug, PartialEq, Eq, Error)]
 pub enum PartsFault {
     /// No rule fits a fragment: the record's start, and the offset in its body of the first such
@@ -27,25 +25,6 @@ pub enum PartsFault {
     /// An image is compressed: the record's start, and the id of the first such block reference.
     #[error("an image is compressed")]
     Compressed(Lsn, u8),
-    /// There was no memory.
-    #[error("out of memory")]
-    OutOfMemory,
-}
-
-impl From<AllocError> for PartsFault {
-    ghost from_gives = { λ _ e. e ≡ faults.OutOfMemory };
-
-    fn from(_error: AllocError) -> PartsFault {
-        PartsFault::OutOfMemory
-    }
-}
-
-impl<T: Drop> From<AllocFailed<T>> for PartsFault {
-    ghost from_gives = { λ _ e. e ≡ faults.OutOfMemory };
-
-    fn from(_error: AllocFailed<T>) -> PartsFault {
-        PartsFault::OutOfMemory
-    }
 }
 
 /// The fault of the record at `start` with this flaw.

@@ -1,6 +1,6 @@
 //! The fragments at the front of a record's body.
 
-ghost use Rattle.std.specs.Prelude.{◌≡◌, ◌≤◌, ◌+◌, ◌<◌, ◌^◌, ◌++◌, IfOk, length};
+ghost use Rattle.std.specs.Prelude.{◌≡◌, ◌≤◌, ◌+◌, ◌<◌, ◌^◌, ◌++◌, length};
 ghost use Rattle.layout.specs.Readers.{u8_at, u32_at};
 ghost use Rattle.block_refs.specs.declared.fault.Flaw.TheVariants as flaws;
 ghost use Rattle.block_refs.specs.declared.fragment.Fragment.TheVariants as fragments;
@@ -11,8 +11,8 @@ use crate::block_ref::{BlockRef, ImageRef};
 use crate::fault::Flaw;
 use crate::header::{Head, head_at};
 use crate::image::Image;
+use crate::placed::{Blocks, Placed};
 use layout::{u8_at, u32_at};
-use std::alloc::AllocFailed;
 
 /// The first byte of the main bytes' length in one byte (`XLR_BLOCK_ID_DATA_SHORT`).
 const MAIN_SHORT: u8 = 255;
@@ -57,19 +57,6 @@ pub struct Seen {
     pub before: Option<BlockRef>,
     /// How many of the bytes are main bytes.
     pub main: u32,
-}
-
-/// Where the images and the bytes of a block stand.
-#[derive(Clone, Copy, Debug)]
-pub struct Placed {
-    /// The block reference.
-    pub block: BlockRef,
-    /// Where its image begins, counted from the end of the headers.
-    pub image_at: usize,
-    /// Where its bytes begin, counted from there too.
-    pub at: usize,
-    /// How many bytes it has beside its image.
-    pub size: u16,
 }
 
 /// A block reference with its image, as a fragment.
@@ -239,13 +226,10 @@ pub fn after(seen: Seen, piece: Piece) -> Seen
 }
 
 /// Adds the block of a fragment that is one, whose image begins at a place.
-pub fn add_placed(
-    blocks: &mut Vec<Placed>,
-    at: usize,
-    fragment: Fragment,
-) -> Result<(), AllocFailed<Placed>>
+pub fn add_placed(blocks: &mut Blocks, at: usize, fragment: Fragment)
     requires low { at < 2 ^ 31 }
-    ensures { IfOk result (λ _. blocks.new.items ≡ blocks.old.items ++ placed_by at fragment) }
+    requires room { length blocks.old.items + length (placed_by at fragment) ≤ 33 }
+    ensures { blocks.new.items ≡ blocks.old.items ++ placed_by at fragment }
 {
     match fragment {
         Fragment::Block(block, size) => blocks.push(Placed {
@@ -254,7 +238,7 @@ pub fn add_placed(
             at: at + block.image_size() as usize,
             size,
         }),
-        Fragment::Main(_) => Ok(()),
-        Fragment::Other => Ok(()),
+        Fragment::Main(_) => {}
+        Fragment::Other => {}
     }
 }

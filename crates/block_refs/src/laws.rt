@@ -3,7 +3,7 @@
 ghost use Rattle.std.specs.Prelude.{◌≡◌, ◌↔◌, ℕ, List, ◌++◌, None, Some, drop, Ok, Err};
 ghost use Rattle.std.specs.List.{flat_map, slice_get};
 ghost use Rattle.block_refs.specs.declared.fault.Flaw.{Flaw};
-ghost use Rattle.block_refs.specs.declared.fragment.Placed.{Placed};
+ghost use Rattle.block_refs.specs.declared.placed.Placed.{Placed};
 ghost use Rattle.block_refs.specs.declared.names.BlockName.{BlockName};
 ghost use Rattle.block_refs.specs.Order.{block_cmp, compared};
 ghost use Rattle.block_refs.specs.Parts.{PartsView, parts_of};

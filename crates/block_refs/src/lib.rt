@@ -10,6 +10,7 @@ mod laws;
 mod names;
 mod page;
 mod parts;
+mod placed;
 mod reading;
 mod split;
 

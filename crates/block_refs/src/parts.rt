@@ -8,9 +8,8 @@ ghost use Rattle.block_refs.specs.Outcomes.{MeetsIn, told};
 
 use crate::block_ref::BlockRef;
 use crate::fault::PartsFault;
-use crate::fragment::Placed;
+use crate::placed::{Blocks, Placed};
 use crate::reading::read_blocks;
-use std::alloc::Global;
 use std::marker::Model;
 use wal_base::Lsn;
 use wal_records::Record;
@@ -19,7 +18,7 @@ use wal_records::Record;
 #[derive(Debug, Drop)]
 pub struct Parts {
     start: usize,
-    blocks: Vec<Placed>,
+    blocks: Blocks,
     main: usize,
 }
 
@@ -37,12 +36,12 @@ impl Model for Parts {
 
 impl Parts {
     /// No parts.
-    pub fn new(alloc: Global) -> Parts
+    pub fn new() -> Parts
         ensures value { result ≡ no_parts }
     {
         Parts {
             start: 0,
-            blocks: Vec::new(alloc),
+            blocks: Blocks::new(),
             main: 0,
         }
     }
@@ -69,9 +68,10 @@ impl Parts {
         }
     }
 
-    /// How many block references there are.
+    /// How many block references there are, 33 at most.
     pub fn count(&self) -> usize
         ensures value { result ≡ length self.now.blocks }
+        ensures most { result ≤ 33 }
     {
         self.blocks.len()
     }
@@ -82,6 +82,13 @@ impl Parts {
         ensures value { result ≡ option_map (λ placed. placed.block) (slice_get self.now.blocks at) }
     {
         self.blocks.get(at).map(|placed| placed.block)
+    }
+
+    /// The block reference with an id, or `None` where there is none.
+    pub fn block(&self, id: u8) -> Option<BlockRef>
+        ensures value { result ≡ option_map (λ placed. placed.block) (block_with id self.now.blocks) }
+    {
+        self.find(id).map(|placed| placed.block)
     }
 
     /// Where the block with an id stands, counted from the end of the headers.

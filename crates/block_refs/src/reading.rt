@@ -6,7 +6,8 @@ ghost use Rattle.block_refs.specs.Outcomes.{MeetsAt};
 ghost use Rattle.block_refs.specs.Parts.{parts_of};
 
 use crate::fault::{PartsFault, fault_of};
-use crate::fragment::{Placed, Seen, add_placed, after, is_ended, piece_at};
+use crate::fragment::{Seen, add_placed, after, is_ended, piece_at};
+use crate::placed::Blocks;
 use wal_base::Lsn;
 
 /// Before the first fragment.
@@ -29,7 +30,7 @@ pub struct Bounds {
 /// Reads the blocks of the body of a record at `start`, in place of those in `blocks`, and gives
 /// what stands where in the body.
 #[tactic(auto, using(crate::proofs::ReadLemmas::reading_steps))]
-pub fn read_blocks(start: Lsn, body: &[u8], blocks: &mut Vec<Placed>) -> Result<Bounds, PartsFault>
+pub fn read_blocks(start: Lsn, body: &[u8], blocks: &mut Blocks) -> Result<Bounds, PartsFault>
     requires small { length body.now < 2 ^ 31 }
     ensures exact { MeetsAt start (parts_of body.now) blocks.new.items result }
     ensures few { IfOk result (λ _. image_total blocks.new.items < 2 ^ 32) }
@@ -41,7 +42,7 @@ pub fn read_blocks(start: Lsn, body: &[u8], blocks: &mut Vec<Placed>) -> Result<
             Ok(piece) => piece,
             Err(flaw) => return Err(fault_of(start, flaw)),
         };
-        add_placed(blocks, seen.announced, piece.fragment)?;
+        add_placed(blocks, seen.announced, piece.fragment);
         seen = after(seen, piece);
     }
     let main = seen.at + seen.announced - seen.main as usize;

@@ -1,22 +1,19 @@
 //! A record's body, cut into its parts.
 
-ghost use Rattle.std.specs.Prelude.{◌≡◌, ◌⊎◌, ℕ, Ok, Err, IfOk, OnErr, OnOk};
+ghost use Rattle.std.specs.Prelude.{◌≡◌, ◌↔◌, ℕ, Ok, Err, IfOk, OnErr, OnOk};
 ghost use Rattle.wal_base.specs.declared.lsn.Lsn.{Lsn};
-ghost use Rattle.block_refs.specs.declared.fault.Flaw.{Flaw};
 ghost use Rattle.block_refs.specs.declared.fault.Flaw.TheVariants as flaws;
 ghost use Rattle.block_refs.specs.declared.fault.PartsFault.TheVariants as faults;
 ghost use Rattle.block_refs.specs.Parts.{PartsView, ArePartsOf, no_parts};
 ghost use Rattle.block_refs.specs.Spelling.{HasParts, IsFirstFlaw};
-ghost use Rattle.block_refs.specs.Outcomes.{fault_of, start_of, record_parts, Meets, MeetsIn};
+ghost use Rattle.block_refs.specs.Outcomes.{start_of, record_parts, MeetsIn};
 
 use crate::fault::PartsFault;
 use crate::parts::Parts;
-use std::alloc::Global;
 use wal_records::Record;
 
-/// Reads the parts of a record into `parts`, in place of what is there and in its memory, so that
-/// parts which are used again take none after a while. Answers as `split_record` does, and after an
-/// error there are no parts.
+/// Reads the parts of a record into `parts`, in place of what is there. Answers as `split_record`
+/// does, and after an error there are no parts. It takes no memory.
 pub fn split_into(rec: &Record, parts: &mut Parts) -> Result<(), PartsFault>
     ensures exact { MeetsIn (record_parts rec.now) parts.new result }
     ensures parts { OnOk result (ArePartsOf rec.now parts.new) }
@@ -26,36 +23,29 @@ pub fn split_into(rec: &Record, parts: &mut Parts) -> Result<(), PartsFault>
 }
 
 /// The parts of a record.
-fn split(alloc: Global, rec: &Record) -> Result<Parts, PartsFault>
-    ensures { Meets (record_parts rec.now) result }
+fn split(rec: &Record) -> Result<Parts, PartsFault>
+    ensures { result ≡ record_parts rec.now }
 {
-    let mut parts = Parts::new(alloc);
+    let mut parts = Parts::new();
     split_into(rec, &mut parts)?;
     Ok(parts)
 }
 
-/// The parts of a record (`DecodeXLogRecord`).
+/// The parts of a record (`DecodeXLogRecord`). It takes no memory.
 ///
 /// Answers `BadParts` where no rule fits a fragment of its body, with the record's start and the
 /// offset of that fragment, and `Compressed` where a fragment that is otherwise well formed has a
 /// compressed image, with the record's start and the block's id. The first such fragment decides.
-/// Answers `OutOfMemory` only for want of memory.
-pub fn split_record(alloc: Global, rec: &Record) -> Result<Parts, PartsFault>
-    ensures exact { Meets (record_parts rec.now) result }
+pub fn split_record(rec: &Record) -> Result<Parts, PartsFault>
+    ensures exact { result ≡ record_parts rec.now }
     ensures parts { IfOk result (λ parts. ArePartsOf rec.now parts) }
-    // What is read is so spelled.
-    ensures found { IfOk result (λ parts. HasParts rec.now.body parts) }
-    // What is so spelled is read, unless memory runs out.
-    ensures only { (parts : PartsView) → HasParts rec.now.body parts →
-        (result ≡ Ok parts) ⊎ (result ≡ Err faults.OutOfMemory) }
-
-    // A fault is the first flaw.
-    ensures bad_parts { (at : Lsn) (offset : ℕ) → result ≡ Err (faults.BadParts at offset) →
-        (at ≡ start_of rec.now) × IsFirstFlaw rec.now.body (flaws.Bad offset) }
-    ensures compressed { (at : Lsn) (id : ℕ) → result ≡ Err (faults.Compressed at id) →
-        (at ≡ start_of rec.now) × IsFirstFlaw rec.now.body (flaws.Compressed id) }
-    ensures flawed { (flaw : Flaw) → IsFirstFlaw rec.now.body flaw →
-        (result ≡ Err (fault_of (start_of rec.now) flaw)) ⊎ (result ≡ Err faults.OutOfMemory) }
+    // What is so spelled is read, and nothing else.
+    ensures read { (parts : PartsView) → (result ≡ Ok parts) ↔ HasParts rec.now.body parts }
+    // A fault is the first flaw, and no other.
+    ensures bad_parts { (at : Lsn) (offset : ℕ) → (result ≡ Err (faults.BadParts at offset))
+        ↔ ((at ≡ start_of rec.now) × IsFirstFlaw rec.now.body (flaws.Bad offset)) }
+    ensures compressed { (at : Lsn) (id : ℕ) → (result ≡ Err (faults.Compressed at id))
+        ↔ ((at ≡ start_of rec.now) × IsFirstFlaw rec.now.body (flaws.Compressed id)) }
 {
-    split(alloc, rec)
+    split(rec)
 }
