@@ -1,5 +1,5 @@
 -- The manager Btree: PostgreSQL 16, src/include/access/nbtxlog.h.
-use Rattle.std.specs.Prelude.{ℕ, List, ◌==◌, bit_and, if◌then◌else◌, Option, slice_get}
+use Rattle.std.specs.Prelude.{ℕ, List, ◌==◌, bit_and, if◌then◌else◌, Option, slice_get, Bool, true, is_some}
 use Rattle.layout.specs.Readers.{u16_at, u32_at}
 use Rattle.record_layouts.specs.Fields.{whole}
 use Rattle.record_layouts.specs.declared.btree.BtreeOp.{BtreeOp}
@@ -34,6 +34,25 @@ btree_op_numbered number =
 -- the operation of `info`, without its low four bits
 unfoldable pub btree_op_of : ℕ → BtreeOp
 btree_op_of info = btree_op_numbered (bit_and info 0xF0)
+
+-- the number of an operation
+abbrev pub btree_number : BtreeOp → ℕ
+btree_number op.InsertLeaf = 0x00
+btree_number op.InsertUpper = 0x10
+btree_number op.InsertMeta = 0x20
+btree_number op.SplitLeft = 0x30
+btree_number op.SplitRight = 0x40
+btree_number op.InsertPost = 0x50
+btree_number op.Dedup = 0x60
+btree_number op.Delete = 0x70
+btree_number op.UnlinkPage = 0x80
+btree_number op.UnlinkPageMeta = 0x90
+btree_number op.NewRoot = 0xA0
+btree_number op.MarkPageHalfDead = 0xB0
+btree_number op.Vacuum = 0xC0
+btree_number op.ReusePage = 0xD0
+btree_number op.MetaCleanup = 0xE0
+btree_number (op.Unlisted number) = number
 
 -- INSERT_LEAF, INSERT_UPPER, INSERT_META and INSERT_POST: xl_btree_insert
 abbrev pub btree_insert_of : List ℕ → Option BtreeInsert
@@ -78,3 +97,22 @@ btree_new_root_of bytes = whole 8 bytes record {
   root = u32_at 0 bytes;
   level = u32_at 4 bytes;
 }
+
+-- the main bytes hold the whole layout of an operation
+abbrev pub btree_is_whole : BtreeOp → List ℕ → Bool
+btree_is_whole op.InsertLeaf main = is_some (btree_insert_of main)
+btree_is_whole op.InsertUpper main = is_some (btree_insert_of main)
+btree_is_whole op.InsertMeta main = is_some (btree_insert_of main)
+btree_is_whole op.SplitLeft main = is_some (btree_split_of main)
+btree_is_whole op.SplitRight main = is_some (btree_split_of main)
+btree_is_whole op.InsertPost main = is_some (btree_insert_of main)
+btree_is_whole op.Dedup main = is_some (btree_dedup_of main)
+btree_is_whole op.Delete main = is_some (btree_delete_of main)
+btree_is_whole op.UnlinkPage main = true
+btree_is_whole op.UnlinkPageMeta main = true
+btree_is_whole op.NewRoot main = is_some (btree_new_root_of main)
+btree_is_whole op.MarkPageHalfDead main = true
+btree_is_whole op.Vacuum main = is_some (btree_vacuum_of main)
+btree_is_whole op.ReusePage main = true
+btree_is_whole op.MetaCleanup main = true
+btree_is_whole (op.Unlisted number) main = true

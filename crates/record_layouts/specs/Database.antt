@@ -1,10 +1,9 @@
 -- The manager Database: PostgreSQL 16, src/include/commands/dbcommands_xlog.h.
-use Rattle.std.specs.Prelude.{ℕ, List, ◌==◌, bit_and, if◌then◌else◌, Option, None, Some, []}
+use Rattle.std.specs.Prelude.{ℕ, List, ◌==◌, bit_and, if◌then◌else◌, Option, None, Some, [], Bool, true, is_some}
 use Rattle.layout.specs.Readers.{u32_at}
 use Rattle.record_layouts.specs.Fields.{whole, word_if, given, given_or, word}
 use Rattle.record_layouts.specs.Items.{item_list, item_prefix}
 use Rattle.record_layouts.specs.declared.database.DatabaseDrop.{DatabaseDrop}
-use Rattle.record_layouts.specs.declared.database.DatabaseCopyPrefix.{DatabaseCopyPrefix}
 use Rattle.record_layouts.specs.declared.database.DatabaseCreatePrefix.{DatabaseCreatePrefix}
 use Rattle.record_layouts.specs.declared.database.DatabaseDropPrefix.{DatabaseDropPrefix}
 use Rattle.record_layouts.specs.declared.database.DatabaseOp.{DatabaseOp}
@@ -24,6 +23,13 @@ database_op_numbered number =
 unfoldable pub database_op_of : ℕ → DatabaseOp
 database_op_of info = database_op_numbered (bit_and info 0xF0)
 
+-- the number of an operation
+abbrev pub database_number : DatabaseOp → ℕ
+database_number op.CreateFileCopy = 0x00
+database_number op.CreateWalLog = 0x10
+database_number op.Drop = 0x20
+database_number (op.Unlisted number) = number
+
 -- DROP: xl_dbase_drop_rec, a database and the tablespaces in which it has files
 abbrev pub database_drop_of : List ℕ → Option DatabaseDrop
 database_drop_of bytes =
@@ -31,15 +37,7 @@ database_drop_of bytes =
     given (item_list 4 u32_at rest) (λ spaces rest.
     Some record { database = database; spaces = spaces }))
 
--- what is there of the three, also where they are not whole
-abbrev pub copy_prefix_of : List ℕ → DatabaseCopyPrefix
-copy_prefix_of bytes = record {
-  database = word_if 0 bytes;
-  space = word_if 4 bytes;
-  from_database = word_if 8 bytes;
-  from_space = word_if 12 bytes;
-}
-
+-- what is there of the last two, also where they are not whole
 abbrev pub create_prefix_of : List ℕ → DatabaseCreatePrefix
 create_prefix_of bytes = record { database = word_if 0 bytes; space = word_if 4 bytes }
 
@@ -63,3 +61,10 @@ database_create_of bytes = whole 8 bytes record {
   database = u32_at 0 bytes;
   space = u32_at 4 bytes;
 }
+
+-- the main bytes hold the whole layout of an operation
+abbrev pub database_is_whole : DatabaseOp → List ℕ → Bool
+database_is_whole op.CreateFileCopy main = is_some (database_copy_of main)
+database_is_whole op.CreateWalLog main = is_some (database_create_of main)
+database_is_whole op.Drop main = is_some (database_drop_of main)
+database_is_whole (op.Unlisted number) main = true

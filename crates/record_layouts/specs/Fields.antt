@@ -32,12 +32,6 @@ word_if at bytes = whole (at + 4) bytes (u32_at at bytes)
 abbrev pub int_if : ℕ → List ℕ → Option ℤ
 int_if at bytes = whole (at + 4) bytes (int_at at bytes)
 
-abbrev pub long_if : ℕ → List ℕ → Option ℕ
-long_if at bytes = whole (at + 8) bytes (u64_at at bytes)
-
-abbrev pub signed_if : ℕ → List ℕ → Option ℤ
-signed_if at bytes = whole (at + 8) bytes (i64_at at bytes)
-
 abbrev pub relation_if : ℕ → List ℕ → Option RelName
 relation_if at bytes = whole (at + 12) bytes (relation at bytes)
 

@@ -1,5 +1,5 @@
 -- The manager Heap: PostgreSQL 16, src/include/access/heapam_xlog.h.
-use Rattle.std.specs.Prelude.{ℕ, List, ◌==◌, bit_and, if◌then◌else◌, Option, Bool}
+use Rattle.std.specs.Prelude.{ℕ, List, ◌==◌, bit_and, if◌then◌else◌, Option, Bool, is_some}
 use Rattle.layout.specs.Readers.{u8_at, u16_at, u32_at}
 use Rattle.record_layouts.specs.Fields.{whole}
 use Rattle.block_refs.specs.Bits.{has_bits}
@@ -21,13 +21,24 @@ heap_op_numbered init number =
     else if number == 0x20 then op.Update init
     else if number == 0x30 then op.Truncate
     else if number == 0x40 then op.HotUpdate init
-    else if number == 0x50 then op.Confirm
+    else if number == 0x50 then op.HeapConfirm
     else if number == 0x60 then op.Lock
     else op.Inplace
 
 -- the operation of `info`: XLOG_HEAP_OPMASK is 70, and XLOG_HEAP_INIT_PAGE is 80
 unfoldable pub heap_op_of : ℕ → HeapOp
 heap_op_of info = heap_op_numbered (has_bits info 0x80) (bit_and info 0x70)
+
+-- the number of an operation
+abbrev pub heap_number : HeapOp → ℕ
+heap_number (op.Insert init) = 0x00
+heap_number op.Delete = 0x10
+heap_number (op.Update init) = 0x20
+heap_number op.Truncate = 0x30
+heap_number (op.HotUpdate init) = 0x40
+heap_number op.HeapConfirm = 0x50
+heap_number op.Lock = 0x60
+heap_number op.Inplace = 0x70
 
 -- INSERT: xl_heap_insert
 abbrev pub heap_insert_of : List ℕ → Option HeapInsert
@@ -83,3 +94,14 @@ abbrev pub heap_inplace_of : List ℕ → Option HeapInplace
 heap_inplace_of bytes = whole 2 bytes record {
   off = u16_at 0 bytes;
 }
+
+-- the main bytes hold the whole layout of an operation
+abbrev pub heap_is_whole : HeapOp → List ℕ → Bool
+heap_is_whole (op.Insert init) main = is_some (heap_insert_of main)
+heap_is_whole op.Delete main = is_some (heap_delete_of main)
+heap_is_whole (op.Update init) main = is_some (heap_update_of main)
+heap_is_whole op.Truncate main = is_some (heap_truncate_of main)
+heap_is_whole (op.HotUpdate init) main = is_some (heap_update_of main)
+heap_is_whole op.HeapConfirm main = is_some (heap_confirm_of main)
+heap_is_whole op.Lock main = is_some (heap_lock_of main)
+heap_is_whole op.Inplace main = is_some (heap_inplace_of main)

@@ -1,8 +1,9 @@
 -- The manager Heap2: PostgreSQL 16, src/include/access/heapam_xlog.h.
-use Rattle.std.specs.Prelude.{ℕ, List, ◌==◌, bit_and, if◌then◌else◌, Option, slice_get, Bool, nat_lt, length, drop, None, option_map}
+use Rattle.std.specs.Prelude.{ℕ, List, ◌==◌, bit_and, if◌then◌else◌, Option, slice_get, Bool, nat_lt, length, drop, None, option_map, true, is_some}
 use Rattle.layout.specs.Readers.{u8_at, u16_at, u32_at}
 use Rattle.record_layouts.specs.Fields.{whole}
 use Rattle.block_refs.specs.Bits.{has_bits}
+use Rattle.record_layouts.specs.Heap.{heap_lock_of}
 use Rattle.record_layouts.specs.Items.{places_of}
 use Rattle.record_layouts.specs.declared.heap2.Heap2Op.{Heap2Op}
 use Rattle.record_layouts.specs.declared.heap2.Heap2Op.TheVariants as op
@@ -27,6 +28,17 @@ heap2_op_numbered init number =
 -- the operation of `info`: XLOG_HEAP_OPMASK is 70, and XLOG_HEAP_INIT_PAGE is 80
 unfoldable pub heap2_op_of : ℕ → Heap2Op
 heap2_op_of info = heap2_op_numbered (has_bits info 0x80) (bit_and info 0x70)
+
+-- the number of an operation
+abbrev pub heap2_number : Heap2Op → ℕ
+heap2_number op.Rewrite = 0x00
+heap2_number op.Prune = 0x10
+heap2_number op.Vacuum = 0x20
+heap2_number op.FreezePage = 0x30
+heap2_number op.Visible = 0x40
+heap2_number (op.MultiInsert init) = 0x50
+heap2_number op.LockUpdated = 0x60
+heap2_number op.NewCid = 0x70
 
 -- MULTI_INSERT: xl_heap_multi_insert, flags, an unused byte, the number of tuples, and their places
 abbrev pub multi_insert_with : List ℕ → List ℕ → HeapMultiInsert
@@ -66,3 +78,14 @@ heap_visible_of bytes = whole 5 bytes record {
   horizon = u32_at 0 bytes;
   flags = u8_at 4 bytes;
 }
+
+-- the main bytes hold the whole layout of an operation
+abbrev pub heap2_is_whole : Heap2Op → List ℕ → Bool
+heap2_is_whole op.Rewrite main = true
+heap2_is_whole op.Prune main = is_some (heap_prune_of main)
+heap2_is_whole op.Vacuum main = is_some (heap_vacuum_of main)
+heap2_is_whole op.FreezePage main = is_some (heap_freeze_page_of main)
+heap2_is_whole op.Visible main = is_some (heap_visible_of main)
+heap2_is_whole (op.MultiInsert init) main = is_some (multi_insert_of init main)
+heap2_is_whole op.LockUpdated main = is_some (heap_lock_of main)
+heap2_is_whole op.NewCid main = true

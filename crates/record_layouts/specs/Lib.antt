@@ -18,3 +18,4 @@ pub mod Heap2
 pub mod Btree
 pub mod Sequence
 pub mod Spelling
+pub mod PrefixLaws

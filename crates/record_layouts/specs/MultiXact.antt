@@ -1,5 +1,5 @@
 -- The manager MultiXact: PostgreSQL 16, src/include/access/multixact.h.
-use Rattle.std.specs.Prelude.{ℕ, List, ◌==◌, bit_and, if◌then◌else◌, Option, Some}
+use Rattle.std.specs.Prelude.{ℕ, List, ◌==◌, bit_and, if◌then◌else◌, Option, Some, Bool, true, is_some}
 use Rattle.layout.specs.Readers.{u32_at}
 use Rattle.record_layouts.specs.Fields.{whole, given, word}
 use Rattle.record_layouts.specs.Items.{item_list, member}
@@ -21,6 +21,14 @@ multixact_op_numbered number =
 -- the operation of `info`, without its low four bits
 unfoldable pub multixact_op_of : ℕ → MultiXactOp
 multixact_op_of info = multixact_op_numbered (bit_and info 0xF0)
+
+-- the number of an operation
+abbrev pub multixact_number : MultiXactOp → ℕ
+multixact_number op.ZeroOffsetsPage = 0x00
+multixact_number op.ZeroMembersPage = 0x10
+multixact_number op.CreateId = 0x20
+multixact_number op.TruncateId = 0x30
+multixact_number (op.Unlisted number) = number
 
 -- CREATE_ID: xl_multixact_create, a multixact, the place of its first member, and its members
 abbrev pub multixact_create_of : List ℕ → Option MultiXactCreate
@@ -45,3 +53,11 @@ multixact_truncate_of bytes = whole 20 bytes record {
   first_offset = u32_at 12 bytes;
   end_offset = u32_at 16 bytes;
 }
+
+-- the main bytes hold the whole layout of an operation
+abbrev pub multixact_is_whole : MultiXactOp → List ℕ → Bool
+multixact_is_whole op.ZeroOffsetsPage main = is_some (multixact_zero_page_of main)
+multixact_is_whole op.ZeroMembersPage main = is_some (multixact_zero_page_of main)
+multixact_is_whole op.CreateId main = is_some (multixact_create_of main)
+multixact_is_whole op.TruncateId main = is_some (multixact_truncate_of main)
+multixact_is_whole (op.Unlisted number) main = true

@@ -1,5 +1,5 @@
 -- The manager Standby: PostgreSQL 16, src/include/storage/standbydefs.h.
-use Rattle.std.specs.Prelude.{ℕ, List, ◌==◌, bit_and, if◌then◌else◌, Option}
+use Rattle.std.specs.Prelude.{ℕ, List, ◌==◌, bit_and, if◌then◌else◌, Option, Bool, true, is_some}
 use Rattle.layout.specs.Readers.{u8_at, u32_at}
 use Rattle.record_layouts.specs.Fields.{int_at, whole}
 use Rattle.record_layouts.specs.declared.standby.StandbyOp.{StandbyOp}
@@ -18,6 +18,13 @@ standby_op_numbered number =
 unfoldable pub standby_op_of : ℕ → StandbyOp
 standby_op_of info = standby_op_numbered (bit_and info 0xF0)
 
+-- the number of an operation
+abbrev pub standby_number : StandbyOp → ℕ
+standby_number op.Lock = 0x00
+standby_number op.RunningXacts = 0x10
+standby_number op.Invalidations = 0x20
+standby_number (op.Unlisted number) = number
+
 -- RUNNING_XACTS: xl_running_xacts, but for the transactions behind it. Its counts count none of these bytes, so a negative one is as good as any
 abbrev pub running_xacts_of : List ℕ → Option RunningXacts
 running_xacts_of bytes = whole 24 bytes record {
@@ -28,3 +35,10 @@ running_xacts_of bytes = whole 24 bytes record {
   oldest_xid = u32_at 16 bytes;
   latest_xid = u32_at 20 bytes;
 }
+
+-- the main bytes hold the whole layout of an operation
+abbrev pub standby_is_whole : StandbyOp → List ℕ → Bool
+standby_is_whole op.Lock main = true
+standby_is_whole op.RunningXacts main = is_some (running_xacts_of main)
+standby_is_whole op.Invalidations main = true
+standby_is_whole (op.Unlisted number) main = true

@@ -1,5 +1,5 @@
 -- The manager Storage: PostgreSQL 16, src/include/catalog/storage_xlog.h.
-use Rattle.std.specs.Prelude.{ℕ, List, ◌==◌, bit_and, if◌then◌else◌, Option, nat_lt, length, None, option_map}
+use Rattle.std.specs.Prelude.{ℕ, List, ◌==◌, bit_and, if◌then◌else◌, Option, nat_lt, length, None, option_map, Bool, true, is_some}
 use Rattle.layout.specs.Readers.{u32_at}
 use Rattle.record_layouts.specs.Fields.{relation, whole, relation_if}
 use Rattle.block_refs.specs.Names.{fork_of}
@@ -20,6 +20,12 @@ storage_op_numbered number =
 -- the operation of `info`, without its low four bits
 unfoldable pub storage_op_of : ℕ → StorageOp
 storage_op_of info = storage_op_numbered (bit_and info 0xF0)
+
+-- the number of an operation
+abbrev pub storage_number : StorageOp → ℕ
+storage_number op.Create = 0x10
+storage_number op.Truncate = 0x20
+storage_number (op.Unlisted number) = number
 
 -- CREATE: xl_smgr_create, a relation and the number of a fork
 abbrev pub storage_create_with : List ℕ → Fork → StorageCreate
@@ -44,3 +50,9 @@ storage_truncate_of bytes = whole 20 bytes record {
   rel = relation 4 bytes;
   flags = u32_at 16 bytes;
 }
+
+-- the main bytes hold the whole layout of an operation
+abbrev pub storage_is_whole : StorageOp → List ℕ → Bool
+storage_is_whole op.Create main = is_some (storage_create_of main)
+storage_is_whole op.Truncate main = is_some (storage_truncate_of main)
+storage_is_whole (op.Unlisted number) main = true

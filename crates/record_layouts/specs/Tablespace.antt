@@ -13,3 +13,9 @@ tablespace_op_numbered number =
 -- the operation of `info`, without its low four bits
 unfoldable pub tablespace_op_of : ℕ → TablespaceOp
 tablespace_op_of info = tablespace_op_numbered (bit_and info 0xF0)
+
+-- the number of an operation
+abbrev pub tablespace_number : TablespaceOp → ℕ
+tablespace_number op.Create = 0x00
+tablespace_number op.Drop = 0x10
+tablespace_number (op.Unlisted number) = number

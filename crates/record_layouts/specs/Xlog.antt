@@ -1,6 +1,7 @@
 -- The manager XLOG: PostgreSQL 16, src/include/catalog/pg_control.h, XLOG_..; src/include/access/xlog_internal.h.
-use Rattle.std.specs.Prelude.{ℕ, List, ◌==◌, bit_and, if◌then◌else◌, Option, slice_range}
+use Rattle.std.specs.Prelude.{ℕ, List, ◌==◌, bit_and, if◌then◌else◌, Option, slice_range, Bool, true, is_some}
 use Rattle.layout.specs.Readers.{u8_at, u32_at, i64_at}
+use Rattle.control_file.specs.Reading.{checkpoint_of}
 use Rattle.record_layouts.specs.Fields.{int_at, lsn_at, whole}
 use Rattle.record_layouts.specs.declared.xlog.RestorePoint.{RestorePoint}
 use Rattle.record_layouts.specs.declared.xlog.XlogOp.{XlogOp}
@@ -33,6 +34,23 @@ xlog_op_numbered number =
 -- the operation of `info`, without its low four bits
 unfoldable pub xlog_op_of : ℕ → XlogOp
 xlog_op_of info = xlog_op_numbered (bit_and info 0xF0)
+
+-- the number of an operation
+abbrev pub xlog_number : XlogOp → ℕ
+xlog_number op.CheckpointShutdown = 0x00
+xlog_number op.CheckpointOnline = 0x10
+xlog_number op.Noop = 0x20
+xlog_number op.NextOid = 0x30
+xlog_number op.Switch = 0x40
+xlog_number op.BackupEnd = 0x50
+xlog_number op.ParameterChange = 0x60
+xlog_number op.RestorePoint = 0x70
+xlog_number op.FpwChange = 0x80
+xlog_number op.EndOfRecovery = 0x90
+xlog_number op.FpiForHint = 0xA0
+xlog_number op.Fpi = 0xB0
+xlog_number op.OverwriteContrecord = 0xD0
+xlog_number (op.Unlisted number) = number
 
 -- RESTORE_POINT: xl_restore_point, whose name has MAXFNAMELEN bytes, 64
 abbrev pub restore_point_of : List ℕ → Option RestorePoint
@@ -86,3 +104,20 @@ overwrite_contrecord_of bytes = whole 16 bytes record {
   lsn = lsn_at 0 bytes;
   time = i64_at 8 bytes;
 }
+
+-- the main bytes hold the whole layout of an operation
+abbrev pub xlog_is_whole : XlogOp → List ℕ → Bool
+xlog_is_whole op.CheckpointShutdown main = is_some (checkpoint_of main)
+xlog_is_whole op.CheckpointOnline main = is_some (checkpoint_of main)
+xlog_is_whole op.Noop main = true
+xlog_is_whole op.NextOid main = is_some (next_oid_of main)
+xlog_is_whole op.Switch main = true
+xlog_is_whole op.BackupEnd main = is_some (backup_end_of main)
+xlog_is_whole op.ParameterChange main = is_some (parameter_change_of main)
+xlog_is_whole op.RestorePoint main = is_some (restore_point_of main)
+xlog_is_whole op.FpwChange main = is_some (fpw_change_of main)
+xlog_is_whole op.EndOfRecovery main = is_some (end_of_recovery_of main)
+xlog_is_whole op.FpiForHint main = true
+xlog_is_whole op.Fpi main = true
+xlog_is_whole op.OverwriteContrecord main = is_some (overwrite_contrecord_of main)
+xlog_is_whole (op.Unlisted number) main = true

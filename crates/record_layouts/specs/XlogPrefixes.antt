@@ -3,7 +3,7 @@
 use Rattle.std.specs.Prelude.{ℕ, List}
 use Rattle.record_layouts.specs.declared.xlog_prefixes.CheckpointPrefix.{CheckpointPrefix}
 use Rattle.record_layouts.specs.declared.xlog_prefixes.ParameterPrefix.{ParameterPrefix}
-use Rattle.record_layouts.specs.Fields.{byte_if, int_if, long_if, signed_if, word_if}
+use Rattle.record_layouts.specs.Fields.{byte_if, int_if}
 
 -- PARAMETER_CHANGE
 abbrev pub parameter_prefix_of : List ℕ → ParameterPrefix
@@ -18,23 +18,6 @@ parameter_prefix_of bytes = record {
   track_commit_ts = byte_if 25 bytes;
 }
 
--- a checkpoint
+-- a checkpoint: whether full-page images are written
 abbrev pub checkpoint_prefix_of : List ℕ → CheckpointPrefix
-checkpoint_prefix_of bytes = record {
-  redo = long_if 0 bytes;
-  tli = word_if 8 bytes;
-  prev_tli = word_if 12 bytes;
-  fpw = byte_if 16 bytes;
-  next_xid = long_if 24 bytes;
-  next_oid = word_if 32 bytes;
-  next_multi = word_if 36 bytes;
-  next_multi_offset = word_if 40 bytes;
-  oldest_xid = word_if 44 bytes;
-  oldest_xid_db = word_if 48 bytes;
-  oldest_multi = word_if 52 bytes;
-  oldest_multi_db = word_if 56 bytes;
-  time = signed_if 64 bytes;
-  oldest_commit_ts = word_if 72 bytes;
-  newest_commit_ts = word_if 76 bytes;
-  oldest_active_xid = word_if 80 bytes;
-}
+checkpoint_prefix_of bytes = record { fpw = byte_if 16 bytes }

@@ -1,7 +1,7 @@
 //! Operations of the manager Btree, and their layouts.
 
 ghost use Rattle.std.specs.Prelude.{◌≡◌};
-ghost use Rattle.record_layouts.specs.Btree.{btree_insert_of, btree_split_of, btree_dedup_of, btree_delete_of, btree_vacuum_of, btree_new_root_of, btree_op_of};
+ghost use Rattle.record_layouts.specs.Btree.{btree_insert_of, btree_split_of, btree_dedup_of, btree_delete_of, btree_vacuum_of, btree_new_root_of, btree_op_of, btree_number, btree_is_whole};
 
 use layout::{u16_at, u32_at};
 
@@ -65,6 +65,54 @@ impl BtreeOp {
             0xD0 => BtreeOp::ReusePage,
             0xE0 => BtreeOp::MetaCleanup,
             number => BtreeOp::Unlisted(number),
+        }
+    }
+
+    /// Its number, as `info` has it.
+    pub fn number(self) -> u8
+        ensures { result ≡ btree_number self }
+    {
+        match self {
+            BtreeOp::InsertLeaf => 0x00,
+            BtreeOp::InsertUpper => 0x10,
+            BtreeOp::InsertMeta => 0x20,
+            BtreeOp::SplitLeft => 0x30,
+            BtreeOp::SplitRight => 0x40,
+            BtreeOp::InsertPost => 0x50,
+            BtreeOp::Dedup => 0x60,
+            BtreeOp::Delete => 0x70,
+            BtreeOp::UnlinkPage => 0x80,
+            BtreeOp::UnlinkPageMeta => 0x90,
+            BtreeOp::NewRoot => 0xA0,
+            BtreeOp::MarkPageHalfDead => 0xB0,
+            BtreeOp::Vacuum => 0xC0,
+            BtreeOp::ReusePage => 0xD0,
+            BtreeOp::MetaCleanup => 0xE0,
+            BtreeOp::Unlisted(number) => number,
+        }
+    }
+
+    /// Whether the main bytes hold its whole layout. An operation whose layout isn't read here is
+    /// whole.
+    pub fn is_whole(self, main: &[u8]) -> bool
+        ensures { result ≡ btree_is_whole self main.now }
+    {
+        match self {
+            BtreeOp::InsertLeaf
+            | BtreeOp::InsertUpper
+            | BtreeOp::InsertMeta
+            | BtreeOp::InsertPost => BtreeInsert::read(main).is_some(),
+            BtreeOp::SplitLeft | BtreeOp::SplitRight => BtreeSplit::read(main).is_some(),
+            BtreeOp::Dedup => BtreeDedup::read(main).is_some(),
+            BtreeOp::Delete => BtreeDelete::read(main).is_some(),
+            BtreeOp::NewRoot => BtreeNewRoot::read(main).is_some(),
+            BtreeOp::Vacuum => BtreeVacuum::read(main).is_some(),
+            BtreeOp::UnlinkPage
+            | BtreeOp::UnlinkPageMeta
+            | BtreeOp::MarkPageHalfDead
+            | BtreeOp::ReusePage
+            | BtreeOp::MetaCleanup
+            | BtreeOp::Unlisted(_) => true,
         }
     }
 }

@@ -1,7 +1,7 @@
 //! Operations of the manager CLOG, and their layouts.
 
 ghost use Rattle.std.specs.Prelude.{◌≡◌};
-ghost use Rattle.record_layouts.specs.Clog.{clog_zero_page_of, clog_truncate_of, clog_op_of};
+ghost use Rattle.record_layouts.specs.Clog.{clog_zero_page_of, clog_truncate_of, clog_op_of, clog_number, clog_is_whole};
 
 use layout::u32_at;
 
@@ -26,6 +26,29 @@ impl ClogOp {
             0x00 => ClogOp::ZeroPage,
             0x10 => ClogOp::Truncate,
             number => ClogOp::Unlisted(number),
+        }
+    }
+
+    /// Its number, as `info` has it.
+    pub fn number(self) -> u8
+        ensures { result ≡ clog_number self }
+    {
+        match self {
+            ClogOp::ZeroPage => 0x00,
+            ClogOp::Truncate => 0x10,
+            ClogOp::Unlisted(number) => number,
+        }
+    }
+
+    /// Whether the main bytes hold its whole layout. An operation whose layout isn't read here is
+    /// whole.
+    pub fn is_whole(self, main: &[u8]) -> bool
+        ensures { result ≡ clog_is_whole self main.now }
+    {
+        match self {
+            ClogOp::ZeroPage => ClogZeroPage::read(main).is_some(),
+            ClogOp::Truncate => ClogTruncate::read(main).is_some(),
+            ClogOp::Unlisted(_) => true,
         }
     }
 }

@@ -1,7 +1,7 @@
 //! Operations of the manager Database, and their layouts.
 
 ghost use Rattle.std.specs.Prelude.{◌≡◌};
-ghost use Rattle.record_layouts.specs.Database.{database_copy_of, database_create_of, database_op_of, database_drop_of, copy_prefix_of, create_prefix_of, drop_prefix_of};
+ghost use Rattle.record_layouts.specs.Database.{database_copy_of, database_create_of, database_op_of, database_drop_of, create_prefix_of, drop_prefix_of, database_number, database_is_whole};
 
 use crate::bytes::word;
 use crate::fields::u32_if;
@@ -34,6 +34,31 @@ impl DatabaseOp {
             number => DatabaseOp::Unlisted(number),
         }
     }
+
+    /// Its number, as `info` has it.
+    pub fn number(self) -> u8
+        ensures { result ≡ database_number self }
+    {
+        match self {
+            DatabaseOp::CreateFileCopy => 0x00,
+            DatabaseOp::CreateWalLog => 0x10,
+            DatabaseOp::Drop => 0x20,
+            DatabaseOp::Unlisted(number) => number,
+        }
+    }
+
+    /// Whether the main bytes hold its whole layout. An operation whose layout isn't read here is
+    /// whole.
+    pub fn is_whole(self, main: &[u8]) -> bool
+        ensures { result ≡ database_is_whole self main.now }
+    {
+        match self {
+            DatabaseOp::CreateFileCopy => DatabaseCopy::read(main).is_some(),
+            DatabaseOp::CreateWalLog => DatabaseCreate::read(main).is_some(),
+            DatabaseOp::Drop => DatabaseDrop::read(main).is_some(),
+            DatabaseOp::Unlisted(_) => true,
+        }
+    }
 }
 
 /// What DROP says (`xl_dbase_drop_rec`).
@@ -57,33 +82,6 @@ impl<'a> DatabaseDrop<'a> {
             database: database.value,
             spaces: spaces.value,
         })
-    }
-}
-
-/// What is there of CREATE_FILE_COPY, also where its layout isn't whole.
-#[derive(Clone, Copy, Debug, PartialEq, Eq)]
-pub struct DatabaseCopyPrefix {
-    /// The database that is made.
-    pub database: Option<u32>,
-    /// Its tablespace.
-    pub space: Option<u32>,
-    /// The database that is copied.
-    pub from_database: Option<u32>,
-    /// Its tablespace.
-    pub from_space: Option<u32>,
-}
-
-impl DatabaseCopyPrefix {
-    /// Each field whose bytes are there.
-    pub fn read(bytes: &[u8]) -> DatabaseCopyPrefix
-        ensures { result ≡ copy_prefix_of bytes.now }
-    {
-        DatabaseCopyPrefix {
-            database: u32_if(bytes, 0),
-            space: u32_if(bytes, 4),
-            from_database: u32_if(bytes, 8),
-            from_space: u32_if(bytes, 12),
-        }
     }
 }
 

@@ -1,10 +1,10 @@
 //! Single fields at an offset.
 
 ghost use Rattle.std.specs.Prelude.{◌≡◌, ◌≤◌, ◌+◌, ◌<◌, ◌^◌, length};
-ghost use Rattle.record_layouts.specs.Fields.{byte_if, int_at, int_if, long_if, lsn_at, relation, relation_if, signed_if, word_if};
+ghost use Rattle.record_layouts.specs.Fields.{byte_if, int_at, int_if, lsn_at, relation, relation_if, word_if};
 
 use block_refs::RelName;
-use layout::{i64_at, u32_at, u64_at};
+use layout::{u32_at, u64_at};
 use wal_base::Lsn;
 
 /// The signed number in the four bytes from an offset, in two's complement.
@@ -63,28 +63,6 @@ pub fn i32_if(bytes: &[u8], at: usize) -> Option<i32>
         return None;
     }
     Some(i32_at(bytes, at))
-}
-
-/// The number in the eight bytes from an offset, if they are there.
-pub fn u64_if(bytes: &[u8], at: usize) -> Option<u64>
-    requires low { at < 2 ^ 16 }
-    ensures { result ≡ long_if at bytes.now }
-{
-    if bytes.len() < at + 8 {
-        return None;
-    }
-    Some(u64_at(bytes, at))
-}
-
-/// The signed number in the eight bytes from an offset, if they are there.
-pub fn i64_if(bytes: &[u8], at: usize) -> Option<i64>
-    requires low { at < 2 ^ 16 }
-    ensures { result ≡ signed_if at bytes.now }
-{
-    if bytes.len() < at + 8 {
-        return None;
-    }
-    Some(i64_at(bytes, at))
 }
 
 /// The relation in the twelve bytes from an offset, if they are there.

@@ -1,7 +1,7 @@
 //! Operations of the manager Heap, and their layouts.
 
 ghost use Rattle.std.specs.Prelude.{◌≡◌};
-ghost use Rattle.record_layouts.specs.Heap.{heap_insert_of, heap_delete_of, heap_update_of, heap_truncate_of, heap_confirm_of, heap_lock_of, heap_inplace_of, heap_op_of};
+ghost use Rattle.record_layouts.specs.Heap.{heap_insert_of, heap_delete_of, heap_update_of, heap_truncate_of, heap_confirm_of, heap_lock_of, heap_inplace_of, heap_op_of, heap_number, heap_is_whole};
 
 use layout::{u8_at, u16_at, u32_at};
 
@@ -28,7 +28,7 @@ pub enum HeapOp {
         init: bool,
     },
     /// A speculative insertion stays.
-    Confirm,
+    HeapConfirm,
     /// A tuple is locked.
     Lock,
     /// The bytes of a tuple become others.
@@ -49,9 +49,40 @@ impl HeapOp {
             0x20 => HeapOp::Update { init },
             0x30 => HeapOp::Truncate,
             0x40 => HeapOp::HotUpdate { init },
-            0x50 => HeapOp::Confirm,
+            0x50 => HeapOp::HeapConfirm,
             0x60 => HeapOp::Lock,
             _ => HeapOp::Inplace,
+        }
+    }
+
+    /// Its number, as `info` has it.
+    pub fn number(self) -> u8
+        ensures { result ≡ heap_number self }
+    {
+        match self {
+            HeapOp::Insert { .. } => 0x00,
+            HeapOp::Delete => 0x10,
+            HeapOp::Update { .. } => 0x20,
+            HeapOp::Truncate => 0x30,
+            HeapOp::HotUpdate { .. } => 0x40,
+            HeapOp::HeapConfirm => 0x50,
+            HeapOp::Lock => 0x60,
+            HeapOp::Inplace => 0x70,
+        }
+    }
+
+    /// Whether the main bytes hold its whole layout.
+    pub fn is_whole(self, main: &[u8]) -> bool
+        ensures { result ≡ heap_is_whole self main.now }
+    {
+        match self {
+            HeapOp::Insert { .. } => HeapInsert::read(main).is_some(),
+            HeapOp::Delete => HeapDelete::read(main).is_some(),
+            HeapOp::Update { .. } | HeapOp::HotUpdate { .. } => HeapUpdate::read(main).is_some(),
+            HeapOp::Truncate => HeapTruncate::read(main).is_some(),
+            HeapOp::HeapConfirm => HeapConfirm::read(main).is_some(),
+            HeapOp::Lock => HeapLock::read(main).is_some(),
+            HeapOp::Inplace => HeapInplace::read(main).is_some(),
         }
     }
 }

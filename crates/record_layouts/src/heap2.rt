@@ -1,8 +1,9 @@
 //! Operations of the manager Heap2, and their layouts.
 
 ghost use Rattle.std.specs.Prelude.{◌≡◌};
-ghost use Rattle.record_layouts.specs.Heap2.{heap_prune_of, heap_vacuum_of, heap_freeze_page_of, heap_visible_of, heap2_op_of, multi_insert_of};
+ghost use Rattle.record_layouts.specs.Heap2.{heap_prune_of, heap_vacuum_of, heap_freeze_page_of, heap_visible_of, heap2_op_of, multi_insert_of, heap2_number, heap2_is_whole};
 
+use crate::heap::HeapLock;
 use crate::places::Places;
 use layout::{u8_at, u16_at, u32_at};
 
@@ -47,6 +48,38 @@ impl Heap2Op {
             0x50 => Heap2Op::MultiInsert { init },
             0x60 => Heap2Op::LockUpdated,
             _ => Heap2Op::NewCid,
+        }
+    }
+
+    /// Its number, as `info` has it.
+    pub fn number(self) -> u8
+        ensures { result ≡ heap2_number self }
+    {
+        match self {
+            Heap2Op::Rewrite => 0x00,
+            Heap2Op::Prune => 0x10,
+            Heap2Op::Vacuum => 0x20,
+            Heap2Op::FreezePage => 0x30,
+            Heap2Op::Visible => 0x40,
+            Heap2Op::MultiInsert { .. } => 0x50,
+            Heap2Op::LockUpdated => 0x60,
+            Heap2Op::NewCid => 0x70,
+        }
+    }
+
+    /// Whether the main bytes hold its whole layout. An operation whose layout isn't read here is
+    /// whole.
+    pub fn is_whole(self, main: &[u8]) -> bool
+        ensures { result ≡ heap2_is_whole self main.now }
+    {
+        match self {
+            Heap2Op::Prune => HeapPrune::read(main).is_some(),
+            Heap2Op::Vacuum => HeapVacuum::read(main).is_some(),
+            Heap2Op::FreezePage => HeapFreezePage::read(main).is_some(),
+            Heap2Op::Visible => HeapVisible::read(main).is_some(),
+            Heap2Op::MultiInsert { init } => HeapMultiInsert::read(init, main).is_some(),
+            Heap2Op::LockUpdated => HeapLock::read(main).is_some(),
+            Heap2Op::Rewrite | Heap2Op::NewCid => true,
         }
     }
 }

@@ -32,8 +32,8 @@ pub use bytes::Bytes;
 pub use clog::{ClogOp, ClogTruncate, ClogZeroPage};
 pub use control_file::{Checkpoint, read_checkpoint};
 pub use database::{
-    DatabaseCopy, DatabaseCopyPrefix, DatabaseCreate, DatabaseCreatePrefix, DatabaseDrop,
-    DatabaseDropPrefix, DatabaseOp,
+    DatabaseCopy, DatabaseCreate, DatabaseCreatePrefix, DatabaseDrop, DatabaseDropPrefix,
+    DatabaseOp,
 };
 pub use end::TransactionEnd;
 pub use end_parts::{DatabaseName, Origin, Outcome, Prepared};
@@ -43,7 +43,7 @@ pub use heap::{
 pub use heap2::{Heap2Op, HeapFreezePage, HeapMultiInsert, HeapPrune, HeapVacuum, HeapVisible};
 pub use items::{Item, Items};
 pub use kinds::{Member, Message, StatsItem};
-pub use laws::ends_are_read_again;
+pub use laws::{ends_are_read_again, operations_have_their_numbers, prefixes_are_of_their_layouts};
 pub use multixact::{MultiXactCreate, MultiXactOp, MultiXactTruncate, MultiXactZeroPage};
 pub use operation::Operation;
 pub use places::Places;

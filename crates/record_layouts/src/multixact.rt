@@ -1,7 +1,7 @@
 //! Operations of the manager MultiXact, and their layouts.
 
 ghost use Rattle.std.specs.Prelude.{◌≡◌};
-ghost use Rattle.record_layouts.specs.MultiXact.{multixact_zero_page_of, multixact_truncate_of, multixact_op_of, multixact_create_of};
+ghost use Rattle.record_layouts.specs.MultiXact.{multixact_zero_page_of, multixact_truncate_of, multixact_op_of, multixact_create_of, multixact_number, multixact_is_whole};
 
 use crate::bytes::word;
 use crate::items::Items;
@@ -35,6 +35,34 @@ impl MultiXactOp {
             0x20 => MultiXactOp::CreateId,
             0x30 => MultiXactOp::TruncateId,
             number => MultiXactOp::Unlisted(number),
+        }
+    }
+
+    /// Its number, as `info` has it.
+    pub fn number(self) -> u8
+        ensures { result ≡ multixact_number self }
+    {
+        match self {
+            MultiXactOp::ZeroOffsetsPage => 0x00,
+            MultiXactOp::ZeroMembersPage => 0x10,
+            MultiXactOp::CreateId => 0x20,
+            MultiXactOp::TruncateId => 0x30,
+            MultiXactOp::Unlisted(number) => number,
+        }
+    }
+
+    /// Whether the main bytes hold its whole layout. An operation whose layout isn't read here is
+    /// whole.
+    pub fn is_whole(self, main: &[u8]) -> bool
+        ensures { result ≡ multixact_is_whole self main.now }
+    {
+        match self {
+            MultiXactOp::ZeroOffsetsPage | MultiXactOp::ZeroMembersPage => MultiXactZeroPage::read(
+                main,
+            ).is_some(),
+            MultiXactOp::CreateId => MultiXactCreate::read(main).is_some(),
+            MultiXactOp::TruncateId => MultiXactTruncate::read(main).is_some(),
+            MultiXactOp::Unlisted(_) => true,
         }
     }
 }

@@ -1,7 +1,7 @@
 //! Operations of the manager RelMap, and the layout of one of them.
 
 ghost use Rattle.std.specs.Prelude.{◌≡◌};
-ghost use Rattle.record_layouts.specs.RelMap.{relmap_op_of, relmap_update_of};
+ghost use Rattle.record_layouts.specs.RelMap.{relmap_op_of, relmap_update_of, relmap_number, relmap_is_whole};
 
 use crate::bytes::{Bytes, counted_bytes, word};
 
@@ -23,6 +23,27 @@ impl RelMapOp {
         match info & 0xF0 {
             0x00 => RelMapOp::Update,
             number => RelMapOp::Unlisted(number),
+        }
+    }
+
+    /// Its number, as `info` has it.
+    pub fn number(self) -> u8
+        ensures { result ≡ relmap_number self }
+    {
+        match self {
+            RelMapOp::Update => 0x00,
+            RelMapOp::Unlisted(number) => number,
+        }
+    }
+
+    /// Whether the main bytes hold its whole layout. An operation whose layout isn't read here is
+    /// whole.
+    pub fn is_whole(self, main: &[u8]) -> bool
+        ensures { result ≡ relmap_is_whole self main.now }
+    {
+        match self {
+            RelMapOp::Update => RelMapUpdate::read(main).is_some(),
+            RelMapOp::Unlisted(_) => true,
         }
     }
 }

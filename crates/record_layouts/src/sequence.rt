@@ -1,7 +1,7 @@
 //! Operations of the manager Sequence, and the layout of one of them.
 
 ghost use Rattle.std.specs.Prelude.{◌≡◌};
-ghost use Rattle.record_layouts.specs.Sequence.{sequence_op_of, sequence_log_of};
+ghost use Rattle.record_layouts.specs.Sequence.{sequence_op_of, sequence_log_of, sequence_number, sequence_is_whole};
 
 use crate::bytes::Bytes;
 use crate::fields::relation_at;
@@ -25,6 +25,27 @@ impl SequenceOp {
         match info & 0xF0 {
             0x00 => SequenceOp::Log,
             number => SequenceOp::Unlisted(number),
+        }
+    }
+
+    /// Its number, as `info` has it.
+    pub fn number(self) -> u8
+        ensures { result ≡ sequence_number self }
+    {
+        match self {
+            SequenceOp::Log => 0x00,
+            SequenceOp::Unlisted(number) => number,
+        }
+    }
+
+    /// Whether the main bytes hold its whole layout. An operation whose layout isn't read here is
+    /// whole.
+    pub fn is_whole(self, main: &[u8]) -> bool
+        ensures { result ≡ sequence_is_whole self main.now }
+    {
+        match self {
+            SequenceOp::Log => SequenceLog::read(main).is_some(),
+            SequenceOp::Unlisted(_) => true,
         }
     }
 }

@@ -1,7 +1,7 @@
 //! Operations of the manager Standby, and the layout of one of them.
 
 ghost use Rattle.std.specs.Prelude.{◌≡◌};
-ghost use Rattle.record_layouts.specs.Standby.{running_xacts_of, standby_op_of};
+ghost use Rattle.record_layouts.specs.Standby.{running_xacts_of, standby_op_of, standby_number, standby_is_whole};
 
 use crate::fields::i32_at;
 use layout::{u8_at, u32_at};
@@ -30,6 +30,29 @@ impl StandbyOp {
             0x10 => StandbyOp::RunningXacts,
             0x20 => StandbyOp::Invalidations,
             number => StandbyOp::Unlisted(number),
+        }
+    }
+
+    /// Its number, as `info` has it.
+    pub fn number(self) -> u8
+        ensures { result ≡ standby_number self }
+    {
+        match self {
+            StandbyOp::Lock => 0x00,
+            StandbyOp::RunningXacts => 0x10,
+            StandbyOp::Invalidations => 0x20,
+            StandbyOp::Unlisted(number) => number,
+        }
+    }
+
+    /// Whether the main bytes hold its whole layout. An operation whose layout isn't read here is
+    /// whole.
+    pub fn is_whole(self, main: &[u8]) -> bool
+        ensures { result ≡ standby_is_whole self main.now }
+    {
+        match self {
+            StandbyOp::RunningXacts => RunningXacts::read(main).is_some(),
+            StandbyOp::Lock | StandbyOp::Invalidations | StandbyOp::Unlisted(_) => true,
         }
     }
 }

@@ -2,7 +2,7 @@
 
 ghost use Rattle.std.specs.Prelude.{◌≡◌};
 ghost use Rattle.block_refs.specs.Names.{fork_of};
-ghost use Rattle.record_layouts.specs.Storage.{storage_truncate_of, storage_op_of, storage_create_of, created_name_of, cut_name_of};
+ghost use Rattle.record_layouts.specs.Storage.{storage_truncate_of, storage_op_of, storage_create_of, created_name_of, cut_name_of, storage_number, storage_is_whole};
 
 use crate::fields::{relation_at, relation_if};
 use block_refs::{Fork, RelName};
@@ -29,6 +29,29 @@ impl StorageOp {
             0x10 => StorageOp::Create,
             0x20 => StorageOp::Truncate,
             number => StorageOp::Unlisted(number),
+        }
+    }
+
+    /// Its number, as `info` has it.
+    pub fn number(self) -> u8
+        ensures { result ≡ storage_number self }
+    {
+        match self {
+            StorageOp::Create => 0x10,
+            StorageOp::Truncate => 0x20,
+            StorageOp::Unlisted(number) => number,
+        }
+    }
+
+    /// Whether the main bytes hold its whole layout. An operation whose layout isn't read here is
+    /// whole.
+    pub fn is_whole(self, main: &[u8]) -> bool
+        ensures { result ≡ storage_is_whole self main.now }
+    {
+        match self {
+            StorageOp::Create => StorageCreate::read(main).is_some(),
+            StorageOp::Truncate => StorageTruncate::read(main).is_some(),
+            StorageOp::Unlisted(_) => true,
         }
     }
 }

@@ -1,7 +1,7 @@
 //! Operations of the manager Tablespace.
 
 ghost use Rattle.std.specs.Prelude.{◌≡◌};
-ghost use Rattle.record_layouts.specs.Tablespace.{tablespace_op_of};
+ghost use Rattle.record_layouts.specs.Tablespace.{tablespace_op_of, tablespace_number};
 
 /// An operation of the manager Tablespace (`XLOG_TBLSPC_..` of src/include/commands/tablespace.h). Its layouts are not read.
 #[derive(Clone, Copy, Debug, PartialEq, Eq)]
@@ -24,6 +24,17 @@ impl TablespaceOp {
             0x00 => TablespaceOp::Create,
             0x10 => TablespaceOp::Drop,
             number => TablespaceOp::Unlisted(number),
+        }
+    }
+
+    /// Its number, as `info` has it.
+    pub fn number(self) -> u8
+        ensures { result ≡ tablespace_number self }
+    {
+        match self {
+            TablespaceOp::Create => 0x00,
+            TablespaceOp::Drop => 0x10,
+            TablespaceOp::Unlisted(number) => number,
         }
     }
 }

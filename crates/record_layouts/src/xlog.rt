@@ -1,10 +1,11 @@
 //! Operations of the manager XLOG, and their layouts.
 
 ghost use Rattle.std.specs.Prelude.{◌≡◌};
-ghost use Rattle.record_layouts.specs.Xlog.{next_oid_of, backup_end_of, parameter_change_of, fpw_change_of, end_of_recovery_of, overwrite_contrecord_of, xlog_op_of, restore_point_of};
+ghost use Rattle.record_layouts.specs.Xlog.{next_oid_of, backup_end_of, parameter_change_of, fpw_change_of, end_of_recovery_of, overwrite_contrecord_of, xlog_op_of, restore_point_of, xlog_number, xlog_is_whole};
 
 use crate::bytes::Bytes;
 use crate::fields::{i32_at, lsn_at};
+use control_file::read_checkpoint;
 use layout::{i64_at, u8_at, u32_at};
 use wal_base::Lsn;
 
@@ -62,6 +63,52 @@ impl XlogOp {
             0xB0 => XlogOp::Fpi,
             0xD0 => XlogOp::OverwriteContrecord,
             number => XlogOp::Unlisted(number),
+        }
+    }
+
+    /// Its number, as `info` has it.
+    pub fn number(self) -> u8
+        ensures { result ≡ xlog_number self }
+    {
+        match self {
+            XlogOp::CheckpointShutdown => 0x00,
+            XlogOp::CheckpointOnline => 0x10,
+            XlogOp::Noop => 0x20,
+            XlogOp::NextOid => 0x30,
+            XlogOp::Switch => 0x40,
+            XlogOp::BackupEnd => 0x50,
+            XlogOp::ParameterChange => 0x60,
+            XlogOp::RestorePoint => 0x70,
+            XlogOp::FpwChange => 0x80,
+            XlogOp::EndOfRecovery => 0x90,
+            XlogOp::FpiForHint => 0xA0,
+            XlogOp::Fpi => 0xB0,
+            XlogOp::OverwriteContrecord => 0xD0,
+            XlogOp::Unlisted(number) => number,
+        }
+    }
+
+    /// Whether the main bytes hold its whole layout. An operation whose layout isn't read here is
+    /// whole.
+    pub fn is_whole(self, main: &[u8]) -> bool
+        ensures { result ≡ xlog_is_whole self main.now }
+    {
+        match self {
+            XlogOp::CheckpointShutdown | XlogOp::CheckpointOnline => read_checkpoint(
+                main,
+            ).is_some(),
+            XlogOp::NextOid => NextOid::read(main).is_some(),
+            XlogOp::BackupEnd => BackupEnd::read(main).is_some(),
+            XlogOp::ParameterChange => ParameterChange::read(main).is_some(),
+            XlogOp::RestorePoint => RestorePoint::read(main).is_some(),
+            XlogOp::FpwChange => FpwChange::read(main).is_some(),
+            XlogOp::EndOfRecovery => EndOfRecovery::read(main).is_some(),
+            XlogOp::OverwriteContrecord => OverwriteContrecord::read(main).is_some(),
+            XlogOp::Noop
+            | XlogOp::Switch
+            | XlogOp::FpiForHint
+            | XlogOp::Fpi
+            | XlogOp::Unlisted(_) => true,
         }
     }
 }
