@@ -8,13 +8,13 @@ use Rattle.block_layouts.proofs.RowLemmas.{stood, fallen}
 -- what it is that an index tuple is there
 pub record HasItem (bytes : List ℕ) (at : ℕ) : Type 0 where
   pub front : at + 8 ≤ length bytes
-  pub told : 8 ≤ told_size bytes at
+  pub told : 0 < told_size bytes at
   pub whole : item_behind bytes at ≤ length bytes
 
 pub item_stands-facts : (bytes : List ℕ) (at : ℕ) → item_stands bytes at ≡ true → HasItem bytes at
 item_stands-facts bytes at e =
-    let p = and_parts (leb (at + 8) (length bytes)) (leb 8 (told_size bytes at) && leb (item_behind bytes at) (length bytes)) e in
-    let q = and_parts (leb 8 (told_size bytes at)) (leb (item_behind bytes at) (length bytes)) p.1 in
+    let p = and_parts (leb (at + 8) (length bytes)) (leb 1 (told_size bytes at) && leb (item_behind bytes at) (length bytes)) e in
+    let q = and_parts (leb 1 (told_size bytes at)) (leb (item_behind bytes at) (length bytes)) p.1 in
     record { front = grind (arith, nat_tests, p.0); told = grind (arith, nat_tests, q.0); whole = grind (arith, nat_tests, q.1) }
 
 -- so many tuples as are counted end where the bytes end

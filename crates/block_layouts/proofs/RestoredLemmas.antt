@@ -9,13 +9,10 @@ use Rattle.block_layouts.specs.Laws.{IsIndexTuple, AreIndexTuples}
 use Rattle.block_layouts.proofs.IndexLemmas.{HasItem, item_stands-facts, items_end-count, count_below-next}
 use Rattle.block_layouts.proofs.PieceLemmas.{u16_at-piece, u16_at-front}
 
-up : (n : ℕ) → n ≤ (n + 7) / 8 * 8
-up n = omega arith
-
 pub item_is : (bytes : List ℕ) (at : ℕ) → HasItem bytes at → IsIndexTuple (item_at bytes at)
 item_is bytes at has =
     let size = item_size bytes at in
-    let big : 8 ≤ size = omega (arith, has.told, up (told_size bytes at)) in
+    let big : 8 ≤ size = omega (arith, has.told) in
     let len : length (item_at bytes at) ≡ size = length-take-le size (drop at bytes) (omega (arith, length-drop at bytes, has.whole)) in
     let same : told_size (item_at bytes at) 0 ≡ told_size bytes at = ap (λ (n : ℕ). n % 8192) (u16_at-piece bytes at size 6 big) in
     record {
@@ -59,11 +56,11 @@ goes_on bytes at tuple rest le e is =
     let size : item_size bytes at ≡ length tuple = ap (λ (n : ℕ). (n + 7) / 8 * 8) told ∙ sym is.size in
     let len : length bytes - at ≡ length tuple + length rest = sym (length-drop at bytes) ∙ ap length e ∙ length-append tuple rest in
     let front : leb (at + 8) (length bytes) ≡ true = grind (arith, nat_tests, len, is.header) in
-    let enough : leb 8 (told_size bytes at) ≡ true = rw told (grind (arith, nat_tests, is.told)) in
+    let enough : leb 1 (told_size bytes at) ≡ true = rw told (grind (arith, nat_tests, is.told)) in
     let whole : leb (item_behind bytes at) (length bytes) ≡ true = grind (arith, nat_tests, len, size) in
     record {
       size = size;
-      stands = and_from (leb (at + 8) (length bytes)) (leb 8 (told_size bytes at) && leb (item_behind bytes at) (length bytes)) front (and_from (leb 8 (told_size bytes at)) (leb (item_behind bytes at) (length bytes)) enough whole);
+      stands = and_from (leb (at + 8) (length bytes)) (leb 1 (told_size bytes at) && leb (item_behind bytes at) (length bytes)) front (and_from (leb 1 (told_size bytes at)) (leb (item_behind bytes at) (length bytes)) enough whole);
       item = ap (λ (n : ℕ). take n (drop at bytes)) size ∙ ap (take (length tuple)) e ∙ take_at tuple rest (length tuple) refl;
       behind = sym (drop-drop (item_size bytes at) at bytes) ∙ ap (λ (n : ℕ). drop n (drop at bytes)) size ∙ ap (drop (length tuple)) e ∙ drop_at tuple rest (length tuple) refl;
     }

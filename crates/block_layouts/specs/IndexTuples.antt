@@ -19,10 +19,10 @@ item_at bytes at = take (item_size bytes at) (drop at bytes)
 abbrev pub item_behind : List ℕ → ℕ → ℕ
 item_behind bytes at = at + item_size bytes at
 
--- the tuple is there: its header of eight bytes, a size that holds the header, and as many bytes
+-- the tuple is there: its header of eight bytes, a size above 0, and as many bytes
 abbrev pub item_stands : List ℕ → ℕ → Bool
 item_stands bytes at =
-    nat_le (at + 8) (length bytes) && (nat_le 8 (told_size bytes at) && nat_le (item_behind bytes at) (length bytes))
+    nat_le (at + 8) (length bytes) && (nat_le 1 (told_size bytes at) && nat_le (item_behind bytes at) (length bytes))
 
 -- so many tuples from an offset on, and the offset behind them, where all are there
 abbrev pub items_from : ℕ → List ℕ → ℕ → List (List ℕ)

@@ -11,11 +11,11 @@ use Rattle.block_layouts.specs.Split.{SplitView}
 use Rattle.block_layouts.specs.Update.{UpdateView, header_place}
 use Rattle.block_layouts.specs.IndexTuples.{told_size, item_size}
 
--- An index tuple as its bytes: the size in its header of eight bytes holds the header, and the bytes are as many,
+-- An index tuple as its bytes: it has a header of eight bytes, and as many bytes as the size above 0 in it tells,
 -- rounded up to 8.
 pub record IsIndexTuple (tuple : List ℕ) : Type 0 where
   pub header : 8 ≤ length tuple
-  pub told : 8 ≤ told_size tuple 0
+  pub told : 0 < told_size tuple 0
   pub size : length tuple ≡ item_size tuple 0
 
 -- the bytes are index tuples, one behind another, and nothing else

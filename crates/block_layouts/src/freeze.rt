@@ -14,7 +14,7 @@ const PLAN_SIZE: usize = 12;
 
 /// Plans with their places, which are read off the record's bytes one by one. Contracts see the
 /// list of those still to come.
-#[derive(Debug, Drop)]
+#[derive(Clone, Debug, Drop)]
 pub struct FreezePlans<'a> {
     bytes: &'a [u8],
     plan: usize,

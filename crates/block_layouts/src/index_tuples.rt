@@ -15,7 +15,7 @@ const SIZE_LIMIT: u16 = 0x2000;
 
 /// Index tuples, which are read off the record's bytes one by one. Contracts see the list of those
 /// still to come, each as its bytes.
-#[derive(Debug, Drop)]
+#[derive(Clone, Debug, Drop)]
 pub struct IndexTuples<'a> {
     bytes: &'a [u8],
     at: usize,
@@ -58,7 +58,7 @@ pub(crate) fn item_end(bytes: &[u8], at: usize) -> Option<usize>
     ensures within { IfSome result (λ end. end ≤ length bytes.now) }
     ensures rises { IfSome result (λ end. at < end) }
 {
-    if bytes.len() < at + HEADER_SIZE || told_size(bytes, at) < HEADER_SIZE {
+    if bytes.len() < at + HEADER_SIZE || told_size(bytes, at) == 0 {
         return None;
     }
     let end = at + item_size(bytes, at);

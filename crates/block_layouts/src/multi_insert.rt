@@ -14,7 +14,7 @@ const FRONT_SIZE: usize = 2 + HEADER_SIZE;
 
 /// Heap tuples, which are read off the record's bytes one by one. Contracts see the list of those
 /// still to come.
-#[derive(Debug, Drop)]
+#[derive(Clone, Debug, Drop)]
 pub struct HeapTuples<'a> {
     bytes: &'a [u8],
     at: usize,

@@ -12,7 +12,7 @@ pub(crate) const PLACE_SIZE: usize = 2;
 
 /// Places of lines on a page, counted from 1 (`OffsetNumber`), which are read off the record's
 /// bytes one by one. Contracts see the list of those still to come.
-#[derive(Debug, Drop)]
+#[derive(Clone, Debug, Drop)]
 pub struct Places<'a> {
     bytes: &'a [u8],
     at: usize,

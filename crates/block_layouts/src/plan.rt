@@ -3,7 +3,7 @@
 use crate::places::Places;
 
 /// What a FREEZE_PAGE makes of some tuples of its page (`xl_heap_freeze_plan`).
-#[derive(Debug, Drop)]
+#[derive(Clone, Debug, Drop)]
 pub struct FreezePlan<'a> {
     /// Their `xmax`.
     pub xmax: u32,

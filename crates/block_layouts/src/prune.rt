@@ -7,7 +7,7 @@ use crate::places::{PLACE_SIZE, Places};
 use crate::redirects::{REDIRECT_SIZE, Redirects};
 
 /// What a PRUNE makes of the lines of its page.
-#[derive(Debug, Drop)]
+#[derive(Clone, Debug, Drop)]
 pub struct PrunePlaces<'a> {
     /// Lines that become redirects.
     pub redirected: Redirects<'a>,

@@ -21,7 +21,7 @@ pub struct Redirect {
 
 /// Pairs of places, which are read off the record's bytes one by one. Contracts see the list of
 /// those still to come.
-#[derive(Debug, Drop)]
+#[derive(Clone, Debug, Drop)]
 pub struct Redirects<'a> {
     bytes: &'a [u8],
     at: usize,
