@@ -2,3 +2,4 @@ pub mod ZeroLemmas
 pub mod ListLemmas
 pub mod NamingLemmas
 pub mod DistinctNames
+pub mod ShortLemmas

@@ -30,7 +30,7 @@ text_of (of.Heap2 op) main = heap2_text op main
 text_of (of.Heap op) main = heap_text op main
 text_of (of.Btree op) main = btree_text op main
 text_of (of.Sequence op) main = sequence_text op main
-text_of (of.Other number) main = []
+text_of (of.Other manager number) main = []
 
 -- the text of a record with these parts
 unfoldable pub description_of : LogRecord → PartsView → List ℕ

@@ -57,7 +57,7 @@ heap_text op.Delete main = or_short delete_text (heap_delete_of main)
 heap_text (op.Update init) main = or_short update_text (heap_update_of main)
 heap_text op.Truncate main = or_short truncate_text (heap_truncate_of main)
 heap_text (op.HotUpdate init) main = or_short update_text (heap_update_of main)
-heap_text op.Confirm main = or_short confirm_text (heap_confirm_of main)
+heap_text op.HeapConfirm main = or_short confirm_text (heap_confirm_of main)
 heap_text op.Lock main = or_short lock_text (heap_lock_of main)
 heap_text op.Inplace main = or_short inplace_text (heap_inplace_of main)
 

@@ -5,7 +5,6 @@ use Rattle.std.specs.List.{flat_map}
 use Rattle.record_layouts.specs.End.{end_of}
 use Rattle.record_layouts.specs.Transaction.{assignment_of}
 use Rattle.record_layouts.specs.declared.end.TransactionEnd.{TransactionEnd}
-use Rattle.record_layouts.specs.declared.end_parts.Outcome.TheVariants.{Commit, Abort}
 use Rattle.record_layouts.specs.declared.transaction.Assignment.{Assignment}
 use Rattle.record_layouts.specs.declared.transaction.TransactionOp.{TransactionOp}
 use Rattle.record_layouts.specs.declared.transaction.TransactionOp.TheVariants as op
@@ -35,11 +34,8 @@ assignment_text assignment = codes "xtop " ++ decimal assignment.top
 
 -- the text of an operation with these main bytes
 abbrev pub transaction_text : TransactionOp → List ℕ → List ℕ
-transaction_text (op.Commit has_xinfo) main = or_short end_text (end_of Commit has_xinfo main)
+transaction_text (op.End outcome prepared has_xinfo) main = or_short end_text (end_of outcome has_xinfo main)
 transaction_text op.Prepare main = []
-transaction_text (op.Abort has_xinfo) main = or_short end_text (end_of Abort has_xinfo main)
-transaction_text (op.CommitPrepared has_xinfo) main = or_short end_text (end_of Commit has_xinfo main)
-transaction_text (op.AbortPrepared has_xinfo) main = or_short end_text (end_of Abort has_xinfo main)
 transaction_text op.Assignment main = or_short assignment_text (assignment_of main)
-transaction_text op.Invalidations main = []
+transaction_text op.Invalidation main = []
 transaction_text (op.Unlisted number) main = []

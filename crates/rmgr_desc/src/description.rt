@@ -52,7 +52,11 @@ pub fn add_description(text: &mut String, rec: &Record, parts: &Parts) -> Result
 }
 
 /// Adds the text of an operation with these main bytes.
-fn add_text(text: &mut String, operation: Operation, main: &[u8]) -> Result<(), AllocError>
+pub(crate) fn add_text(
+    text: &mut String,
+    operation: Operation,
+    main: &[u8],
+) -> Result<(), AllocError>
     ensures { IfOk result (λ _. string_bytes text.new
         ≡ string_bytes text.old ++ text_of operation main.now) }
 {
@@ -69,6 +73,6 @@ fn add_text(text: &mut String, operation: Operation, main: &[u8]) -> Result<(), 
         Operation::Heap(op) => add_heap(text, op, main),
         Operation::Btree(op) => add_btree(text, op, main),
         Operation::Sequence(op) => add_sequence(text, op, main),
-        Operation::Tablespace(_) | Operation::Other(_) => Ok(()),
+        Operation::Tablespace(_) | Operation::Other { .. } => Ok(()),
     }
 }

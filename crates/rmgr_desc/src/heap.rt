@@ -21,7 +21,7 @@ pub fn add_heap(text: &mut String, op: HeapOp, main: &[u8]) -> Result<(), AllocE
         HeapOp::Delete => add_delete(text, main),
         HeapOp::Update { .. } | HeapOp::HotUpdate { .. } => add_update(text, main),
         HeapOp::Truncate => add_truncate(text, main),
-        HeapOp::Confirm => add_confirm(text, main),
+        HeapOp::HeapConfirm => add_confirm(text, main),
         HeapOp::Lock => add_lock(text, main),
         HeapOp::Inplace => add_inplace(text, main),
     }

@@ -1,199 +1,214 @@
-//! The names of the operations of each resource manager, by their numbers.
+//! The names of the operations of each resource manager.
 
 ghost use Rattle.std.specs.Prelude.{◌≡◌, option_map};
-ghost use Rattle.rmgr_desc.specs.Operations.{name_in, operations_of, btree_operations, clog_operations, database_operations, heap2_operations, heap_operations, multixact_operations, relmap_operations, sequence_operations, standby_operations, storage_operations, tablespace_operations, transaction_operations, xlog_operations};
+ghost use Rattle.rmgr_desc.specs.Operations.{listed_name, btree_name, clog_name, database_name, end_name, heap2_name, heap_name, multixact_name, relmap_name, sequence_name, standby_name, storage_name, tablespace_name, transaction_name, xlog_name};
 
-/// The name of a manager's operation, or `None` where it has none of this number.
-pub fn listed_name(manager: u8, number: u8) -> Option<&'static str>
-    ensures { option_map (λ name. name.now) result ≡ name_in (operations_of manager) number }
+use record_layouts::{
+    BtreeOp, ClogOp, DatabaseOp, Heap2Op, HeapOp, MultiXactOp, Operation, Outcome, RelMapOp,
+    SequenceOp, StandbyOp, StorageOp, TablespaceOp, TransactionOp, XlogOp,
+};
+
+/// The name of an operation, or `None` where it is in no row of docs/RECORDS.md.
+pub fn listed_name(operation: Operation) -> Option<&'static str>
+    ensures { option_map (λ name. name.now) result ≡ listed_name operation }
 {
-    match manager {
-        0 => xlog_name(number),
-        1 => transaction_name(number),
-        2 => storage_name(number),
-        3 => clog_name(number),
-        4 => database_name(number),
-        5 => tablespace_name(number),
-        6 => multixact_name(number),
-        7 => relmap_name(number),
-        8 => standby_name(number),
-        9 => heap2_name(number),
-        10 => heap_name(number),
-        11 => btree_name(number),
-        15 => sequence_name(number),
-        _ => None,
+    match operation {
+        Operation::Xlog(op) => xlog_name(op),
+        Operation::Transaction(op) => transaction_name(op),
+        Operation::Storage(op) => storage_name(op),
+        Operation::Clog(op) => clog_name(op),
+        Operation::Database(op) => database_name(op),
+        Operation::Tablespace(op) => tablespace_name(op),
+        Operation::MultiXact(op) => multixact_name(op),
+        Operation::RelMap(op) => relmap_name(op),
+        Operation::Standby(op) => standby_name(op),
+        Operation::Heap2(op) => Some(heap2_name(op)),
+        Operation::Heap(op) => Some(heap_name(op)),
+        Operation::Btree(op) => btree_name(op),
+        Operation::Sequence(op) => sequence_name(op),
+        Operation::Other { .. } => None,
     }
 }
 
-fn xlog_name(number: u8) -> Option<&'static str>
-    ensures { option_map (λ name. name.now) result ≡ name_in xlog_operations number }
+fn xlog_name(op: XlogOp) -> Option<&'static str>
+    ensures { option_map (λ name. name.now) result ≡ xlog_name op }
 {
-    match number {
-        0x00 => Some("CHECKPOINT_SHUTDOWN"),
-        0x10 => Some("CHECKPOINT_ONLINE"),
-        0x20 => Some("NOOP"),
-        0x30 => Some("NEXTOID"),
-        0x40 => Some("SWITCH"),
-        0x50 => Some("BACKUP_END"),
-        0x60 => Some("PARAMETER_CHANGE"),
-        0x70 => Some("RESTORE_POINT"),
-        0x80 => Some("FPW_CHANGE"),
-        0x90 => Some("END_OF_RECOVERY"),
-        0xA0 => Some("FPI_FOR_HINT"),
-        0xB0 => Some("FPI"),
-        0xD0 => Some("OVERWRITE_CONTRECORD"),
-        _ => None,
+    match op {
+        XlogOp::CheckpointShutdown => Some("CHECKPOINT_SHUTDOWN"),
+        XlogOp::CheckpointOnline => Some("CHECKPOINT_ONLINE"),
+        XlogOp::Noop => Some("NOOP"),
+        XlogOp::NextOid => Some("NEXTOID"),
+        XlogOp::Switch => Some("SWITCH"),
+        XlogOp::BackupEnd => Some("BACKUP_END"),
+        XlogOp::ParameterChange => Some("PARAMETER_CHANGE"),
+        XlogOp::RestorePoint => Some("RESTORE_POINT"),
+        XlogOp::FpwChange => Some("FPW_CHANGE"),
+        XlogOp::EndOfRecovery => Some("END_OF_RECOVERY"),
+        XlogOp::FpiForHint => Some("FPI_FOR_HINT"),
+        XlogOp::Fpi => Some("FPI"),
+        XlogOp::OverwriteContrecord => Some("OVERWRITE_CONTRECORD"),
+        XlogOp::Unlisted(_) => None,
     }
 }
 
-fn transaction_name(number: u8) -> Option<&'static str>
-    ensures { option_map (λ name. name.now) result ≡ name_in transaction_operations number }
+fn end_name(outcome: Outcome, prepared: bool) -> &'static str
+    ensures { result.now ≡ end_name outcome prepared }
 {
-    match number {
-        0x00 => Some("COMMIT"),
-        0x10 => Some("PREPARE"),
-        0x20 => Some("ABORT"),
-        0x30 => Some("COMMIT_PREPARED"),
-        0x40 => Some("ABORT_PREPARED"),
-        0x50 => Some("ASSIGNMENT"),
-        0x60 => Some("INVALIDATION"),
-        _ => None,
+    match (outcome, prepared) {
+        (Outcome::Commit, false) => "COMMIT",
+        (Outcome::Abort, false) => "ABORT",
+        (Outcome::Commit, true) => "COMMIT_PREPARED",
+        (Outcome::Abort, true) => "ABORT_PREPARED",
     }
 }
 
-fn storage_name(number: u8) -> Option<&'static str>
-    ensures { option_map (λ name. name.now) result ≡ name_in storage_operations number }
+fn transaction_name(op: TransactionOp) -> Option<&'static str>
+    ensures { option_map (λ name. name.now) result ≡ transaction_name op }
 {
-    match number {
-        0x10 => Some("CREATE"),
-        0x20 => Some("TRUNCATE"),
-        _ => None,
+    match op {
+        TransactionOp::End {
+            outcome,
+            prepared,
+            ..
+        } => Some(end_name(outcome, prepared)),
+        TransactionOp::Prepare => Some("PREPARE"),
+        TransactionOp::Assignment => Some("ASSIGNMENT"),
+        TransactionOp::Invalidation => Some("INVALIDATION"),
+        TransactionOp::Unlisted(_) => None,
     }
 }
 
-fn clog_name(number: u8) -> Option<&'static str>
-    ensures { option_map (λ name. name.now) result ≡ name_in clog_operations number }
+fn storage_name(op: StorageOp) -> Option<&'static str>
+    ensures { option_map (λ name. name.now) result ≡ storage_name op }
 {
-    match number {
-        0x00 => Some("ZEROPAGE"),
-        0x10 => Some("TRUNCATE"),
-        _ => None,
+    match op {
+        StorageOp::Create => Some("CREATE"),
+        StorageOp::Truncate => Some("TRUNCATE"),
+        StorageOp::Unlisted(_) => None,
     }
 }
 
-fn database_name(number: u8) -> Option<&'static str>
-    ensures { option_map (λ name. name.now) result ≡ name_in database_operations number }
+fn clog_name(op: ClogOp) -> Option<&'static str>
+    ensures { option_map (λ name. name.now) result ≡ clog_name op }
 {
-    match number {
-        0x00 => Some("CREATE_FILE_COPY"),
-        0x10 => Some("CREATE_WAL_LOG"),
-        0x20 => Some("DROP"),
-        _ => None,
+    match op {
+        ClogOp::ZeroPage => Some("ZEROPAGE"),
+        ClogOp::Truncate => Some("TRUNCATE"),
+        ClogOp::Unlisted(_) => None,
     }
 }
 
-fn tablespace_name(number: u8) -> Option<&'static str>
-    ensures { option_map (λ name. name.now) result ≡ name_in tablespace_operations number }
+fn database_name(op: DatabaseOp) -> Option<&'static str>
+    ensures { option_map (λ name. name.now) result ≡ database_name op }
 {
-    match number {
-        0x00 => Some("CREATE"),
-        0x10 => Some("DROP"),
-        _ => None,
+    match op {
+        DatabaseOp::CreateFileCopy => Some("CREATE_FILE_COPY"),
+        DatabaseOp::CreateWalLog => Some("CREATE_WAL_LOG"),
+        DatabaseOp::Drop => Some("DROP"),
+        DatabaseOp::Unlisted(_) => None,
     }
 }
 
-fn multixact_name(number: u8) -> Option<&'static str>
-    ensures { option_map (λ name. name.now) result ≡ name_in multixact_operations number }
+fn tablespace_name(op: TablespaceOp) -> Option<&'static str>
+    ensures { option_map (λ name. name.now) result ≡ tablespace_name op }
 {
-    match number {
-        0x00 => Some("ZERO_OFF_PAGE"),
-        0x10 => Some("ZERO_MEM_PAGE"),
-        0x20 => Some("CREATE_ID"),
-        0x30 => Some("TRUNCATE_ID"),
-        _ => None,
+    match op {
+        TablespaceOp::Create => Some("CREATE"),
+        TablespaceOp::Drop => Some("DROP"),
+        TablespaceOp::Unlisted(_) => None,
     }
 }
 
-fn relmap_name(number: u8) -> Option<&'static str>
-    ensures { option_map (λ name. name.now) result ≡ name_in relmap_operations number }
+fn multixact_name(op: MultiXactOp) -> Option<&'static str>
+    ensures { option_map (λ name. name.now) result ≡ multixact_name op }
 {
-    match number {
-        0x00 => Some("UPDATE"),
-        _ => None,
+    match op {
+        MultiXactOp::ZeroOffsetsPage => Some("ZERO_OFF_PAGE"),
+        MultiXactOp::ZeroMembersPage => Some("ZERO_MEM_PAGE"),
+        MultiXactOp::CreateId => Some("CREATE_ID"),
+        MultiXactOp::TruncateId => Some("TRUNCATE_ID"),
+        MultiXactOp::Unlisted(_) => None,
     }
 }
 
-fn standby_name(number: u8) -> Option<&'static str>
-    ensures { option_map (λ name. name.now) result ≡ name_in standby_operations number }
+fn relmap_name(op: RelMapOp) -> Option<&'static str>
+    ensures { option_map (λ name. name.now) result ≡ relmap_name op }
 {
-    match number {
-        0x00 => Some("LOCK"),
-        0x10 => Some("RUNNING_XACTS"),
-        0x20 => Some("INVALIDATIONS"),
-        _ => None,
+    match op {
+        RelMapOp::Update => Some("UPDATE"),
+        RelMapOp::Unlisted(_) => None,
     }
 }
 
-fn heap2_name(number: u8) -> Option<&'static str>
-    ensures { option_map (λ name. name.now) result ≡ name_in heap2_operations number }
+fn standby_name(op: StandbyOp) -> Option<&'static str>
+    ensures { option_map (λ name. name.now) result ≡ standby_name op }
 {
-    match number {
-        0x00 => Some("REWRITE"),
-        0x10 => Some("PRUNE"),
-        0x20 => Some("VACUUM"),
-        0x30 => Some("FREEZE_PAGE"),
-        0x40 => Some("VISIBLE"),
-        0x50 => Some("MULTI_INSERT"),
-        0x60 => Some("LOCK_UPDATED"),
-        0x70 => Some("NEW_CID"),
-        _ => None,
+    match op {
+        StandbyOp::Lock => Some("LOCK"),
+        StandbyOp::RunningXacts => Some("RUNNING_XACTS"),
+        StandbyOp::Invalidations => Some("INVALIDATIONS"),
+        StandbyOp::Unlisted(_) => None,
     }
 }
 
-fn heap_name(number: u8) -> Option<&'static str>
-    ensures { option_map (λ name. name.now) result ≡ name_in heap_operations number }
+fn heap2_name(op: Heap2Op) -> &'static str
+    ensures { result.now ≡ heap2_name op }
 {
-    match number {
-        0x00 => Some("INSERT"),
-        0x10 => Some("DELETE"),
-        0x20 => Some("UPDATE"),
-        0x30 => Some("TRUNCATE"),
-        0x40 => Some("HOT_UPDATE"),
-        0x50 => Some("HEAP_CONFIRM"),
-        0x60 => Some("LOCK"),
-        0x70 => Some("INPLACE"),
-        _ => None,
+    match op {
+        Heap2Op::Rewrite => "REWRITE",
+        Heap2Op::Prune => "PRUNE",
+        Heap2Op::Vacuum => "VACUUM",
+        Heap2Op::FreezePage => "FREEZE_PAGE",
+        Heap2Op::Visible => "VISIBLE",
+        Heap2Op::MultiInsert { .. } => "MULTI_INSERT",
+        Heap2Op::LockUpdated => "LOCK_UPDATED",
+        Heap2Op::NewCid => "NEW_CID",
     }
 }
 
-fn btree_name(number: u8) -> Option<&'static str>
-    ensures { option_map (λ name. name.now) result ≡ name_in btree_operations number }
+fn heap_name(op: HeapOp) -> &'static str
+    ensures { result.now ≡ heap_name op }
 {
-    match number {
-        0x00 => Some("INSERT_LEAF"),
-        0x10 => Some("INSERT_UPPER"),
-        0x20 => Some("INSERT_META"),
-        0x30 => Some("SPLIT_L"),
-        0x40 => Some("SPLIT_R"),
-        0x50 => Some("INSERT_POST"),
-        0x60 => Some("DEDUP"),
-        0x70 => Some("DELETE"),
-        0x80 => Some("UNLINK_PAGE"),
-        0x90 => Some("UNLINK_PAGE_META"),
-        0xA0 => Some("NEWROOT"),
-        0xB0 => Some("MARK_PAGE_HALFDEAD"),
-        0xC0 => Some("VACUUM"),
-        0xD0 => Some("REUSE_PAGE"),
-        0xE0 => Some("META_CLEANUP"),
-        _ => None,
+    match op {
+        HeapOp::Insert { .. } => "INSERT",
+        HeapOp::Delete => "DELETE",
+        HeapOp::Update { .. } => "UPDATE",
+        HeapOp::Truncate => "TRUNCATE",
+        HeapOp::HotUpdate { .. } => "HOT_UPDATE",
+        HeapOp::HeapConfirm => "HEAP_CONFIRM",
+        HeapOp::Lock => "LOCK",
+        HeapOp::Inplace => "INPLACE",
     }
 }
 
-fn sequence_name(number: u8) -> Option<&'static str>
-    ensures { option_map (λ name. name.now) result ≡ name_in sequence_operations number }
+fn btree_name(op: BtreeOp) -> Option<&'static str>
+    ensures { option_map (λ name. name.now) result ≡ btree_name op }
 {
-    match number {
-        0x00 => Some("LOG"),
-        _ => None,
+    match op {
+        BtreeOp::InsertLeaf => Some("INSERT_LEAF"),
+        BtreeOp::InsertUpper => Some("INSERT_UPPER"),
+        BtreeOp::InsertMeta => Some("INSERT_META"),
+        BtreeOp::SplitLeft => Some("SPLIT_L"),
+        BtreeOp::SplitRight => Some("SPLIT_R"),
+        BtreeOp::InsertPost => Some("INSERT_POST"),
+        BtreeOp::Dedup => Some("DEDUP"),
+        BtreeOp::Delete => Some("DELETE"),
+        BtreeOp::UnlinkPage => Some("UNLINK_PAGE"),
+        BtreeOp::UnlinkPageMeta => Some("UNLINK_PAGE_META"),
+        BtreeOp::NewRoot => Some("NEWROOT"),
+        BtreeOp::MarkPageHalfDead => Some("MARK_PAGE_HALFDEAD"),
+        BtreeOp::Vacuum => Some("VACUUM"),
+        BtreeOp::ReusePage => Some("REUSE_PAGE"),
+        BtreeOp::MetaCleanup => Some("META_CLEANUP"),
+        BtreeOp::Unlisted(_) => None,
+    }
+}
+
+fn sequence_name(op: SequenceOp) -> Option<&'static str>
+    ensures { option_map (λ name. name.now) result ≡ sequence_name op }
+{
+    match op {
+        SequenceOp::Log => Some("LOG"),
+        SequenceOp::Unlisted(_) => None,
     }
 }

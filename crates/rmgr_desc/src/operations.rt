@@ -1,15 +1,13 @@
 //! The names of operations.
 
 ghost use Rattle.std.specs.Prelude.{◌≡◌, ◌++◌, [], IfOk, OnErr, string_bytes};
-ghost use Rattle.rmgr_desc.specs.Operations.{has_flag, init_mark, is_unnamed, may_init, name_of, number_of, operation_name_of};
+ghost use Rattle.rmgr_desc.specs.Operations.{heap2_inits, heap_inits, init_mark, inits, is_unnamed, name_of, numbered_name, operation_name_of};
 
 use crate::names::listed_name;
 use crate::pieces::or_emptied;
+use record_layouts::{Heap2Op, HeapOp, Operation};
 use std::alloc::{AllocError, Global};
 use wal_base::{HexByte, OutOfMemory, Text};
-
-/// The bit of `info` that says that a page is made anew (`XLOG_HEAP_INIT_PAGE`).
-const INIT: u8 = 0x80;
 
 /// The name of the operation of a record with this manager and this `info` (docs/RECORDS.md), as
 /// `INSERT+INIT`; `INFO_` and two digits where the manager's operations have no names here, and
@@ -31,28 +29,8 @@ pub fn add_operation_name(text: &mut String, manager: u8, info: u8) -> Result<()
         ≡ string_bytes text.old ++ operation_name_of manager info) }
     ensures err { OnErr result (string_bytes text.new ≡ []) }
 {
-    let number = number_of(manager, info);
-    let added = add_name(text, manager, number, info);
+    let added = add_name(text, Operation::of(manager, info));
     or_emptied(text, added)
-}
-
-/// Whether `info` has a flag beside the number of the operation.
-fn has_flag(manager: u8) -> bool
-    ensures { result ≡ has_flag manager }
-{
-    manager == 1 || manager == 9 || manager == 10
-}
-
-/// The number of the operation in `info`.
-#[tactic(auto, unfolding(crate::specs::Operations::number_of))]
-fn number_of(manager: u8, info: u8) -> u8
-    ensures { result ≡ number_of manager info }
-{
-    if has_flag(manager) {
-        info & 0x70
-    } else {
-        info & 0xF0
-    }
 }
 
 /// Whether the manager's operations have no names here.
@@ -62,40 +40,70 @@ fn is_unnamed(manager: u8) -> bool
     manager >= 12 && manager <= 14 || manager >= 16 && manager <= 21 || manager >= 128
 }
 
-/// Whether the operation may make its page anew.
-fn may_init(manager: u8, number: u8) -> bool
-    ensures { result ≡ may_init manager number }
+/// Whether an operation of Heap makes its page anew first.
+fn heap_inits(op: HeapOp) -> bool
+    ensures { result ≡ heap_inits op }
 {
-    manager == 10 && (number == 0x00 || number == 0x20 || number == 0x40)
-        || manager == 9 && number == 0x50
+    match op {
+        HeapOp::Insert { init } | HeapOp::Update { init } | HeapOp::HotUpdate { init } => init,
+        HeapOp::Delete | HeapOp::Truncate | HeapOp::HeapConfirm => false,
+        HeapOp::Lock | HeapOp::Inplace => false,
+    }
+}
+
+/// Whether an operation of Heap2 makes its page anew first.
+fn heap2_inits(op: Heap2Op) -> bool
+    ensures { result ≡ heap2_inits op }
+{
+    match op {
+        Heap2Op::MultiInsert { init } => init,
+        _ => false,
+    }
+}
+
+/// Whether an operation makes its page anew first.
+fn inits(operation: Operation) -> bool
+    ensures { result ≡ inits operation }
+{
+    match operation {
+        Operation::Heap(op) => heap_inits(op),
+        Operation::Heap2(op) => heap2_inits(op),
+        _ => false,
+    }
 }
 
 /// What stands behind the name of an operation.
-fn init_mark(manager: u8, number: u8, info: u8) -> &'static str
-    ensures { result.now ≡ init_mark manager number info }
+fn init_mark(operation: Operation) -> &'static str
+    ensures { result.now ≡ init_mark operation }
 {
-    if may_init(manager, number) && info & INIT != 0 {
-        "+INIT"
+    if inits(operation) { "+INIT" } else { "" }
+}
+
+/// Adds what shows of an operation in no row.
+fn add_number(text: &mut String, operation: Operation) -> Result<(), AllocError>
+    ensures { IfOk result (λ _. string_bytes text.new
+        ≡ string_bytes text.old ++ numbered_name operation) }
+{
+    let number = operation.number();
+    if is_unnamed(operation.manager()) {
+        let digits = HexByte(number);
+        write!(text, "INFO_{digits}")
     } else {
-        ""
+        write!(text, "UNKNOWN ({number:x})")
     }
 }
 
-/// Adds the name of the operation with this number.
+/// Adds the name of an operation.
 #[tactic(auto, unfolding(crate::specs::Operations::name_of))]
-fn add_name(text: &mut String, manager: u8, number: u8, info: u8) -> Result<(), AllocError>
+fn add_name(text: &mut String, operation: Operation) -> Result<(), AllocError>
     ensures { IfOk result (λ _. string_bytes text.new
-        ≡ string_bytes text.old ++ name_of manager number info) }
+        ≡ string_bytes text.old ++ name_of operation) }
 {
-    if is_unnamed(manager) {
-        let number = HexByte(number);
-        return write!(text, "INFO_{number}");
-    }
-    match listed_name(manager, number) {
+    match listed_name(operation) {
         Some(name) => {
-            let mark = init_mark(manager, number, info);
+            let mark = init_mark(operation);
             write!(text, "{name}{mark}")
         }
-        None => write!(text, "UNKNOWN ({number:x})"),
+        None => add_number(text, operation),
     }
 }

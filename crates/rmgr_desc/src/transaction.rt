@@ -18,16 +18,13 @@ pub fn add_transaction(text: &mut String, op: TransactionOp, main: &[u8]) -> Res
         ≡ string_bytes text.old ++ transaction_text op main.now) }
 {
     match op {
-        TransactionOp::Commit { has_xinfo } => add_end(text, Outcome::Commit, has_xinfo, main),
-        TransactionOp::Abort { has_xinfo } => add_end(text, Outcome::Abort, has_xinfo, main),
-        TransactionOp::CommitPrepared { has_xinfo } => {
-            add_end(text, Outcome::Commit, has_xinfo, main)
-        }
-        TransactionOp::AbortPrepared { has_xinfo } => {
-            add_end(text, Outcome::Abort, has_xinfo, main)
-        }
+        TransactionOp::End {
+            outcome,
+            has_xinfo,
+            ..
+        } => add_end(text, outcome, has_xinfo, main),
         TransactionOp::Assignment => add_assignment(text, main),
-        TransactionOp::Prepare | TransactionOp::Invalidations => Ok(()),
+        TransactionOp::Prepare | TransactionOp::Invalidation => Ok(()),
         TransactionOp::Unlisted(_) => Ok(()),
     }
 }

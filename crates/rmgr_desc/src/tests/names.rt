@@ -1,6 +1,6 @@
 //! Names of managers, and of operations that are in no table.
-use super::*;
-use crate::{add_manager_name, add_operation_name, manager_named};
+use super::text_of;
+use crate::{add_manager_name, add_operation_name, manager_name, manager_named, operation_name};
 use std::test::*;
 
 #[test]
