@@ -1,5 +1,5 @@
 -- Block references that a loop goes over one by one.
-use Rattle.std.proofs.Common.{◌≡◌, ℕ, ◌+◌, ◌++◌, ◌≤◌, ◌<◌, ◌||◌, Bool, true, false, List, [], ◌∷◌, Some, None, length, take, drop, get_or, refl, ap, sym, ◌∙◌, arith, append_assoc, append-nil, inl, inr, option_to_list}
+use Rattle.std.proofs.Common.{◌≡◌, ℕ, ◌+◌, ◌++◌, ◌≤◌, ◌<◌, ◌||◌, Bool, true, false, List, Some, None, length, take, drop, get_or, refl, ap, sym, ◌∙◌, arith, append_assoc, append-nil, inl, inr, option_to_list}
 use Rattle.std.specs.List.{slice_get, flat_map, list_any}
 use Rattle.std.proofs.lemmas.List.{take_all, take_more, take-append-drop}
 use Rattle.std.proofs.lemmas.List.Folds.{list_any-append}

@@ -1,7 +1,7 @@
 pub mod BlockLemmas
 pub mod LineLemmas
+pub mod ListLemmas
 pub mod PlaceLemmas
-pub mod SelectedLemmas
-pub mod ShownLemmas
+pub mod SinkLemmas
 pub mod StepLemmas
-pub mod ToldLemmas
+pub mod WalkLemmas

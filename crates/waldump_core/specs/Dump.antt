@@ -1,11 +1,13 @@
--- The dump of a log: PostgreSQL 16 manual, pg_waldump; src/bin/pg_waldump/pg_waldump.c, main and WALDumpReadPage.
-use Rattle.std.specs.Prelude.{ℕ, ◌+◌, ◌==◌, Bool, true, false, List, [], ◌∷◌, ◌++◌, nat_lt, nat_le, if◌then◌else◌, Option, None, Some, Result, Ok, Err}
+-- The dump of a log, said of the list of its records: PostgreSQL 16 manual, reference page of pg_waldump; src/bin/pg_waldump/pg_waldump.c, main.
+-- Own: "Where a dump begins and ends".
+use Rattle.std.specs.Prelude.{ℕ, ◌==◌, ◌&&◌, Bool, true, false, not, is_ok, List, [], map, filter, length, take, nat_lt, nat_le, if◌then◌else◌, Option, None, Some, Result, Ok, Err}
+use Rattle.std.specs.List.{list_all, take_while}
+use Rattle.cluster_tree.specs.Causes.{first_of, unless}
 use Rattle.wal_base.specs.declared.lsn.Lsn.{Lsn}
 use Rattle.wal_pages.specs.Header.{page_of}
-use Rattle.wal_records.specs.declared.why.Why.{Why}
 use Rattle.wal_records.specs.Extent.{behind_of}
 use Rattle.wal_records.specs.Further.{Pages}
-use Rattle.wal_records.specs.Log.{Log, log_of}
+use Rattle.wal_records.specs.Log.{Log, end_after, log_of}
 use Rattle.wal_records.specs.Reading.{LogRecord}
 use Rattle.block_refs.specs.declared.fault.PartsFault.{PartsFault}
 use Rattle.block_refs.specs.Outcomes.{record_parts}
@@ -13,110 +15,115 @@ use Rattle.block_refs.specs.Parts.{PartsView}
 use Rattle.waldump_core.specs.declared.dumped.Dumped.{Dumped}
 use Rattle.waldump_core.specs.declared.fault.DumpFault.{DumpFault}
 use Rattle.waldump_core.specs.declared.fault.DumpFault.TheVariants as fault
-use Rattle.waldump_core.specs.declared.progress.Progress.{Progress}
-use Rattle.waldump_core.specs.declared.progress.Turn.{Turn}
-use Rattle.waldump_core.specs.declared.progress.Turn.TheVariants.{Goes, Stops}
 use Rattle.waldump_core.specs.declared.selection.Selection.{Selection}
 use Rattle.waldump_core.specs.Faults.{parts_cause}
 use Rattle.waldump_core.specs.FirstPlace.{first_place}
 use Rattle.waldump_core.specs.Line.{line_text}
+use Rattle.waldump_core.specs.Lists.{is_empty, up_to}
 use Rattle.waldump_core.specs.Selecting.{meets}
 
--- a dump: what it shows, and its answer
+-- a dump: what it shows of each record that it shows, and its answer
 pub record Dump : Type 0 where
-  pub text : List ℕ
+  pub lines : List (List ℕ)
   pub answer : Result Dumped DumpFault
 
-abbrev pub answered : Result Dumped DumpFault → Dump
-answered answer = record { text = []; answer = answer }
+-- a record starts at or past the start (--start)
+abbrev pub is_from : Selection → LogRecord → Bool
+is_from sel r = not (nat_lt r.start sel.start.0)
 
--- a text, and then a dump
-abbrev pub with_text : List ℕ → Dump → Dump
-with_text text dump = record { text = text ++ dump.text; answer = dump.answer }
-
-abbrev pub at_lsn : ℕ → Lsn
-at_lsn at = record { 0 = at }
-
--- a record's last byte lies before the stop, where there is one: the position behind it is at most the stop
+-- a record's last byte lies before the stop (--end), where there is one: the position behind it is at most the stop
 abbrev pub is_before : ℕ → Option Lsn → LogRecord → Bool
 is_before size None r = true
 is_before size (Some stop) r = nat_le (behind_of size r.start r.header.total) stop.0
 
--- what a record shows, and how it goes on behind it
-pub record Shown : Type 0 where
-  pub text : List ℕ
-  pub outcome : Result Turn DumpFault
+abbrev pub has_parts : LogRecord → Bool
+has_parts r = is_ok (record_parts r)
 
-abbrev pub shows_nothing : Result Turn DumpFault → Shown
-shows_nothing outcome = record { text = []; outcome = outcome }
+abbrev pub is_met : Selection → LogRecord → Result PartsView PartsFault → Bool
+is_met sel r (Err e) = false
+is_met sel r (Ok parts) = meets sel r parts
 
--- before any record
-abbrev pub nothing_shown : Progress
-nothing_shown = record { shown = 0; end = None }
+-- a record meets every filter that is given
+abbrev pub is_selected : Selection → LogRecord → Bool
+is_selected sel r = is_met sel r (record_parts r)
 
-abbrev pub dumped : ℕ → Lsn → Dumped
-dumped shown end = record { shown = shown; end = end }
+-- the records at or past the start
+abbrev pub from_start : Selection → List LogRecord → List LogRecord
+from_start sel records = filter (is_from sel) records
 
--- at the stop, behind the last record that was walked, or behind none
-abbrev pub at_stop : Lsn → ℕ → Option Lsn → Result Turn DumpFault
-at_stop start shown None = Err (fault.NoRecordAt start)
-at_stop start shown (Some end) = Ok (Stops (dumped shown end))
+-- those of them before the first that doesn't lie before the stop
+abbrev pub up_to_stop : ℕ → Selection → List LogRecord → List LogRecord
+up_to_stop size sel records = take_while (is_before size sel.stop) (from_start sel records)
 
--- where the log ends
-abbrev pub at_end : Lsn → Option Lsn → ℕ → Why → DumpFault
-at_end start None place why = fault.NoRecordAt start
-at_end start (Some end) place why = fault.LogEnds (at_lsn place) why
+-- and those before the first of these that has no parts
+abbrev pub readable : ℕ → Selection → List LogRecord → List LogRecord
+readable size sel records = take_while has_parts (up_to_stop size sel records)
 
--- behind a record that wasn't shown, and behind one that was: a limit of 0 is none
-abbrev pub behind_passed : ℕ → Lsn → Turn
-behind_passed shown end = Goes record { shown = shown; end = Some end }
+-- the first so many (--limit); 0 is no limit
+abbrev pub within : ℕ → List LogRecord → List LogRecord
+within limit records = if limit == 0 then records else take limit records
 
-abbrev pub behind_shown : ℕ → ℕ → Lsn → Turn
-behind_shown limit shown end = if shown == limit then Stops (dumped shown end) else Goes record { shown = shown; end = Some end }
+-- The records that a dump shows: of those that it can read, the first that are selected, up to the limit.
+abbrev pub selected : ℕ → Selection → List LogRecord → List LogRecord
+selected size sel records = within sel.limit (filter (is_selected sel) (readable size sel records))
 
--- what a record that is selected shows
-abbrev pub shown_text : Selection → LogRecord → PartsView → List ℕ
-shown_text sel r parts = if sel.quiet then [] else line_text sel.details r parts
+-- The records that it walks over: those that it can read, up to the one that fills the limit.
+abbrev pub walked : ℕ → Selection → List LogRecord → List LogRecord
+walked size sel records = up_to sel.limit (is_selected sel) (readable size sel records)
 
--- a record with these parts
-abbrev pub selected_turn : Selection → ℕ → LogRecord → PartsView → Bool → Shown
-selected_turn sel shown r parts true = record { text = shown_text sel r parts; outcome = Ok (behind_shown sel.limit (shown + 1) (at_lsn r.end)) }
-selected_turn sel shown r parts false = shows_nothing (Ok (behind_passed shown (at_lsn r.end)))
+abbrev pub line_with : Selection → LogRecord → Result PartsView PartsFault → List ℕ
+line_with sel r (Err e) = []
+line_with sel r (Ok parts) = line_text sel.details r parts
 
--- a record with parts, or with none
-abbrev pub read_turn : Selection → ℕ → LogRecord → Result PartsView PartsFault → Shown
-read_turn sel shown r (Err e) = shows_nothing (Err (parts_cause e))
-read_turn sel shown r (Ok parts) = selected_turn sel shown r parts (meets sel r parts)
+-- what a record shows: its line, and with the details those below it
+abbrev pub line_of : Selection → LogRecord → List ℕ
+line_of sel r = line_with sel r (record_parts r)
 
--- A record behind this progress: it is passed over where it starts below the start, all ends where its last byte lies at or
--- past the stop, and else it is read.
-unfoldable pub turn_at : ℕ → Selection → Progress → LogRecord → Shown
-turn_at size sel progress r =
-    if nat_lt r.start sel.start.0 then shows_nothing (Ok (Goes progress))
-    else if is_before size sel.stop r then read_turn sel progress.shown r (record_parts r)
-    else shows_nothing (at_stop sel.start progress.shown progress.end)
+-- what is shown, in the order of the log; a quiet dump (--quiet) shows nothing
+abbrev pub shown_lines : Selection → List LogRecord → List (List ℕ)
+shown_lines sel records = if sel.quiet then [] else map (line_of sel) records
 
-abbrev pub after_turn : Result Turn DumpFault → (Progress → Dump) → Dump
-after_turn (Err e) rest = answered (Err e)
-after_turn (Ok (Stops dumped)) rest = answered (Ok dumped)
-after_turn (Ok (Goes progress)) rest = rest progress
+abbrev pub at_lsn : ℕ → Lsn
+at_lsn at = record { 0 = at }
 
-abbrev pub after : Shown → (Progress → Dump) → Dump
-after shown rest = with_text shown.text (after_turn shown.outcome rest)
+-- how many records it shows, or would if it weren't quiet, and where the last one ends that it walked over
+abbrev pub told : ℕ → Selection → List LogRecord → Dumped
+told size sel records = record {
+  shown = length (selected size sel records);
+  end = at_lsn (end_after sel.start.0 (walked size sel records));
+}
 
--- the dump of records behind this progress, where the log then ends at a place
-unfoldable pub dump_of_records : ℕ → Selection → ℕ → Why → List LogRecord → Progress → Dump
-dump_of_records size sel place why [] progress = answered (Err (at_end sel.start progress.end place why))
-dump_of_records size sel place why (r ∷ rest) progress = after (turn_at size sel progress r) (dump_of_records size sel place why rest)
+-- so many fill the limit
+abbrev pub fills : ℕ → ℕ → Bool
+fills limit count = not (limit == 0) && count == limit
 
--- the dump of what is left of a log behind this progress
-abbrev pub dump_behind : ℕ → Selection → Progress → Log → Dump
-dump_behind size sel progress log = dump_of_records size sel log.place log.why log.records progress
+abbrev pub flaw_in : Result PartsView PartsFault → Option DumpFault
+flaw_in (Ok parts) = None
+flaw_in (Err e) = Some (parts_cause e)
+
+-- why a record has no parts, if so
+abbrev pub flaw_of : LogRecord → Option DumpFault
+flaw_of r = flaw_in (record_parts r)
+
+-- The answer. There has to be a record from the start on that lies before the stop. Where those that are shown fill the limit, no
+-- further one counts; else the first record without parts before the stop refuses the dump, and so does the end of the log where no
+-- record lies at the stop or past it.
+unfoldable pub answer_of : ℕ → Selection → Log → Result Dumped DumpFault
+answer_of size sel log =
+    let done = told size sel log.records in
+    if is_empty (up_to_stop size sel log.records) then Err (fault.NoRecordAt sel.start)
+    else if fills sel.limit done.shown then Ok done
+    else unless (first_of (map flaw_of (up_to_stop size sel log.records)))
+    (if list_all (is_before size sel.stop) (from_start sel log.records) then Err (fault.LogEnds (at_lsn log.place) log.why) else Ok done)
+
+-- the dump of these records
+abbrev pub dump_of_log : ℕ → Selection → Log → Dump
+dump_of_log size sel log = record { lines = shown_lines sel (selected size sel log.records); answer = answer_of size sel log }
 
 -- the dump of the log from a place on
 abbrev pub dump_from : Pages → ℕ → Selection → Option ℕ → Dump
-dump_from pages size sel None = answered (Err (fault.NoRecordAt sel.start))
-dump_from pages size sel (Some place) = dump_behind size sel nothing_shown (log_of pages size place)
+dump_from pages size sel None = record { lines = []; answer = Err (fault.NoRecordAt sel.start) }
+dump_from pages size sel (Some place) = dump_of_log size sel (log_of pages size place)
 
 -- The dump of a log: from the first place on the page that holds the start.
 abbrev pub dump_of : Pages → ℕ → Selection → Dump

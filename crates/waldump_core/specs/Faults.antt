@@ -15,4 +15,3 @@ log_cause log_fault.OutOfMemory = fault.OutOfMemory
 abbrev pub parts_cause : PartsFault → DumpFault
 parts_cause (parts_fault.BadParts at offset) = fault.BadParts at offset
 parts_cause (parts_fault.Compressed at id) = fault.Compressed at id
-parts_cause parts_fault.OutOfMemory = fault.OutOfMemory

@@ -1,5 +1,7 @@
 -- Where a dump begins: PostgreSQL 16, src/backend/access/transam/xlogreader.c, XLogFindNextRecord.
-use Rattle.std.specs.Prelude.{ℕ, zero, suc, ◌+◌, ◌*◌, ◌/◌, ◌^◌, List, nat_lt, if◌then◌else◌, Option, None, Some, Result, Ok, Err}
+use Rattle.std.specs.Prelude.{ℕ, ◌+◌, ◌-◌, ◌*◌, ◌/◌, ◌^◌, Bool, List, map, nat_lt, is_some, if◌then◌else◌, Option, None, Some, Result, Ok, Err}
+use Rattle.std.specs.List.{range_with_len, take_while}
+use Rattle.cluster_tree.specs.Causes.{first_of}
 use Rattle.wal_pages.specs.Header.{header_size, header_of, has_bit}
 use Rattle.wal_pages.specs.Page.{Refusal}
 use Rattle.wal_pages.specs.declared.header.PageHeader.{PageHeader}
@@ -12,24 +14,28 @@ place_on size at header =
     let skipped = if has_bit header.info 1 then (header.remaining + 7) / 8 * 8 else 0 in
     if nat_lt (header_size size at + skipped) 8192 then Some (at + (header_size size at + skipped)) else None
 
-abbrev pub or_later : Option ℕ → Option ℕ → Option ℕ
-or_later (Some place) later = Some place
-or_later None later = later
-
+-- the header of a page, if it is valid
 abbrev pub header_in : Result (List ℕ) Refusal → Option PageHeader
 header_in (Err refusal) = None
 header_in (Ok page) = Some (header_of page)
 
-abbrev pub place_in : ℕ → ℕ → Option PageHeader → Option ℕ → Option ℕ
-place_in size at None later = None
-place_in size at (Some header) later = or_later (place_on size at header) later
+abbrev pub is_valid : Pages → ℕ → Bool
+is_valid pages at = is_some (header_in (pages at))
 
--- the first place on so many pages from a position on, as far as they are valid; no page begins at 2 ^ 64 or behind
-unfoldable pub place_within : Pages → ℕ → ℕ → ℕ → Option ℕ
-place_within pages size zero at = None
-place_within pages size (suc n) at =
-    if nat_lt at (2 ^ 64) then place_in size at (header_in (pages at)) (place_within pages size n (at + 8192)) else None
+abbrev pub place_in : ℕ → ℕ → Option PageHeader → Option ℕ
+place_in size at None = None
+place_in size at (Some header) = place_on size at header
 
--- the first place from a page on: there are 2 ^ 51 pages
+abbrev pub place_at : Pages → ℕ → ℕ → Option ℕ
+place_at pages size at = place_in size at (header_in (pages at))
+
+abbrev pub page_start : ℕ → ℕ
+page_start number = 8192 * number
+
+-- where pages begin, from one on; the last one ends at 2 ^ 64
+unfoldable pub pages_from : ℕ → List ℕ
+pages_from at = map page_start (range_with_len (at / 8192) (2 ^ 51 - at / 8192))
+
+-- The first place from a page on, on the first page that has one; the pages up to that one have to be valid.
 abbrev pub first_place : Pages → ℕ → ℕ → Option ℕ
-first_place pages size at = place_within pages size (2 ^ 51) at
+first_place pages size at = first_of (map (place_at pages size) (take_while (is_valid pages) (pages_from at)))

@@ -1,9 +1,10 @@
+pub mod Lists
 pub mod Faults
 pub mod Selecting
 pub mod Refs
 pub mod Line
 pub mod FirstPlace
 pub mod Dump
-pub mod Selected
-pub mod Steps
+pub mod Walk
 pub mod Texts
+pub mod Steps

@@ -4,7 +4,7 @@ use Rattle.std.specs.Prelude.{ℕ, Bool, true, false, List, [], ◌++◌, Option
 use Rattle.std.specs.List.{flat_map}
 use Rattle.block_refs.specs.declared.block_ref.BlockRef.{BlockRef}
 use Rattle.block_refs.specs.declared.block_ref.ImageRef.{ImageRef}
-use Rattle.block_refs.specs.declared.fragment.Placed.{Placed}
+use Rattle.block_refs.specs.declared.placed.Placed.{Placed}
 use Rattle.block_refs.specs.Names.{fork_name, rel_text}
 use Rattle.block_refs.specs.declared.names.Fork.{Fork}
 use Rattle.block_refs.specs.declared.names.Fork.TheVariants.{Main, FreeSpace, Visibility, Init}

@@ -3,7 +3,7 @@
 use Rattle.std.specs.Prelude.{ℕ, ◌==◌, ◌&&◌, ◌||◌, Bool, true, not, is_some, List, Option, Some, None}
 use Rattle.std.specs.List.{list_any}
 use Rattle.wal_records.specs.Reading.{LogRecord}
-use Rattle.block_refs.specs.declared.fragment.Placed.{Placed}
+use Rattle.block_refs.specs.declared.placed.Placed.{Placed}
 use Rattle.block_refs.specs.declared.names.Fork.{Fork}
 use Rattle.block_refs.specs.declared.names.RelName.{RelName}
 use Rattle.block_refs.specs.Names.{fork_number}

@@ -1,22 +1,38 @@
 -- What one step of a dump gives of what is still to be shown.
-use Rattle.std.specs.Prelude.{ℕ, ◌≡◌, ◌+◌, ◌<◌, ◌≤◌, ◌^◌, List, None, Ok}
+use Rattle.std.specs.Prelude.{ℕ, ◌≡◌, ◌+◌, ◌<◌, ◌≤◌, ◌^◌, ◌++◌, List, [], None, Ok, Err}
+use Rattle.acts.specs.Texts.{texts_of}
 use Rattle.cluster_tree.specs.Contents.{Contents}
 use Rattle.wal_base.specs.Segment.{bytes_of}
 use Rattle.wal_records.specs.Cursor.{CursorView, to_come}
+use Rattle.waldump_core.specs.declared.fault.DumpFault.{DumpFault}
 use Rattle.waldump_core.specs.declared.progress.Progress.{Progress}
 use Rattle.waldump_core.specs.declared.progress.Turn.{Turn}
 use Rattle.waldump_core.specs.declared.progress.Turn.TheVariants.{Goes, Stops}
 use Rattle.waldump_core.specs.declared.selection.Selection.{Selection}
-use Rattle.waldump_core.specs.Dump.{Dump, answered, dump_behind}
+use Rattle.waldump_core.specs.Dump.{Dump}
+use Rattle.waldump_core.specs.Walk.{answered, walk_behind}
 
--- the dump of the log that a cursor has still to give
+-- the dump of the log that a cursor has still to give, behind this progress
 abbrev pub left : Selection → Progress → CursorView → Contents → Dump
-left sel progress cursor contents = dump_behind (bytes_of cursor.log.size) sel progress (to_come cursor contents)
+left sel progress cursor contents = walk_behind (bytes_of cursor.log.size) sel progress (to_come cursor contents)
 
 -- what is left of a dump behind a turn
 abbrev pub left_behind : Selection → Turn → CursorView → Contents → Dump
 left_behind sel (Goes progress) cursor contents = left sel progress cursor contents
 left_behind sel (Stops dumped) cursor contents = answered (Ok dumped)
+
+-- A step of a dump: the first of the lines that were left are pending now, behind those that were; the others are still left, and the
+-- answer stays.
+pub record Gives (old : Dump) (pending : List ℕ) (new : Dump) (pending' : List ℕ) : Type 0 where
+  pub added : List (List ℕ)
+  pub lines : old.lines ≡ added ++ new.lines
+  pub answer : old.answer ≡ new.answer
+  pub text : pending' ≡ pending ++ texts_of added
+
+-- a dump is at its end, and refused so
+pub record EndsBy (dump : Dump) (e : DumpFault) : Type 0 where
+  pub lines : dump.lines ≡ []
+  pub answer : dump.answer ≡ Err e
 
 -- behind a record that a dump goes on from, the cursor stands further on, and hasn't ended, and no more records were shown than
 -- positions passed

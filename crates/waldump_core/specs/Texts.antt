@@ -1,6 +1,7 @@
--- What a dump puts on a sink, and which of its answers are free.
-use Rattle.std.specs.Prelude.{ℕ, ◌≡◌, ◌⊎◌, ◌++◌, Bool, true, false, List, take, length}
-use Rattle.cluster_tree.specs.Sink.{AddsPart}
+-- How a dump ends, and what it leaves on a sink.
+use Rattle.std.specs.Prelude.{ℕ, ◌≡◌, ◌⊎◌, Bool, true, false, List, take, length, Result, Ok, Err}
+use Rattle.acts.specs.Acts.{Ending, Done, Refused, ReadFailed, SinkFailed, NoMemory}
+use Rattle.waldump_core.specs.declared.dumped.Dumped.{Dumped}
 use Rattle.waldump_core.specs.declared.fault.DumpFault.{DumpFault}
 use Rattle.waldump_core.specs.declared.fault.DumpFault.TheVariants as fault
 
@@ -22,12 +23,21 @@ is_read fault.ReadFault = true
 is_read fault.SinkFault = false
 is_read fault.OutOfMemory = false
 
+-- how a dump that answers a fault ends
+abbrev pub ending_by : DumpFault → Ending
+ending_by (fault.NoRecordAt start) = Refused
+ending_by (fault.LogEnds place why) = Refused
+ending_by (fault.BadParts at offset) = Refused
+ending_by (fault.Compressed at id) = Refused
+ending_by fault.ReadFault = ReadFailed
+ending_by fault.SinkFault = SinkFailed
+ending_by fault.OutOfMemory = NoMemory
+
+-- how a dump ends
+abbrev pub ending_of : Result Dumped DumpFault → Ending
+ending_of (Ok dumped) = Done
+ending_of (Err e) = ending_by e
+
 -- what stood on a sink stays, and nothing stands before it
 abbrev pub Extends : List ℕ → List ℕ → Type 0
 Extends old new = take (length old) new ≡ old
-
--- A text was put on a sink, and then came this fault: all of it was put there, unless a device failed or memory was
--- wanting, and then the first bytes of it.
-pub record Shows (text : List ℕ) (e : DumpFault) (old new : List ℕ) : Type 0 where
-  pub whole : IsFree e ⊎ (new ≡ old ++ text)
-  pub part : AddsPart text old new

@@ -88,7 +88,6 @@ impl From<PartsFault> for DumpFault {
         match fault {
             PartsFault::BadParts(at, offset) => DumpFault::BadParts(at, offset),
             PartsFault::Compressed(at, id) => DumpFault::Compressed(at, id),
-            PartsFault::OutOfMemory => DumpFault::OutOfMemory,
         }
     }
 }

@@ -18,9 +18,6 @@ use wal_pages::{
     page_of,
 };
 
-/// How many pages positions below 2^64 have.
-const PAGES: u64 = 1 << 51;
-
 /// The first place on a page, behind its header and what goes on there.
 #[tactic(auto, using(crate::proofs::PlaceLemmas::place_steps))]
 fn place_on(at: u64, size: SegSize, header: PageHeader) -> Option<u64>
@@ -81,8 +78,7 @@ fn first_place<F: Tree>(
 {
     let size = pages.size();
     let mut at = from;
-    let mut left = PAGES;
-    'pages: while left > 0 {
+    'pages: loop {
         let Some(header) = header_at(pages, tree, at)? else {
             return Ok(None);
         };
@@ -93,9 +89,7 @@ fn first_place<F: Tree>(
             return Ok(None);
         };
         at = next;
-        left -= 1;
     }
-    Ok(None)
 }
 
 /// An equal log path.

@@ -6,7 +6,6 @@ mod fault;
 mod filters;
 mod first_place;
 mod last_byte;
-mod laws;
 mod line;
 mod lines;
 mod position;
@@ -18,7 +17,6 @@ mod walk;
 
 pub use dumped::Dumped;
 pub use fault::DumpFault;
-pub use laws::{dump_shows_what_is_selected, dump_tells_what_is_selected};
 pub use selection::Selection;
 pub use walk::dump;
 

@@ -1,18 +1,20 @@
 //! Lines on their way to a sink.
 
-ghost use Rattle.std.specs.Prelude.{◌≡◌, ◌≤◌, ◌⊎◌, ◌++◌, [], IfErr, IsErrOf, IsOk, IsTrue, OnErr, OnOk};
+ghost use Rattle.std.specs.Prelude.{◌≡◌, ◌≢◌, ◌≤◌, ◌⊎◌, ◌++◌, [], IfErr, IsTrue, OnErr, OnOk};
+ghost use Rattle.acts.specs.Acts.{Breaks, sunk};
+ghost use Rattle.acts.specs.Texts.{Flushes};
 ghost use Rattle.cluster_tree.specs.Causes.{Rose};
-ghost use Rattle.cluster_tree.specs.Sink.{AddsPart};
 ghost use Rattle.block_refs.specs.Parts.{ArePartsOf};
 ghost use Rattle.waldump_core.specs.Line.{line_text};
-ghost use Rattle.waldump_core.specs.Texts.{Extends, Shows};
+ghost use Rattle.waldump_core.specs.Texts.{Extends};
 
-use crate::fault::DumpFault;
 use crate::line::add_line;
+use acts::put;
 use block_refs::Parts;
 use cluster_tree::{Sink, SinkFailed};
 use std::alloc::Global;
 use std::marker::Model;
+use wal_base::OutOfMemory;
 use wal_records::Record;
 
 /// How many bytes are gathered before they are written.
@@ -44,55 +46,63 @@ impl Lines {
         }
     }
 
-    /// Writes what is pending, if it is something. After a fault nothing is pending any more.
-    #[tactic(auto, using(crate::proofs::ShownLemmas::shown_steps))]
+    /// Adds the line of a record with these parts. Answers `OutOfMemory` only for want of memory,
+    /// and then no part of the line is pending.
+    pub fn add(&mut self, rec: &Record, parts: &Parts, details: bool) -> Result<(), OutOfMemory>
+        requires parts { ArePartsOf rec.now parts.now }
+        ensures added { OnOk result (self.new ≡ self.old ++ line_text details rec.now parts.now) }
+        ensures kept { OnErr result (self.new ≡ self.old) }
+    {
+        self.line.clear();
+        add_line(&mut self.line, rec, parts, details)?;
+        self.pending.push_str(self.line.as_str())?;
+        Ok(())
+    }
+
+    /// Writes what is pending, if it is something: an empty write is never made.
+    #[tactic(auto, using(crate::proofs::SinkLemmas::flush_steps))]
     pub fn flush<O: Sink>(&mut self, out: &mut O) -> Result<(), SinkFailed>
-        ensures ok { IsTrue O.tells → OnOk result (O.written out.new ≡ O.written out.old ++ self.old) }
-        ensures err { IsTrue O.tells →
-            OnErr result (AddsPart self.old (O.written out.old) (O.written out.new)) }
-        ensures extends { IsTrue O.tells → Extends (O.written out.old) (O.written out.new) }
-        ensures none { self.new ≡ [] }
+        ensures whole { OnOk result (Flushes O.tells self.old
+            (sunk (O.written out.old) (O.failed_writes out.old))
+            (sunk (O.written out.new) (O.failed_writes out.new))) }
+        ensures none { OnOk result (self.new ≡ []) }
+        ensures part { OnErr result (Breaks O.tells self.old
+            (sunk (O.written out.old) (O.failed_writes out.old))
+            (sunk (O.written out.new) (O.failed_writes out.new))) }
+        ensures gathered { OnErr result (self.old ≢ []) }
         ensures unwritten { self.old ≡ [] → out.new ≡ out.old }
-        ensures unfailed { self.old ≡ [] → IsOk result }
+        ensures extends { IsTrue O.tells → Extends (O.written out.old) (O.written out.new) }
         ensures later { O.failed_writes out.old ≤ O.failed_writes out.new }
         ensures cause { OnErr result (Rose (O.failed_writes out.old) (O.failed_writes out.new)) }
     {
         if self.pending.is_empty() {
             return Ok(());
         }
-        let written = out.write(self.pending.as_bytes());
+        put(out, self.pending.as_str())?;
         self.pending.clear();
-        written
+        Ok(())
     }
 
-    /// Adds the line of a record with these parts. Answers `SinkFault` only where a write failed, and
-    /// `OutOfMemory` only for want of memory; what was added before is then still pending.
-    #[tactic(auto, using(crate::proofs::ShownLemmas::shown_steps))]
-    pub fn add<O: Sink>(
-        &mut self,
-        out: &mut O,
-        rec: &Record,
-        parts: &Parts,
-        details: bool,
-    ) -> Result<(), DumpFault>
-        requires parts { ArePartsOf rec.now parts.now }
-        ensures ok { IsTrue O.tells → OnOk result (O.written out.new ++ self.new
-            ≡ O.written out.old ++ (self.old ++ line_text details rec.now parts.now)) }
-        ensures err { IsTrue O.tells → IfErr result (λ e. Shows
-            (self.old ++ line_text details rec.now parts.now) e
-            (O.written out.old) (O.written out.new ++ self.new)) }
+    /// Writes what is pending where it is much.
+    #[tactic(auto, using(crate::proofs::SinkLemmas::flush_steps))]
+    pub fn flush_full<O: Sink>(&mut self, out: &mut O) -> Result<(), SinkFailed>
+        ensures whole { OnOk result ((Flushes O.tells self.old
+            (sunk (O.written out.old) (O.failed_writes out.old))
+            (sunk (O.written out.new) (O.failed_writes out.new)) × (self.new ≡ [])) ⊎
+            ((sunk (O.written out.new) (O.failed_writes out.new)
+            ≡ sunk (O.written out.old) (O.failed_writes out.old)) × (self.new ≡ self.old))) }
+        ensures part { OnErr result (Breaks O.tells self.old
+            (sunk (O.written out.old) (O.failed_writes out.old))
+            (sunk (O.written out.new) (O.failed_writes out.new))) }
+        ensures gathered { OnErr result (self.old ≢ []) }
+        ensures unwritten { self.old ≡ [] → (out.new ≡ out.old) × (self.new ≡ []) }
         ensures extends { IsTrue O.tells → Extends (O.written out.old) (O.written out.new) }
-        ensures free { IfErr result (λ e. (e ≡ DumpFault.SinkFault) ⊎ (e ≡ DumpFault.OutOfMemory)) }
         ensures later { O.failed_writes out.old ≤ O.failed_writes out.new }
-        ensures sink_fault { IsErrOf result DumpFault.SinkFault →
-            Rose (O.failed_writes out.old) (O.failed_writes out.new) }
+        ensures cause { OnErr result (Rose (O.failed_writes out.old) (O.failed_writes out.new)) }
     {
-        self.line.clear();
-        add_line(&mut self.line, rec, parts, details)?;
-        self.pending.push_str(self.line.as_str())?;
-        if self.pending.len() >= FULL {
-            self.flush(out)?;
+        if self.pending.len() < FULL {
+            return Ok(());
         }
-        Ok(())
+        self.flush(out)
     }
 }

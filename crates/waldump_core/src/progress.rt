@@ -1,7 +1,7 @@
 //! How far a dump has come.
 
 ghost use Rattle.std.specs.Prelude.{◌≡◌, ◌+◌, ◌<◌, ◌^◌};
-ghost use Rattle.waldump_core.specs.Dump.{at_end, at_stop, behind_passed, behind_shown, nothing_shown};
+ghost use Rattle.waldump_core.specs.Walk.{at_end, at_stop, behind_passed, behind_shown, nothing_shown};
 
 use crate::dumped::Dumped;
 use crate::fault::DumpFault;

@@ -1,13 +1,13 @@
 //! What a dump does at a record.
 
-ghost use Rattle.std.specs.Prelude.{◌≡◌, ◌≢◌, ◌⊎◌, ◌+◌, ◌<◌, ◌≤◌, ◌^◌, ◌++◌, Err, Ok, false, IfErr, IfOk, IsErrOf, IsTrue, MatchResult, OnErr, OnOk};
-ghost use Rattle.cluster_tree.specs.Causes.{Rose};
+ghost use Rattle.std.specs.Prelude.{◌≡◌, ◌⊎◌, ◌+◌, ◌<◌, ◌^◌, ◌++◌, Err, Ok, false, IfErr, IfOk, IsTrue, MatchResult, OnErr, OnOk, ◌≢◌};
+ghost use Rattle.acts.specs.Texts.{texts_of};
 ghost use Rattle.wal_base.specs.Segment.{bytes_of};
 ghost use Rattle.block_refs.specs.Parts.{ArePartsOf};
-ghost use Rattle.waldump_core.specs.Dump.{selected_turn, shown_text, turn_at};
 ghost use Rattle.waldump_core.specs.Selecting.{meets};
 ghost use Rattle.waldump_core.specs.Steps.{CountsOn};
-ghost use Rattle.waldump_core.specs.Texts.{Extends, Shows, is_read};
+ghost use Rattle.waldump_core.specs.Texts.{is_read};
+ghost use Rattle.waldump_core.specs.Walk.{selected_turn, shown_of, turn_at};
 
 use crate::fault::DumpFault;
 use crate::filters::meets;
@@ -16,47 +16,39 @@ use crate::lines::Lines;
 use crate::progress::{Progress, Turn};
 use crate::selection::Selection;
 use block_refs::{Parts, split_into};
-use cluster_tree::Sink;
 use wal_base::SegSize;
 use wal_records::Record;
 
-/// Shows a record that is selected, unless the dump is quiet.
-#[tactic(auto, using(crate::proofs::ShownLemmas::shown_steps))]
-fn show_line<O: Sink>(
+/// Adds the line of a record that is selected, unless the dump is quiet.
+#[tactic(auto, using(crate::proofs::StepLemmas::line_steps))]
+fn show_line(
     sel: &Selection,
     rec: &Record,
     parts: &Parts,
-    out: &mut O,
     lines: &mut Lines,
 ) -> Result<(), DumpFault>
     requires parts { ArePartsOf rec.now parts.now }
-    ensures ok { IsTrue O.tells → OnOk result (O.written out.new ++ lines.new
-        ≡ O.written out.old ++ (lines.old ++ shown_text sel.now rec.now parts.now)) }
-    ensures err { IsTrue O.tells → IfErr result (λ e. Shows
-        (lines.old ++ shown_text sel.now rec.now parts.now) e
-        (O.written out.old) (O.written out.new ++ lines.new)) }
-    ensures extends { IsTrue O.tells → Extends (O.written out.old) (O.written out.new) }
-    ensures quiet { IsTrue sel.now.quiet → (out.new ≡ out.old) × (lines.new ≡ lines.old) }
-    ensures free { IfErr result (λ e. (e ≡ DumpFault.SinkFault) ⊎ (e ≡ DumpFault.OutOfMemory)) }
-    ensures unfailed { IsTrue sel.now.quiet → result ≢ Err DumpFault.SinkFault }
-    ensures later { O.failed_writes out.old ≤ O.failed_writes out.new }
-    ensures sink_fault { IsErrOf result DumpFault.SinkFault →
-        Rose (O.failed_writes out.old) (O.failed_writes out.new) }
+    ensures added { OnOk result (lines.new
+        ≡ lines.old ++ texts_of (shown_of sel.now rec.now parts.now)) }
+    ensures kept { OnErr result (lines.new ≡ lines.old) }
+    ensures quiet { IsTrue sel.now.quiet → lines.new ≡ lines.old }
+    ensures free { IfErr result (λ e. e ≡ DumpFault.OutOfMemory) }
 {
     if sel.quiet {
         return Ok(());
     }
-    lines.add(out, rec, parts, sel.details)
+    lines.add(rec, parts, sel.details)?;
+    Ok(())
 }
 
-/// Shows a record with these parts if it is selected, and says how the dump goes on behind it.
-#[tactic(auto, using(crate::proofs::ShownLemmas::shown_steps))]
-fn show_parts<O: Sink>(
+/// Adds the line of a record with these parts if it is selected, and says how the dump goes on
+/// behind it.
+#[tactic(auto, using(crate::proofs::StepLemmas::line_steps))]
+fn show_parts(
     sel: &Selection,
     progress: Progress,
     rec: &Record,
     parts: &Parts,
-    out: &mut O,
     lines: &mut Lines,
 ) -> Result<Turn, DumpFault>
     requires parts { ArePartsOf rec.now parts.now }
@@ -64,61 +56,46 @@ fn show_parts<O: Sink>(
     ensures turn { MatchResult result
         (λ turn. (selected_turn sel.now progress.shown rec.now parts.now
         (meets sel.now rec.now parts.now)).outcome ≡ Ok turn)
-        (λ e. (e ≡ DumpFault.SinkFault) ⊎ (e ≡ DumpFault.OutOfMemory)) }
-    ensures ok { IsTrue O.tells → OnOk result (O.written out.new ++ lines.new
-        ≡ O.written out.old ++ (lines.old ++ (selected_turn sel.now progress.shown rec.now parts.now
-        (meets sel.now rec.now parts.now)).text)) }
-    ensures err { IsTrue O.tells → IfErr result (λ e. Shows
-        (lines.old ++ (selected_turn sel.now progress.shown rec.now parts.now
-        (meets sel.now rec.now parts.now)).text) e
-        (O.written out.old) (O.written out.new ++ lines.new)) }
-    ensures extends { IsTrue O.tells → Extends (O.written out.old) (O.written out.new) }
-    ensures quiet { IsTrue sel.now.quiet → (out.new ≡ out.old) × (lines.new ≡ lines.old) }
+        (λ e. e ≡ DumpFault.OutOfMemory) }
+    ensures added { OnOk result (lines.new ≡ lines.old ++ texts_of
+        (selected_turn sel.now progress.shown rec.now parts.now
+        (meets sel.now rec.now parts.now)).lines) }
+    ensures kept { OnErr result (lines.new ≡ lines.old) }
+    ensures quiet { IsTrue sel.now.quiet → lines.new ≡ lines.old }
     ensures counts { IfOk result (CountsOn progress) }
-    ensures unfailed { IsTrue sel.now.quiet → result ≢ Err DumpFault.SinkFault }
-    ensures later { O.failed_writes out.old ≤ O.failed_writes out.new }
-    ensures sink_fault { IsErrOf result DumpFault.SinkFault →
-        Rose (O.failed_writes out.old) (O.failed_writes out.new) }
 {
     if !meets(sel, rec, parts) {
         return Ok(progress.passed(rec.end()));
     }
-    show_line(sel, rec, parts, out, lines)?;
+    show_line(sel, rec, parts, lines)?;
     Ok(progress.shown(sel.limit, rec.end()))
 }
 
-/// Shows a record if it is selected, and says how the dump goes on behind it. Answers the flaw of a
-/// record between the start and the stop that has no parts, and `NoRecordAt` where the first
-/// record from the start on doesn't lie before the stop. The parts are read into `parts`, whatever
-/// it held.
-#[tactic(auto, using(crate::proofs::ShownLemmas::turn_steps), unfolding(crate::specs::Dump::turn_at))]
-pub fn take_turn<O: Sink>(
+/// Adds the line of a record if it is selected, and says how the dump goes on behind it. Answers the
+/// flaw of a record between the start and the stop that has no parts, and `NoRecordAt` where the
+/// first record from the start on doesn't lie before the stop. The parts are read into `parts`,
+/// whatever it held.
+#[tactic(auto, using(crate::proofs::StepLemmas::turn_steps), unfolding(crate::specs::Walk::turn_at))]
+pub fn take_turn(
     size: SegSize,
     sel: &Selection,
     progress: Progress,
     rec: &Record,
     parts: &mut Parts,
-    out: &mut O,
     lines: &mut Lines,
 ) -> Result<Turn, DumpFault>
     requires room { progress.shown + 1 < 2 ^ 64 }
     ensures turn { MatchResult result
         (λ turn. (turn_at (bytes_of size) sel.now progress rec.now).outcome ≡ Ok turn)
-        (λ e. (e ≡ DumpFault.SinkFault) ⊎ (e ≡ DumpFault.OutOfMemory)
+        (λ e. (e ≡ DumpFault.OutOfMemory)
         ⊎ ((turn_at (bytes_of size) sel.now progress rec.now).outcome ≡ Err e)) }
-    ensures ok { IsTrue O.tells → OnOk result (O.written out.new ++ lines.new
-        ≡ O.written out.old ++ (lines.old ++ (turn_at (bytes_of size) sel.now progress rec.now).text)) }
-    ensures err { IsTrue O.tells → IfErr result (λ e. Shows
-        (lines.old ++ (turn_at (bytes_of size) sel.now progress rec.now).text) e
-        (O.written out.old) (O.written out.new ++ lines.new)) }
-    ensures extends { IsTrue O.tells → Extends (O.written out.old) (O.written out.new) }
-    ensures quiet { IsTrue sel.now.quiet → (out.new ≡ out.old) × (lines.new ≡ lines.old) }
+    ensures added { OnOk result (lines.new
+        ≡ lines.old ++ texts_of (turn_at (bytes_of size) sel.now progress rec.now).lines) }
+    ensures kept { OnErr result (lines.new ≡ lines.old) }
+    ensures quiet { IsTrue sel.now.quiet → lines.new ≡ lines.old }
     ensures counts { IfOk result (CountsOn progress) }
     ensures unread { IfErr result (λ e. is_read e ≡ false) }
-    ensures unfailed { IsTrue sel.now.quiet → result ≢ Err DumpFault.SinkFault }
-    ensures later { O.failed_writes out.old ≤ O.failed_writes out.new }
-    ensures sink_fault { IsErrOf result DumpFault.SinkFault →
-        Rose (O.failed_writes out.old) (O.failed_writes out.new) }
+    ensures unwritten { result ≢ Err DumpFault.SinkFault }
 {
     if rec.start().0 < sel.start.0 {
         return Ok(Turn::Goes(progress));
@@ -127,5 +104,5 @@ pub fn take_turn<O: Sink>(
         return progress.at_stop(sel.start);
     }
     split_into(rec, parts)?;
-    show_parts(sel, progress, rec, parts, out, lines)
+    show_parts(sel, progress, rec, parts, lines)
 }

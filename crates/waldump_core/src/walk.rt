@@ -1,14 +1,17 @@
 //! The dump of a log.
 
-ghost use Rattle.std.specs.Prelude.{◌≡◌, ◌≢◌, ◌⊎◌, ◌≤◌, ◌++◌, [], Err, IfErr, IfOk, IsErrOf, IsTrue, MatchResult, None, Ok, OnOk, Some, length};
+ghost use Rattle.std.specs.Prelude.{◌≡◌, ◌≢◌, ◌⊎◌, ◌≤◌, [], Bool, Err, IfErr, IfOk, IsErrOf, IsTrue, MatchResult, None, OnErr, false, Some, length};
+ghost use Rattle.acts.specs.Acts.{Performs, Sunk, seen, sunk};
+ghost use Rattle.acts.specs.Texts.{prints};
 ghost use Rattle.cluster_tree.specs.Causes.{Meets, Rose};
 ghost use Rattle.cluster_tree.specs.Frame.{Reads};
 ghost use Rattle.wal_base.specs.Segment.{bytes_of};
 ghost use Rattle.wal_records.specs.Cursor.{Knows};
 ghost use Rattle.wal_records.specs.Further.{pages_of};
-ghost use Rattle.waldump_core.specs.Dump.{dump_from, dump_of, nothing_shown};
-ghost use Rattle.waldump_core.specs.Steps.{GoesUp, left, left_behind};
-ghost use Rattle.waldump_core.specs.Texts.{Extends, IsFree, Shows};
+ghost use Rattle.waldump_core.specs.Dump.{dump_from, dump_of};
+ghost use Rattle.waldump_core.specs.Steps.{EndsBy, Gives, GoesUp, left, left_behind};
+ghost use Rattle.waldump_core.specs.Texts.{Extends, IsFree, IsOfReads, ending_of};
+ghost use Rattle.waldump_core.specs.Walk.{nothing_shown};
 
 use crate::dumped::Dumped;
 use crate::fault::DumpFault;
@@ -32,12 +35,11 @@ pub struct Asked {
 }
 
 /// Goes one record on. The tree is as it was at the cursor's last call.
-#[tactic(auto, using(crate::proofs::ShownLemmas::shown_steps), unfolding(crate::specs::Dump::dump_of_records))]
-fn advance<F: Tree, O: Sink>(
+#[tactic(auto, using(crate::proofs::StepLemmas::advance_steps), unfolding(crate::specs::Walk::walk_over))]
+fn advance<F: Tree>(
     cursor: &mut RecordCursor,
     tree: &mut F,
     parts: &mut Parts,
-    out: &mut O,
     lines: &mut Lines,
     asked: &Asked,
     progress: Progress,
@@ -47,43 +49,34 @@ fn advance<F: Tree, O: Sink>(
     requires few { progress.shown ≤ cursor.old.place }
     requires knows { IsTrue F.tells → Knows cursor.old (F.contents tree.old) }
     ensures knows { IsTrue F.tells → Knows cursor.new (F.contents tree.new) }
-    ensures answer { IsTrue F.tells → MatchResult result
-        (λ turn. (left_behind asked.now.sel turn cursor.new (F.contents tree.old)).answer
-        ≡ (left asked.now.sel progress cursor.old (F.contents tree.old)).answer)
-        (λ e. IsFree e
-        ⊎ ((left asked.now.sel progress cursor.old (F.contents tree.old)).answer ≡ Err e)) }
-    ensures text { IsTrue F.tells → IsTrue O.tells → MatchResult result
-        (λ turn. O.written out.new
-        ++ (lines.new ++ (left_behind asked.now.sel turn cursor.new (F.contents tree.old)).text)
-        ≡ O.written out.old
-        ++ (lines.old ++ (left asked.now.sel progress cursor.old (F.contents tree.old)).text))
-        (λ e. Shows (lines.old ++ (left asked.now.sel progress cursor.old (F.contents tree.old)).text)
-        e (O.written out.old) (O.written out.new ++ lines.new)) }
-    ensures extends { IsTrue O.tells → Extends (O.written out.old) (O.written out.new) }
+    ensures step { IsTrue F.tells → MatchResult result
+        (λ turn. Gives (left asked.now.sel progress cursor.old (F.contents tree.old)) lines.old
+        (left_behind asked.now.sel turn cursor.new (F.contents tree.old)) lines.new)
+        (λ e. IsOfReads e
+        ⊎ EndsBy (left asked.now.sel progress cursor.old (F.contents tree.old)) e) }
+    ensures kept { OnErr result (lines.new ≡ lines.old) }
+    ensures quiet { IsTrue asked.now.sel.quiet → lines.new ≡ lines.old }
     ensures log { cursor.new.log ≡ cursor.old.log }
     ensures goes_up { IfOk result (GoesUp cursor.old cursor.new) }
-    ensures quiet { IsTrue asked.now.sel.quiet → (out.new ≡ out.old) × (lines.new ≡ lines.old) }
-    ensures unfailed { IsTrue asked.now.sel.quiet → result ≢ Err DumpFault.SinkFault }
+    ensures unwritten { result ≢ Err DumpFault.SinkFault }
     ensures reads { Reads F.Tree tree.old tree.new }
     ensures read_fault { IsErrOf result DumpFault.ReadFault →
         Rose (F.failed_reads tree.old) (F.failed_reads tree.new) }
-    ensures later { O.failed_writes out.old ≤ O.failed_writes out.new }
-    ensures sink_fault { IsErrOf result DumpFault.SinkFault →
-        Rose (O.failed_writes out.old) (O.failed_writes out.new) }
 {
     match cursor.next_unchanged(tree)? {
         Step::Record => {}
         Step::End(place, why) => return Err(progress.at_end(asked.sel.start, place, why)),
     }
     let rec = cursor.current().unwrap();
-    match take_turn(asked.size, &asked.sel, progress, rec, parts, out, lines) {
+    match take_turn(asked.size, &asked.sel, progress, rec, parts, lines) {
         Ok(turn) => Ok(turn),
         Err(e) => Err(e),
     }
 }
 
-/// Walks over the log that a cursor has still to give, up to the end of the dump.
-#[tactic(auto, using(crate::proofs::ShownLemmas::shown_steps))]
+/// Walks over the log that a cursor has still to give, up to the end of the dump. Whatever ends it,
+/// the lines before that are written.
+#[tactic(auto, using(crate::proofs::SinkLemmas::walk_steps))]
 fn walk<F: Tree, O: Sink>(
     cursor: &mut RecordCursor,
     tree: &mut F,
@@ -95,16 +88,17 @@ fn walk<F: Tree, O: Sink>(
     requires opened { cursor.old.ended ≡ None }
     requires size { asked.now.size ≡ cursor.old.log.size }
     requires knows { IsTrue F.tells → Knows cursor.old (F.contents tree.old) }
+    requires none { lines.old ≡ [] }
     ensures answer { IsTrue F.tells → Meets IsFree
         (left asked.now.sel nothing_shown cursor.old (F.contents tree.old)).answer result }
-    ensures text { IsTrue F.tells → IsTrue O.tells → MatchResult result
-        (λ _. O.written out.new ++ lines.new ≡ O.written out.old
-        ++ (lines.old ++ (left asked.now.sel nothing_shown cursor.old (F.contents tree.old)).text))
-        (λ e. Shows
-        (lines.old ++ (left asked.now.sel nothing_shown cursor.old (F.contents tree.old)).text)
-        e (O.written out.old) (O.written out.new ++ lines.new)) }
+    ensures shown { IsTrue F.tells → Performs O.tells false (ending_of result)
+        (prints (left asked.now.sel nothing_shown cursor.old (F.contents tree.old)).lines)
+        (seen (F.contents tree.old) (F.calls tree.old)
+        (sunk (O.written out.old) (O.failed_writes out.old)) (sunk [] 0))
+        (seen (F.contents tree.old) (F.calls tree.old)
+        (sunk (O.written out.new) (O.failed_writes out.new)) (sunk [] 0)) }
     ensures extends { IsTrue O.tells → Extends (O.written out.old) (O.written out.new) }
-    ensures quiet { IsTrue asked.now.sel.quiet → (out.new ≡ out.old) × (lines.new ≡ lines.old) }
+    ensures quiet { IsTrue asked.now.sel.quiet → out.new ≡ out.old }
     ensures unfailed { IsTrue asked.now.sel.quiet → result ≢ Err DumpFault.SinkFault }
     ensures reads { Reads F.Tree tree.old tree.new }
     ensures read_fault { IsErrOf result DumpFault.ReadFault →
@@ -115,15 +109,23 @@ fn walk<F: Tree, O: Sink>(
 {
     let mut progress = Progress::new();
     'records: loop {
-        match advance(cursor, tree, parts, out, lines, asked, progress)? {
-            Turn::Goes(next) => progress = next,
-            Turn::Stops(dumped) => return Ok(dumped),
+        match advance(cursor, tree, parts, lines, asked, progress) {
+            Ok(Turn::Goes(next)) => progress = next,
+            Ok(Turn::Stops(dumped)) => {
+                lines.flush(out)?;
+                return Ok(dumped);
+            }
+            Err(e) => {
+                lines.flush(out)?;
+                return Err(e);
+            }
         }
+        lines.flush_full(out)?;
     }
 }
 
 /// Dumps a log from a place on.
-#[tactic(auto, using(crate::proofs::ShownLemmas::shown_steps))]
+#[tactic(auto, using(crate::proofs::SinkLemmas::dump_steps))]
 fn dump_at<F: Tree, O: Sink>(
     alloc: Global,
     tree: &mut F,
@@ -135,18 +137,20 @@ fn dump_at<F: Tree, O: Sink>(
     requires room { length log.folder.parts ≤ 63 }
     ensures answer { IsTrue F.tells → Meets IsFree (dump_from (pages_of log (F.contents tree.old))
         (bytes_of log.size) sel.now (Some place)).answer result }
-    ensures text { IsTrue F.tells → IsTrue O.tells → MatchResult result
-        (λ _. O.written out.new ≡ O.written out.old ++ (dump_from
-        (pages_of log (F.contents tree.old)) (bytes_of log.size) sel.now (Some place)).text)
-        (λ e. Shows (dump_from
-        (pages_of log (F.contents tree.old)) (bytes_of log.size) sel.now (Some place)).text
-        e (O.written out.old) (O.written out.new)) }
+    ensures shown { IsTrue F.tells → Performs O.tells false (ending_of result)
+        (prints (dump_from (pages_of log (F.contents tree.old)) (bytes_of log.size) sel.now
+        (Some place)).lines)
+        (seen (F.contents tree.old) (F.calls tree.old)
+        (sunk (O.written out.old) (O.failed_writes out.old)) (sunk [] 0))
+        (seen (F.contents tree.old) (F.calls tree.old)
+        (sunk (O.written out.new) (O.failed_writes out.new)) (sunk [] 0)) }
     ensures extends { IsTrue O.tells → Extends (O.written out.old) (O.written out.new) }
     ensures quiet { IsTrue sel.now.quiet → out.new ≡ out.old }
     ensures unfailed { IsTrue sel.now.quiet → result ≢ Err DumpFault.SinkFault }
     ensures reads { Reads F.Tree tree.old tree.new }
     ensures read_fault { IsErrOf result DumpFault.ReadFault →
         Rose (F.failed_reads tree.old) (F.failed_reads tree.new) }
+    ensures later { O.failed_writes out.old ≤ O.failed_writes out.new }
     ensures sink_fault { IsErrOf result DumpFault.SinkFault →
         Rose (O.failed_writes out.old) (O.failed_writes out.new) }
 {
@@ -155,13 +159,9 @@ fn dump_at<F: Tree, O: Sink>(
         size: log.size,
     };
     let mut cursor = RecordCursor::at(alloc, log, Lsn(place))?;
-    let mut parts = Parts::new(alloc);
+    let mut parts = Parts::new();
     let mut lines = Lines::new(alloc);
-    let walked = walk(&mut cursor, tree, &mut parts, out, &mut lines, &asked);
-    match lines.flush(out) {
-        Ok(()) => walked,
-        Err(_) => Err(DumpFault::SinkFault),
-    }
+    walk(&mut cursor, tree, &mut parts, out, &mut lines, &asked)
 }
 
 /// Shows the records of a log that are selected on `out`, as pg_waldump does: a line for each, in the
@@ -179,9 +179,9 @@ fn dump_at<F: Tree, O: Sink>(
 /// log ends before the stop and the limit; `BadParts` and `Compressed` at the first record from the
 /// start on and before these ends that has no parts, shown or not; `ReadFault` and `SinkFault` only
 /// where a read or a write failed, which the tree or the sink has counted; and `OutOfMemory` only
-/// for want of memory. The lines before a refusal stand. A quiet dump leaves the sink alone and
-/// answers alike. It makes no changing call.
-#[tactic(auto, using(crate::proofs::ShownLemmas::shown_steps))]
+/// for want of memory. The lines before a refusal stand; where a read failed or memory was wanting,
+/// whole lines do. A quiet dump leaves the sink alone and answers alike. It makes no changing call.
+#[tactic(auto, using(crate::proofs::SinkLemmas::dump_steps))]
 pub fn dump<F: Tree, O: Sink>(
     alloc: Global,
     tree: &mut F,
@@ -193,12 +193,15 @@ pub fn dump<F: Tree, O: Sink>(
     // The answer is the dump's, a device's fault, or want of memory.
     ensures exact { IsTrue F.tells → Meets IsFree (dump_of (pages_of log (F.contents tree.old))
         (bytes_of log.size) sel.now).answer result }
-    // The text is the dump's: all of it, unless a device failed or memory was wanting.
-    ensures shown { IsTrue F.tells → IsTrue O.tells → MatchResult result
-        (λ _. O.written out.new ≡ O.written out.old
-        ++ (dump_of (pages_of log (F.contents tree.old)) (bytes_of log.size) sel.now).text)
-        (λ e. Shows (dump_of (pages_of log (F.contents tree.old)) (bytes_of log.size) sel.now).text
-        e (O.written out.old) (O.written out.new)) }
+    // Its lines are acts that are done in turn: all of them where the answer is the dump's own, else
+    // the first ones, whole, and of one more a part only where a write of it failed.
+    ensures shown { IsTrue F.tells → (err_tells : Bool) (err : Sunk) →
+        Performs O.tells err_tells (ending_of result)
+        (prints (dump_of (pages_of log (F.contents tree.old)) (bytes_of log.size) sel.now).lines)
+        (seen (F.contents tree.old) (F.calls tree.old)
+        (sunk (O.written out.old) (O.failed_writes out.old)) err)
+        (seen (F.contents tree.new) (F.calls tree.new)
+        (sunk (O.written out.new) (O.failed_writes out.new)) err) }
     ensures extends { IsTrue O.tells → Extends (O.written out.old) (O.written out.new) }
     ensures quiet { IsTrue sel.now.quiet → out.new ≡ out.old }
     ensures unfailed { IsTrue sel.now.quiet → result ≢ Err DumpFault.SinkFault }
@@ -206,6 +209,7 @@ pub fn dump<F: Tree, O: Sink>(
     ensures reads { Reads F.Tree tree.old tree.new }
     ensures read_fault { IsErrOf result DumpFault.ReadFault →
         Rose (F.failed_reads tree.old) (F.failed_reads tree.new) }
+    ensures later { O.failed_writes out.old ≤ O.failed_writes out.new }
     ensures sink_fault { IsErrOf result DumpFault.SinkFault →
         Rose (O.failed_writes out.old) (O.failed_writes out.new) }
 {

@@ -1,4 +1,4 @@
-use Rattle.std.proofs.Common.{◌≡◌, ℕ, Some, sym, ◌∙◌, arith}
+use Rattle.std.proofs.Common.{◌≡◌, ℕ, Some, sym, ◌∙◌}
 use Rattle.wal_base.specs.Segment.{bytes_of}
 use Rattle.wal_records.specs.Further.{pages_of}
 use Rattle.waldump_core.specs.FirstPlace.{header_in, place_on}
@@ -13,4 +13,4 @@ returns-in-Some-place_on-clause-place g c = λ tells.
     let read = c.in_ok-header.ensures.header tells in
     let header : header_in (pages_of log contents at) ≡ Some c.in-Some.header = cc (read, c.in-Some.is) in
     let on : place_on (bytes_of log.size) at c.in-Some.header ≡ Some c.in-Some-place_on.place = cc (c.place_on.ensures, c.in-Some-place_on.is) in
-    sym (place_found (pages_of log contents) (bytes_of log.size) c.pages.left at c.in-Some-place_on.place c.in-Some.header (omega (arith, c.pages-test.true)) c.pages.invariant.within header on) ∙ c.pages.invariant.place tells
+    sym (place_found (pages_of log contents) (bytes_of log.size) at c.in-Some-place_on.place c.in-Some.header c.pages.invariant.within c.pages.invariant.whole header on) ∙ c.pages.invariant.place tells

@@ -1,28 +1,32 @@
-use Rattle.std.proofs.Common.{◌≡◌, ◌++◌, List, ℕ, ap, ◌∙◌, subst}
-use Rattle.wal_base.specs.Segment.{bytes_of}
-use Rattle.wal_pages.specs.declared.log_path.LogPath.{LogPath}
+use Rattle.std.proofs.Common.{ap, inr, refl, subst}
+use Rattle.std.proofs.lemmas.Result.{err_from_is_err_and}
+use Rattle.cluster_tree.specs.Causes.{Meets}
+use Rattle.acts.specs.Acts.{Performs, seen, sunk}
+use Rattle.acts.specs.Texts.{prints}
+use Rattle.std.specs.Prelude.{[], false}
 use Rattle.wal_records.specs.Cursor.{CursorView}
-use Rattle.wal_records.specs.Further.{pages_of}
-use Rattle.wal_records.specs.Log.{Log, log_of}
-use Rattle.waldump_core.specs.declared.fault.DumpFault.TheVariants as fault
-use Rattle.waldump_core.specs.Dump.{dump_behind, nothing_shown}
-use Rattle.waldump_core.specs.Steps.{left}
-use Rattle.waldump_core.specs.Texts.{Shows}
-use Rattle.waldump_core.proofs.ShownLemmas.{flush_fails, walked_part}
+use Rattle.waldump_core.specs.Dump.{Dump}
+use Rattle.waldump_core.specs.Texts.{IsFree, ending_of}
+use Rattle.waldump_core.proofs.SinkLemmas.{paused_before}
+use Rattle.waldump_core.proofs.StepLemmas.{left_from}
 use Rattle.waldump_core.proofs.walk.dump_at.Goals as goal
 
--- what was shown before the last write, and a part of what it was to show
-pub returns-clause-text : goal.returns-clause-text
-returns-clause-text g c = λ told shown.
+pub returns-in_err-cursor-clause-shown : goal.returns-in_err-cursor-clause-shown
+returns-in_err-cursor-clause-shown g c = λ told.
+    let ended = err_from_is_err_and c.from_residual.result c.from_residual.ensures.1 in
+    paused_before _ c.from_residual.result ended.0 ended.1 (inr ended.2) refl refl
+
+pub returns-clause-answer : goal.returns-clause-answer
+returns-clause-answer g c = λ told.
     let contents = g.F.Tree.contents c.args.tree.now in
-    let sel = c.args.sel.now in
-    let cursor = c.in_ok-cursor.cursor in
-    let log : LogPath = c.args.log in
-    let log_is : cursor.log ≡ log = ap (λ (v : CursorView). v.log) c.in_ok-cursor.ensures.ok in
-    let whole : Log = log_of (pages_of log contents) (bytes_of log.size) c.args.place in
-    let same : (left sel nothing_shown cursor contents).text ≡ (dump_behind (bytes_of log.size) sel nothing_shown whole).text =
-    ap (λ (l : Log). (dump_behind (bytes_of cursor.log.size) sel nothing_shown l).text) (c.in_ok-cursor.ensures.starts contents)
-    ∙ ap (λ (l : LogPath). (dump_behind (bytes_of l.size) sel nothing_shown whole).text) log_is in
-    let P : List ℕ → Type 0 = λ t. Shows t fault.SinkFault (g.O.Sink.written c.args.out.now) (g.O.Sink.written c.flush.new.out) in
-    let none : c.new-lines.result ++ (left sel nothing_shown cursor contents).text ≡ (left sel nothing_shown cursor contents).text = ap (λ (l : List ℕ). l ++ (left sel nothing_shown cursor contents).text) c.new-lines.ensures in
-    subst P (none ∙ same) (flush_fails _ _ _ _ _ (walked_part _ _ _ _ (c.walk-walked.ensures.text told shown)) (c.walk-walked.ensures.extends shown) (c.in-Err.ensures.err shown))
+    let whole = left_from c.args.sel.now c.in_ok-cursor.cursor contents c.args.log c.args.place (ap (λ (v : CursorView). v.log) c.in_ok-cursor.ensures.ok) (c.in_ok-cursor.ensures.starts contents) in
+    subst (λ (d : Dump). Meets IsFree d.answer c.walk.result) whole (c.walk.ensures.answer told)
+
+pub returns-clause-shown : goal.returns-clause-shown
+returns-clause-shown g c = λ told.
+    let contents = g.F.Tree.contents c.args.tree.now in
+    let calls = g.F.Tree.calls c.args.tree.now in
+    let whole = left_from c.args.sel.now c.in_ok-cursor.cursor contents c.args.log c.args.place (ap (λ (v : CursorView). v.log) c.in_ok-cursor.ensures.ok) (c.in_ok-cursor.ensures.starts contents) in
+    subst (λ (d : Dump). Performs g.O.Sink.tells false (ending_of c.walk.result) (prints d.lines)
+    (seen contents calls (sunk (g.O.Sink.written c.args.out.now) (g.O.Sink.failed_writes c.args.out.now)) (sunk [] 0))
+    (seen contents calls (sunk (g.O.Sink.written c.walk.new.out) (g.O.Sink.failed_writes c.walk.new.out)) (sunk [] 0))) whole (c.walk.ensures.shown told)

@@ -1,14 +1,18 @@
-use Rattle.std.proofs.Common.{◌≡◌, ◌++◌, ◌-◌, ◌^◌, ◌≤◌, None, IsTrue}
+use Rattle.std.proofs.Common.{◌≡◌, [], false, ◌-◌, ◌^◌, ◌≤◌, None, IsTrue}
+use Rattle.acts.specs.Acts.{seen, sunk}
+use Rattle.acts.specs.Texts.{prints}
+use Rattle.acts.proofs.PrintLemmas.{Gathers}
 use Rattle.cluster_tree.specs.Frame.{Reads}
 use Rattle.wal_records.specs.Cursor.{Knows}
-use Rattle.waldump_core.specs.Dump.{nothing_shown}
 use Rattle.waldump_core.specs.Steps.{left}
 use Rattle.waldump_core.specs.Texts.{Extends}
+use Rattle.waldump_core.specs.Walk.{nothing_shown}
 use Rattle.waldump_core.proofs.walk.walk.Given as goal
 
 abbrev pub invariant-records : goal.invariant-records
 invariant-records g l =
     let contents = g.F.Tree.contents l.fn.tree in
+    let calls = g.F.Tree.calls l.fn.tree in
     let sel = l.asked.sel in
     record {
       opened : l.cursor.ended ≡ None;
@@ -17,10 +21,12 @@ invariant-records g l =
       reads : Reads g.F.Tree l.fn.tree l.tree;
       knows : IsTrue g.F.Tree.tells → Knows l.cursor (g.F.Tree.contents l.tree);
       answer : IsTrue g.F.Tree.tells → (left sel l.progress l.cursor contents).answer ≡ (left sel nothing_shown l.fn.cursor contents).answer;
-      text : IsTrue g.F.Tree.tells → IsTrue g.O.Sink.tells → g.O.Sink.written l.out ++ (l.lines ++ (left sel l.progress l.cursor contents).text)
-          ≡ g.O.Sink.written l.fn.out ++ (l.fn.lines ++ (left sel nothing_shown l.fn.cursor contents).text);
+      gathers : IsTrue g.F.Tree.tells → Gathers g.O.Sink.tells false (prints (left sel nothing_shown l.fn.cursor contents).lines)
+          (seen contents calls (sunk (g.O.Sink.written l.fn.out) (g.O.Sink.failed_writes l.fn.out)) (sunk [] 0))
+          l.lines (prints (left sel l.progress l.cursor contents).lines)
+          (seen contents calls (sunk (g.O.Sink.written l.out) (g.O.Sink.failed_writes l.out)) (sunk [] 0));
       extends : IsTrue g.O.Sink.tells → Extends (g.O.Sink.written l.fn.out) (g.O.Sink.written l.out);
-      quiet : IsTrue sel.quiet → (l.out ≡ l.fn.out) × (l.lines ≡ l.fn.lines);
+      quiet : IsTrue sel.quiet → (l.out ≡ l.fn.out) × (l.lines ≡ []);
       later : g.O.Sink.failed_writes l.fn.out ≤ g.O.Sink.failed_writes l.out;
     }
 
