@@ -15,7 +15,7 @@ use Rattle.page_laws.proofs.SetLineLaw.{pointer_byte}
 use Rattle.page_laws.proofs.AddViews.{Adds, added_back, old_or_new, kept_off, kept_len, kept_flags, kept_item, lays}
 use Rattle.page_laws.proofs.AddedBytes.{Lays, fits, added_head, added_line, added_other_line, added_upper_byte, added_lower, added_upper, added_off, added_len, added_flags, added_item}
 
-holder_none : (p : List ℕ) (n i : ℕ) → ((j : ℕ) → j < n → holds p j i ≡ false) → holder p n i ≡ None
+pub holder_none : (p : List ℕ) (n i : ℕ) → ((j : ℕ) → j < n → holds p j i ≡ false) → holder p n i ≡ None
 holder_none p zero i each = refl
 holder_none p (suc n) i each = rw (each n (omega arith), holder_none p n i (λ j lt. each j (omega arith))) refl
 

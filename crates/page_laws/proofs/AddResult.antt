@@ -12,7 +12,7 @@ use Rattle.layout.proofs.SpliceLemmas.{length-splice, byte-splice_below, byte-sp
 use Rattle.page_layout.proofs.BytesLemmas.{length-cut, same_pages}
 use Rattle.page_masks.specs.Mask.{mask}
 use Rattle.page_masks.specs.Shapes.{HeapPage, IsHeap}
-use Rattle.page_masks.proofs.Unshown.{heap_mask_is, is_heap, well}
+use Rattle.page_masks.proofs.Unshown.{heap_mask_is, well}
 use Rattle.page_laws.proofs.PagesAlike.{PagesAlike, alike_mask, counts_same, len_alike, flags_alike, upper_alike}
 use Rattle.page_laws.proofs.AddViews.{Adds, added_formed, lays}
 use Rattle.page_laws.proofs.AddedBytes.{added_special}
@@ -20,6 +20,9 @@ use Rattle.page_laws.proofs.AddLaw.{added_alike}
 
 pub formed : (p : List ℕ) → HeapPage p → IsFormed p
 formed p h = record { size = h.size; head = h.head; lines = h.lines }
+
+pub heap_formed : (p : List ℕ) → IsHeap p → IsFormed p
+heap_formed p h = record { size = h.size; head = h.head; lines = h.lines }
 
 -- opening a place past the last line moves nothing
 opened_end : (p : List ℕ) → IsFormed p → pd_lower p + 4 ≤ pd_upper p → opened_at p (count p) ≡ p
@@ -99,12 +102,12 @@ allowed p bytes place f a b = by_case (nat_lt (count p) place) refl
           is = rw e refl;
         }
 
-module _ (block : ℕ) (p q : List ℕ) (hp : HeapPage p) (hq : HeapPage q) (a : PagesAlike block p q) where
+module _ (block : ℕ) (p q : List ℕ) (hp : IsHeap p) (hq : IsHeap q) (a : PagesAlike block p q) where
   counts : count p ≡ count q
   counts = counts_same block p q a.same hp.head.low hp.head.by4
 
   uppers : pd_upper p ≡ pd_upper q
-  uppers = upper_alike block p q (is_heap p hp) (is_heap q hq) a
+  uppers = upper_alike block p q hp hq a
 
   lower_same : (place : ℕ) → lower_after p place true ≡ lower_after q place true
   lower_same place = λ t. if nat_lt (counts t) place then a.same.lowers t + 4 else a.same.lowers t
@@ -128,8 +131,8 @@ module _ (block : ℕ) (p q : List ℕ) (hp : HeapPage p) (hq : HeapPage q) (a :
 
   pub add_masks : (bytes : List ℕ) (place : ℕ) → place_test p place ≡ true → room_test p (length bytes) place ≡ true → mask block (added p bytes place true) ≡ mask block (added q bytes place true)
   add_masks bytes place ea eb =
-      let lp = allowed p bytes place (formed p hp) ea eb in
-      let lq = allowed q bytes place (formed q hq) (sym (place_same place) ∙ ea) (sym (room_same (length bytes) place) ∙ eb) in
+      let lp = allowed p bytes place (heap_formed p hp) ea eb in
+      let lq = allowed q bytes place (heap_formed q hq) (sym (place_same place) ∙ ea) (sym (room_same (length bytes) place) ∙ eb) in
       let up : pd_upper q - up8 (length bytes) ≡ pd_upper p - up8 (length bytes) = λ t. sym uppers t - up8 (length bytes) in
       let adds_q = subst (λ u. Adds q bytes (place - 1) (lower_after p place true) u) up (subst (λ l. Adds q bytes (place - 1) l (pd_upper q - up8 (length bytes))) (sym (lower_same place)) lq.adds) in
       let made_q : added q bytes place true ≡ added_at q bytes (place - 1) (lower_after p place true) (pd_upper p - up8 (length bytes)) = lq.is ∙ (λ t. added_at q bytes (place - 1) (sym (lower_same place) t) (up t)) in

@@ -38,7 +38,7 @@ edit_keeps block k change p law t there long =
     record { page = page_stays block k change law p e; apart = apart_stays p (edited k change p) t.page.head (same_front block k change law p e) t.apart }
 
 -- the last line is in use
-all_shown : (p : List ℕ) (n : ℕ) → ((m : ℕ) → n ≡ m + 1 → is_free p m ≡ false) → trimmed_count p n ≡ n
+pub all_shown : (p : List ℕ) (n : ℕ) → ((m : ℕ) → n ≡ m + 1 → is_free p m ≡ false) → trimmed_count p n ≡ n
 all_shown p zero h = refl
 all_shown p (suc n) h = let e = h n (omega arith) in rw e refl
 

@@ -41,11 +41,11 @@ edit_respects block k change p q law tp tq there normal long same =
 pub add_respects : (block place : ℕ) (p q bytes : List ℕ) → TrimmedHeap p → TrimmedHeap q → mask block p ≡ mask block q → SameResults block (add_item p bytes place true) (add_item q bytes place true)
 add_respects block place p q bytes tp tq same =
     let a = alike block p q tp tq same in
-    rw (refusal_is p (length bytes) place (formed p tp.page), refusal_is q (length bytes) place (formed q tq.page), ← place_same block p q tp.page tq.page a place, ← room_same block p q tp.page tq.page a (length bytes) place)
+    rw (refusal_is p (length bytes) place (formed p tp.page), refusal_is q (length bytes) place (formed q tq.page), ← place_same block p q (is_heap p tp.page) (is_heap q tq.page) a place, ← room_same block p q (is_heap p tp.page) (is_heap q tq.page) a (length bytes) place)
     (pick (place_test p place) (room_test p (length bytes) place) refl refl)
   where
     pick : (x y : Bool) → place_test p place ≡ x → room_test p (length bytes) place ≡ y → SameResults block (refuse_or (refusal_by x y) (added p bytes place true)) (refuse_or (refusal_by x y) (added q bytes place true))
-    pick true true ex ey = add_masks block p q tp.page tq.page (alike block p q tp tq same) bytes place ex ey
+    pick true true ex ey = add_masks block p q (is_heap p tp.page) (is_heap q tq.page) (alike block p q tp tq same) bytes place ex ey
     pick true false ex ey = refl
     pick false y ex ey = refl
 

@@ -1,11 +1,13 @@
 -- Changes of a heap tuple that its mask determines.
-use Rattle.std.proofs.Common.{◌≡◌, ℕ, ◌+◌, ◌≤◌, List, length, sym, ◌∙◌, arith}
+use Rattle.std.proofs.Common.{◌≡◌, ℕ, ◌+◌, ◌≤◌, ◌==◌, List, Bool, true, false, length, refl, sym, ◌∙◌, ap, subst, arith}
+use Rattle.std.specs.Prelude.{if◌then◌else◌}
+use Rattle.std.proofs.lemmas.Bool.Decides.{nat_tests}
 use Rattle.layout.specs.Splice.{splice}
 use Rattle.page_layout.specs.Bytes.{u16_at, with_u16, u16_bytes}
 use Rattle.layout.proofs.SpliceLemmas.{length-splice}
 use Rattle.page_masks.specs.Mask.{masked_infomask}
 use Rattle.page_laws.specs.Change.{ItemChange}
-use Rattle.page_laws.proofs.TupleLaw.{TupleAlike, tuple_alike, alike_masks, put_low, put_tid, put_bits2, put_bits}
+use Rattle.page_laws.proofs.TupleLaw.{TupleAlike, tuple_alike, alike_masks, put_low, put_tail, put_tid, put_bits2, put_bits}
 
 change_of : (block place : ℕ) (change : List ℕ → List ℕ) → ((x : List ℕ) → 23 ≤ length x → length (change x) ≡ length x) → ((x y : List ℕ) → TupleAlike block place x y → TupleAlike block place (change x) (change y)) → ItemChange block place change
 change_of block place change size keeps = record {
@@ -15,6 +17,25 @@ change_of block place change size keeps = record {
 
 pub low_change : (block place at : ℕ) (bytes : List ℕ) → at + length bytes ≤ 12 → ItemChange block place (λ x. splice x at bytes)
 low_change block place at bytes low = change_of block place (λ x. splice x at bytes) (λ x long. length-splice x at bytes (omega (arith, low, long))) (λ x y a. put_low block place x y at bytes low a)
+
+-- bytes from `at` to the tuple's end
+abbrev pub with_tail : ℕ → List ℕ → List ℕ → List ℕ
+with_tail at bytes x = if at + length bytes == length x then splice x at bytes else x
+
+pub tail_change : (block place at : ℕ) (bytes : List ℕ) → 23 ≤ at → ItemChange block place (λ x. if at + length bytes == length x then splice x at bytes else x)
+tail_change block place at bytes high = change_of block place (with_tail at bytes) (λ x long. size x (at + length bytes == length x) refl)
+    (λ x y a. subst (λ b. TupleAlike block place (with_tail at bytes x) (if b then splice y at bytes else y)) (ap (λ n. at + length bytes == n) a.size) (both x y a (at + length bytes == length x) refl))
+  where
+    whole : (x : List ℕ) → (at + length bytes == length x) ≡ true → at + length bytes ≡ length x
+    whole x e = grind (arith, nat_tests, e)
+
+    size : (x : List ℕ) (b : Bool) → (at + length bytes == length x) ≡ b → length (if b then splice x at bytes else x) ≡ length x
+    size x true e = length-splice x at bytes (omega (arith, whole x e))
+    size x false e = refl
+
+    both : (x y : List ℕ) → TupleAlike block place x y → (b : Bool) → (at + length bytes == length x) ≡ b → TupleAlike block place (if b then splice x at bytes else x) (if b then splice y at bytes else y)
+    both x y a true e = put_tail block place x y at bytes high (omega (arith, whole x e)) a
+    both x y a false e = a
 
 pub address_change : (block place : ℕ) (bytes : List ℕ) → length bytes ≡ 6 → ItemChange block place (λ x. splice x 12 bytes)
 address_change block place bytes six = change_of block place (λ x. splice x 12 bytes) (λ x long. length-splice x 12 bytes (omega (arith, six, long))) (λ x y a. put_tid block place x y bytes six a)

@@ -117,6 +117,21 @@ module _ (block place : ℕ) where
         rest = λ o le. over_both x y a bs o fx al.size (λ out. al.rest o le);
       }
 
+  -- bytes behind the header
+  pub put_tail : (x y : List ℕ) (a : ℕ) (bs : List ℕ) → 23 ≤ a → a + length bs ≤ length x → TupleAlike x y → TupleAlike (splice x a bs) (splice y a bs)
+  put_tail x y a bs high fx al =
+      let fy : a + length bs ≤ length y = omega (arith, fx, al.size) in
+      let ly : 23 ≤ length y = omega (arith, al.long, al.size) in
+      record {
+        long = omega (arith, length-splice x a bs fx, al.long);
+        size = sizes_stay x y a bs bs fx fy al.size;
+        xids = λ o lt. over_both x y a bs o fx al.size (λ out. al.xids o lt);
+        tid = λ o lt. tid_stays x a bs o al.long fx lt (inr (omega (arith, high))) ∙ al.tid o lt ∙ sym (tid_stays y a bs o ly fy lt (inr (omega (arith, high))));
+        bits2 = λ o le lt. over_both x y a bs o fx al.size (λ out. al.bits2 o le lt);
+        bits = (λ t. masked_infomask (u16_out x a bs 20 fx (inl (omega (arith, high))) t)) ∙ al.bits ∙ (λ t. masked_infomask (sym (u16_out y a bs 20 fy (inl (omega (arith, high)))) t));
+        rest = λ o le. over_both x y a bs o fx al.size (λ out. al.rest o le);
+      }
+
   -- an address
   pub put_tid : (x y bs : List ℕ) → length bs ≡ 6 → TupleAlike x y → TupleAlike (splice x 12 bs) (splice y 12 bs)
   put_tid x y bs six al =

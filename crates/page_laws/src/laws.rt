@@ -1,4 +1,4 @@
-ghost use Rattle.std.specs.Prelude.{ℕ, ◌≡◌, ◌+◌, ◌<◌, ◌≤◌, List, length, true, Ok, IsTrue};
+ghost use Rattle.std.specs.Prelude.{ℕ, ◌≡◌, ◌+◌, ◌<◌, ◌≤◌, ◌==◌, List, length, true, Ok, IsTrue, if◌then◌else◌};
 ghost use Rattle.layout.specs.Splice.{splice};
 ghost use Rattle.page_layout.specs.Bytes.{u16_at, with_u16};
 ghost use Rattle.page_layout.specs.Page.{count, lp_flags, lp_len};
@@ -77,12 +77,14 @@ pub fn heap_steps_keep()
         IsHeap r × TrimmedHeap (trimmed r) }
 {}
 
-/// Changes of a tuple that its mask determines: bytes over those below 12, an address, the second
-/// infomask by a function, the first by one that what shows of it determines, and one change after
-/// another.
+/// Changes of a tuple that its mask determines: bytes over those below 12, all bytes from a place
+/// behind the header on, an address, the second infomask by a function, the first by one that what
+/// shows of it determines, and one change after another.
 pub fn tuple_changes()
     ensures low { (block place at : ℕ) (bytes : List ℕ) → at + length bytes ≤ 12 →
         ItemChange block place (λ x. splice x at bytes) }
+    ensures tail { (block place at : ℕ) (bytes : List ℕ) → 23 ≤ at → ItemChange block place
+        (λ x. if at + length bytes == length x then splice x at bytes else x) }
     ensures address { (block place : ℕ) (bytes : List ℕ) → length bytes ≡ 6 →
         ItemChange block place (λ x. splice x 12 bytes) }
     ensures infomask2 { (block place : ℕ) (g : ℕ → ℕ) →

@@ -44,10 +44,10 @@ SameAnswer v (Err a) (Err b) = a ≡ b
 SameAnswer v (Ok p) (Err b) = ⊥
 SameAnswer v (Err a) (Ok q) = ⊥
 
--- what is asked of a manager's operation: it makes pages of pages, and can't tell a sound page from one with its mask
+-- what is asked of a manager's operation: it makes 8192 bytes of 8192, also of zeros, and can't tell a sound page from one with its mask
 pub record IsOperation (v : PageView) (g : List ℕ → Redone) : Type 0 where
-  pub page : (p q : List ℕ) → IsTrue (v.is_page p) → g p ≡ Ok q → IsTrue (v.is_page q)
-  pub mask : (p q : List ℕ) → IsTrue (v.is_page p) → IsTrue (v.is_page q) → IsTrue (v.sound p) → SamePage v p q → SameMasks v (g p) (g q)
+  pub page : (p q : List ℕ) → length p ≡ 8192 → g p ≡ Ok q → length q ≡ 8192
+  pub mask : (p q : List ℕ) → length p ≡ 8192 → length q ≡ 8192 → IsTrue (v.sound p) → SamePage v p q → SameMasks v (g p) (g q)
 
 -- what is asked of a record's change of a block: the same, and its page has the record's end as LSN
 pub record IsChange (v : PageView) (end : ℕ) (f : List ℕ → Redone) : Type 0 where
@@ -71,6 +71,6 @@ and_then (Err why) g = Err why
 
 -- a step of an operation: on pages of this shape it keeps the shape, and can't tell pages with equal masks
 pub record Respects (v : PageView) (shape : List ℕ → Bool) (g : List ℕ → Redone) : Type 0 where
-  pub page : (p q : List ℕ) → IsTrue (v.is_page p) → IsTrue (shape p) → g p ≡ Ok q → IsTrue (v.is_page q)
-  pub keeps : (p q : List ℕ) → IsTrue (v.is_page p) → IsTrue (shape p) → g p ≡ Ok q → IsTrue (shape q)
-  pub mask : (p q : List ℕ) → IsTrue (v.is_page p) → IsTrue (v.is_page q) → IsTrue (shape p) → IsTrue (shape q) → v.mask p ≡ v.mask q → SameMasks v (g p) (g q)
+  pub page : (p q : List ℕ) → length p ≡ 8192 → IsTrue (shape p) → g p ≡ Ok q → length q ≡ 8192
+  pub keeps : (p q : List ℕ) → length p ≡ 8192 → IsTrue (shape p) → g p ≡ Ok q → IsTrue (shape q)
+  pub mask : (p q : List ℕ) → length p ≡ 8192 → length q ≡ 8192 → IsTrue (shape p) → IsTrue (shape q) → v.mask p ≡ v.mask q → SameMasks v (g p) (g q)
