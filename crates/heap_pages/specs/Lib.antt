@@ -1,0 +1,10 @@
+pub mod NewTuple
+pub mod Insert
+pub mod MultiInsert
+pub mod Update
+pub mod NewBody
+pub mod Lines
+pub mod Prune
+pub mod Vacuum
+pub mod Freeze
+pub mod Visible

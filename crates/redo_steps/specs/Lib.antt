@@ -1,0 +1,4 @@
+pub mod Redo
+pub mod Bits
+pub mod Tuple
+pub mod Head
