@@ -1,0 +1,6 @@
+pub mod OwnLemmas
+pub mod AnswerLemmas
+pub mod AskLemmas
+pub mod ReadLemmas
+pub mod WayLemmas
+pub mod EditLemmas

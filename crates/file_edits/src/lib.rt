@@ -1,0 +1,15 @@
+//! Edits of files in a tree: the few primitives by which replay changes files.
+#![tactic(auto)]
+
+mod asking;
+mod calls;
+mod editing;
+mod reading;
+mod removing;
+mod ways;
+
+pub use asking::{file_size, is_folder, names_of};
+pub use editing::{ensure_file, lay};
+pub use reading::read_or_zeros;
+pub use removing::remove_file;
+pub use ways::make_way;

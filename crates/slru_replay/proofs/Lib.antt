@@ -1,0 +1,5 @@
+pub mod NameLemmas
+pub mod NumberLemmas
+pub mod AreaLemmas
+pub mod StatusLemmas
+pub mod CutLemmas
