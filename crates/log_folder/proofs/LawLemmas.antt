@@ -13,12 +13,10 @@ use Rattle.wal_base.specs.declared.lsn.Lsn.{Lsn}
 use Rattle.wal_base.specs.declared.seg_size.SegSize.{SegSize}
 use Rattle.wal_base.specs.declared.segment.Segment.{Segment}
 use Rattle.wal_pages.proofs.PartLemmas.{named_long}
-use Rattle.tool_words.specs.declared.waldump.DumpWords.{DumpWords}
-use Rattle.tool_words.specs.declared.waldump.Filters.{Filters}
-use Rattle.tool_words.specs.declared.waldump.SegmentWord.{SegmentWord}
+use Rattle.commands.specs.declared.waldump.DumpWords.{DumpWords}
+use Rattle.commands.specs.declared.waldump.Filters.{Filters}
 use Rattle.log_folder.specs.declared.bounds.Bounds.{Bounds}
 use Rattle.log_folder.specs.declared.taken.Taken.{Taken}
-use Rattle.log_folder.specs.FolderText.{folder_text, folder_of}
 use Rattle.log_folder.specs.Listing.{segment_path, is_segment, least_segment}
 use Rattle.log_folder.specs.Folder.{listed_or, least_in, taken_at, wal_in, or_no_wal, wal_taken, or_wal, taken_of}
 use Rattle.log_folder.specs.Segment.{or_bad, size_read, head_at, size_at, size_of}
@@ -28,13 +26,12 @@ use Rattle.log_folder.specs.Laws.{HasSegment, segment_words, folder_words, Segme
 use Rattle.log_folder.proofs.LeastLemmas.{none_is_none, least_is_least}
 
 -- what is found, by what each stage gives
-stages : (c : Contents) (words : DumpWords) (folder : PathValue) (taken : Taken) (size : SegSize) (bounds : Bounds)
-    → folder_of words ≡ Ok folder → taken_of c folder ≡ Ok taken → size_of c taken.folder (name_read taken.least words.first) ≡ Ok size → bounds_of size words ≡ Ok bounds
+stages : (c : Contents) (words : DumpWords) (taken : Taken) (size : SegSize) (bounds : Bounds)
+    → taken_of c words.folder ≡ Ok taken → size_of c taken.folder (name_read taken.least words.first) ≡ Ok size → bounds_of size words ≡ Ok bounds
     → found_in c words ≡ Ok (found_log taken.folder size bounds words.filters)
 unfolding found_in
-stages c words folder taken size bounds at_folder at_taken at_size at_bounds =
-    ap (λ r. given r (λ f. given (taken_of c f) (λ t. given (size_of c t.folder (name_read t.least words.first)) (λ s. given (bounds_of s words) (λ b. Ok (found_log t.folder s b words.filters)))))) at_folder
-    ∙ ap (λ r. given r (λ t. given (size_of c t.folder (name_read t.least words.first)) (λ s. given (bounds_of s words) (λ b. Ok (found_log t.folder s b words.filters))))) at_taken
+stages c words taken size bounds at_taken at_size at_bounds =
+    ap (λ r. given r (λ t. given (size_of c t.folder (name_read t.least words.first)) (λ s. given (bounds_of s words) (λ b. Ok (found_log t.folder s b words.filters))))) at_taken
     ∙ ap (λ r. given r (λ s. given (bounds_of s words) (λ b. Ok (found_log taken.folder s b words.filters)))) at_size
     ∙ ap (λ r. given r (λ b. Ok (found_log taken.folder size b words.filters))) at_bounds
 
@@ -74,26 +71,25 @@ some_taken c folder name listed here =
       | None ↦ λ none. absurd (true≢false (sym here ∙ none_is_none c folder name none))
     ] refl
 
-segment_bounds : (word : SegmentWord) (timeline : Option ℕ) (filters : Filters) (size : SegSize) (segment : Segment) → segment_named size word.name ≡ Some segment → bounds_of size (segment_words word timeline filters) ≡ Ok (record {
+segment_bounds : (folder : PathValue) (name : List ℕ) (timeline : Option ℕ) (filters : Filters) (size : SegSize) (segment : Segment) → segment_named size name ≡ Some segment → bounds_of size (segment_words folder name timeline filters) ≡ Ok (record {
   tli = segment.tli;
   start = lsn_at (segment.number * bytes_of segment.size);
   stop = end_at (segment.number * bytes_of segment.size + bytes_of segment.size);
 })
 unfolding bounds_of stretch_named bounds_in holds_start goes_on start_from stop_at timeline_of stretch_of
-segment_bounds word timeline filters size segment is =
-    ap (λ o. given (given (stretch_or o) some_stretch) (λ first. given (Ok None) (λ last. bounds_in first last (segment_words word timeline filters)))) is
+segment_bounds folder name timeline filters size segment is =
+    ap (λ o. given (given (stretch_or o) some_stretch) (λ first. given (Ok None) (λ last. bounds_in first last (segment_words folder name timeline filters)))) is
 
 pub segment_found : SegmentIsFound
-unfolding folder_text
-segment_found c word timeline filters folder size segment at_folder has named =
-    let long = named_long size word.name segment named in
-    let taken = some_taken c folder word.name has.listed (stands c folder word.name has.head long has.bytes) in
-    stages c (segment_words word timeline filters) folder (taken_at folder taken.0) size _ at_folder taken.1 (size_told c folder word.name size long has) (segment_bounds word timeline filters size segment named)
+segment_found c folder name timeline filters size segment has named =
+    let long = named_long size name segment named in
+    let taken = some_taken c folder name has.listed (stands c folder name has.head long has.bytes) in
+    stages c (segment_words folder name timeline filters) (taken_at folder taken.0) size _ taken.1 (size_told c folder name size long has) (segment_bounds folder name timeline filters size segment named)
 
-folder_bounds : (text : List ℕ) (start : Lsn) (stop : Option Lsn) (timeline : Option ℕ) (filters : Filters) (size : SegSize) → bounds_of size (folder_words text start stop timeline filters) ≡ Ok (record { tli = unwrap_or timeline 1; start = start; stop = stop })
+folder_bounds : (folder : PathValue) (start : Lsn) (stop : Option Lsn) (timeline : Option ℕ) (filters : Filters) (size : SegSize) → bounds_of size (folder_words folder start stop timeline filters) ≡ Ok (record { tli = unwrap_or timeline 1; start = start; stop = stop })
 unfolding bounds_of bounds_in holds_start goes_on start_from stop_at timeline_of
-folder_bounds text start None timeline filters size = refl
-folder_bounds text start (Some stop) timeline filters size = refl
+folder_bounds folder start None timeline filters size = refl
+folder_bounds folder start (Some stop) timeline filters size = refl
 
 long_of : (a b : Bool) → a && b ≡ true → a ≡ true
 long_of true b e = refl
@@ -104,7 +100,6 @@ unfolding is_segment
 segment_long c folder name e = long_of (is_long_name name) _ e
 
 pub wal_found : WalIsTaken
-unfolding folder_text
-wal_found c text start stop timeline filters folder name size at_folder listed none least has =
+wal_found c folder start stop timeline filters name size listed none least has =
     let long = segment_long c (wal_in folder) name (least_is_least c (wal_in folder) name least).one in
-    stages c (folder_words text start stop timeline filters) folder (taken_at (wal_in folder) name) size _ at_folder (taken_below c folder name listed none has.listed least) (size_told c (wal_in folder) name size long has) (folder_bounds text start stop timeline filters size)
+    stages c (folder_words folder start stop timeline filters) (taken_at (wal_in folder) name) size _ (taken_below c folder name listed none has.listed least) (size_told c (wal_in folder) name size long has) (folder_bounds folder start stop timeline filters size)

@@ -9,11 +9,12 @@ use Rattle.std.specs.List.Sorted.{IsStrictlySortedBy}
 use Rattle.std.specs.Result.{is_ok}
 use Rattle.cluster_tree.specs.PathValue.{PathValue, below}
 use Rattle.cluster_tree.specs.Contents.{Contents, Entry, or_root, entry_at}
+use Rattle.cluster_tree.specs.Folders.{names_in}
 use Rattle.cluster_tree.specs.Tree.{file_of}
 use Rattle.wal_base.specs.Hex.{is_long_name}
-use Rattle.log_folder.specs.Listing.{names_in, is_segment, least_segment}
+use Rattle.log_folder.specs.Listing.{is_segment, least_segment}
 use Rattle.log_folder.specs.Laws.{IsLeast}
-use Rattle.log_folder.proofs.NamesLemmas.{names_listing}
+use Rattle.cluster_tree.proofs.NamesLemmas.{names_listing}
 
 both : (a b : Bool) → a && b ≡ true → (a ≡ true) × (b ≡ true)
 both true b e = (refl, e)

@@ -1,9 +1,5 @@
 pub mod NamedLemmas
-pub mod PieceLemmas
-pub mod FrontLemmas
-pub mod ReadLemmas
 pub mod PartLemmas
-pub mod NamesLemmas
 pub mod FindLemmas
 pub mod ListLemmas
 pub mod FoundLemmas

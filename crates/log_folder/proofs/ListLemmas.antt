@@ -12,7 +12,7 @@ use Rattle.log_folder.specs.declared.fault.FolderFault.TheVariants as fault
 use Rattle.log_folder.specs.Faults.{IsFree, IsOfTree}
 use Rattle.log_folder.specs.Listing.{is_segment, least_segment}
 use Rattle.log_folder.specs.Folder.{listed_or, least_in, unlisted}
-use Rattle.log_folder.proofs.NamesLemmas.{listing_names}
+use Rattle.cluster_tree.proofs.NamesLemmas.{listing_names}
 
 least_found : (c : Contents) (folder : PathValue) (names : List (List ℕ)) (first : Option (List ℕ)) → list_refusal (entry_at c folder) ≡ None → IsListing c folder names → first ≡ find (is_segment c folder) names → least_in c folder ≡ Ok first
 unfolding least_in least_segment

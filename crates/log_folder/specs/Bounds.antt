@@ -6,8 +6,7 @@ use Rattle.wal_base.specs.Segment.{bytes_of, segment_named}
 use Rattle.wal_base.specs.declared.lsn.Lsn.{Lsn}
 use Rattle.wal_base.specs.declared.seg_size.SegSize.{SegSize}
 use Rattle.wal_base.specs.declared.segment.Segment.{Segment}
-use Rattle.tool_words.specs.declared.waldump.DumpWords.{DumpWords}
-use Rattle.tool_words.specs.declared.waldump.SegmentWord.{SegmentWord}
+use Rattle.commands.specs.declared.waldump.DumpWords.{DumpWords}
 use Rattle.log_folder.specs.declared.bounds.Bounds.{Bounds}
 use Rattle.log_folder.specs.declared.bounds.Stretch.{Stretch}
 use Rattle.log_folder.specs.declared.fault.FolderFault.{FolderFault}
@@ -37,15 +36,10 @@ stretch_named size name = stretch_or (segment_named size name)
 abbrev pub some_stretch : Stretch → Result (Option Stretch) FolderFault
 some_stretch stretch = Ok (Some stretch)
 
--- STARTSEG, where it is given
-abbrev pub first_of : SegSize → Option SegmentWord → Result (Option Stretch) FolderFault
-first_of size None = Ok None
-first_of size (Some word) = given (stretch_named size word.name) some_stretch
-
--- ENDSEG, where it is given
-abbrev pub last_of : SegSize → Option (List ℕ) → Result (Option Stretch) FolderFault
-last_of size None = Ok None
-last_of size (Some name) = given (stretch_named size name) some_stretch
+-- what STARTSEG or ENDSEG holds, where it is given
+abbrev pub stretch_given : SegSize → Option (List ℕ) → Result (Option Stretch) FolderFault
+stretch_given size None = Ok None
+stretch_given size (Some name) = given (stretch_named size name) some_stretch
 
 -- a position lies before an end
 abbrev pub is_before : ℕ → Option Lsn → Bool
@@ -92,6 +86,6 @@ bounds_in first last words =
 -- the bounds that the words give, where segments have this size
 unfoldable pub bounds_of : SegSize → DumpWords → Result Bounds FolderFault
 bounds_of size words =
-    given (first_of size words.first) (λ first.
-    given (last_of size words.last) (λ last.
+    given (stretch_given size words.first) (λ first.
+    given (stretch_given size words.last) (λ last.
     bounds_in first last words))

@@ -9,8 +9,6 @@ IsFree e = (e ≡ fault.ReadFault) ⊎ (e ≡ fault.OutOfMemory)
 
 -- one that the words alone don't decide
 abbrev pub IsOfTree : FolderFault → Type 0
-IsOfTree fault.DotDot = ⊥
-IsOfTree (fault.TooDeep path) = ⊥
 IsOfTree (fault.NotFolder path) = Unit {0}
 IsOfTree (fault.Link path) = Unit {0}
 IsOfTree (fault.NameNotText path) = Unit {0}

@@ -40,11 +40,12 @@ taken_at folder least = record { folder = folder; least = least }
 abbrev pub wal_in : PathValue → PathValue
 wal_in folder = below folder (codes "pg_wal" ∷ [])
 
--- pg_wal is taken where it has a segment; where nothing or a file stands there, it has none
+-- pg_wal is taken where it has a segment; where nothing, a file or a link stands there, it has none
 abbrev pub or_no_wal : PathValue → PathValue → Result (Option (List ℕ)) FolderFault → Result Taken FolderFault
 or_no_wal folder wal (Ok (Some least)) = Ok (taken_at wal least)
 or_no_wal folder wal (Ok None) = Err (fault.NoWal folder)
 or_no_wal folder wal (Err (fault.NotFolder path)) = Err (fault.NoWal folder)
+or_no_wal folder wal (Err (fault.Link path)) = Err (fault.NoWal folder)
 or_no_wal folder wal (Err e) = Err e
 
 -- pg_wal in a folder that has no segment

@@ -10,10 +10,8 @@ use Rattle.wal_base.specs.Segment.{bytes_of, segment_named}
 use Rattle.wal_base.specs.declared.lsn.Lsn.{Lsn}
 use Rattle.wal_base.specs.declared.seg_size.SegSize.{SegSize}
 use Rattle.wal_base.specs.declared.segment.Segment.{Segment}
-use Rattle.tool_words.specs.declared.waldump.DumpWords.{DumpWords}
-use Rattle.tool_words.specs.declared.waldump.Filters.{Filters}
-use Rattle.tool_words.specs.declared.waldump.SegmentWord.{SegmentWord}
-use Rattle.log_folder.specs.FolderText.{front_text, folder_named}
+use Rattle.commands.specs.declared.waldump.DumpWords.{DumpWords}
+use Rattle.commands.specs.declared.waldump.Filters.{Filters}
 use Rattle.log_folder.specs.Listing.{is_segment, least_segment}
 use Rattle.log_folder.specs.Folder.{wal_in}
 use Rattle.log_folder.specs.Segment.{head_at, size_in}
@@ -40,27 +38,27 @@ pub record HasSegment (c : Contents) (folder : PathValue) (name : List ℕ) (siz
   pub bytes : head_at c (below folder (name ∷ [])) ≡ Ok head
   pub sized : size_in head ≡ Some size
 
--- the words that give STARTSEG, and a timeline or none
-abbrev pub segment_words : SegmentWord → Option ℕ → Filters → DumpWords
-segment_words word timeline filters = record { path = None; first = Some word; last = None; start = None; stop = None; timeline = timeline; filters = filters }
+-- the words that give STARTSEG in a folder, and a timeline or none
+abbrev pub segment_words : PathValue → List ℕ → Option ℕ → Filters → DumpWords
+segment_words folder name timeline filters = record { folder = folder; first = Some name; last = None; start = None; stop = None; timeline = timeline; filters = filters }
 
 -- STARTSEG alone: its own bytes are dumped, on its timeline, whatever else lies in its folder
 abbrev pub SegmentIsFound : Type 0
-SegmentIsFound = (c : Contents) (word : SegmentWord) (timeline : Option ℕ) (filters : Filters) (folder : PathValue) (size : SegSize) (segment : Segment)
-    → folder_named (front_text (Some word)) ≡ Ok folder → HasSegment c folder word.name size → segment_named size word.name ≡ Some segment
-    → found_in c (segment_words word timeline filters) ≡ Ok (found_log folder size (record {
+SegmentIsFound = (c : Contents) (folder : PathValue) (name : List ℕ) (timeline : Option ℕ) (filters : Filters) (size : SegSize) (segment : Segment)
+    → HasSegment c folder name size → segment_named size name ≡ Some segment
+    → found_in c (segment_words folder name timeline filters) ≡ Ok (found_log folder size (record {
       tli = segment.tli;
       start = lsn_at (segment.number * bytes_of segment.size);
       stop = end_at (segment.number * bytes_of segment.size + bytes_of segment.size);
     }) filters)
 
--- the words that give -p and -s, and a stop and a timeline or none
-abbrev pub folder_words : List ℕ → Lsn → Option Lsn → Option ℕ → Filters → DumpWords
-folder_words text start stop timeline filters = record { path = Some text; first = None; last = None; start = Some start; stop = stop; timeline = timeline; filters = filters }
+-- the words that give a folder and -s, and a stop and a timeline or none
+abbrev pub folder_words : PathValue → Lsn → Option Lsn → Option ℕ → Filters → DumpWords
+folder_words folder start stop timeline filters = record { folder = folder; first = None; last = None; start = Some start; stop = stop; timeline = timeline; filters = filters }
 
--- -p with a cluster, whose log lies in pg_wal: that is dumped from -s on, on the timeline given, or 1
+-- a folder that is a cluster, whose log lies in pg_wal: that is dumped from -s on, on the timeline given, or 1
 abbrev pub WalIsTaken : Type 0
-WalIsTaken = (c : Contents) (text : List ℕ) (start : Lsn) (stop : Option Lsn) (timeline : Option ℕ) (filters : Filters) (folder : PathValue) (name : List ℕ) (size : SegSize)
-    → folder_named text ≡ Ok folder → list_refusal (entry_at c folder) ≡ None → least_segment c folder ≡ None
+WalIsTaken = (c : Contents) (folder : PathValue) (start : Lsn) (stop : Option Lsn) (timeline : Option ℕ) (filters : Filters) (name : List ℕ) (size : SegSize)
+    → list_refusal (entry_at c folder) ≡ None → least_segment c folder ≡ None
     → least_segment c (wal_in folder) ≡ Some name → HasSegment c (wal_in folder) name size
-    → found_in c (folder_words text start stop timeline filters) ≡ Ok (found_log (wal_in folder) size (record { tli = unwrap_or timeline 1; start = start; stop = stop }) filters)
+    → found_in c (folder_words folder start stop timeline filters) ≡ Ok (found_log (wal_in folder) size (record { tli = unwrap_or timeline 1; start = start; stop = stop }) filters)

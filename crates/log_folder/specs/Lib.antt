@@ -1,6 +1,4 @@
 pub mod Faults
-pub mod Front
-pub mod FolderText
 pub mod Listing
 pub mod Folder
 pub mod Segment

@@ -1,21 +1,12 @@
 -- The files of a log's folder that have the name of a segment: PostgreSQL 16, src/include/access/xlog_internal.h, IsXLogFileName;
 -- src/bin/pg_waldump/pg_waldump.c, search_directory. Own: "Segments are files", "The folder of a dump".
-use Rattle.std.specs.Prelude.{ℕ, ◌-◌, Bool, ◌&&◌, if◌then◌else◌, List, [], ◌∷◌, length, filter, map, find, get_or, Option, None, Some}
+use Rattle.std.specs.Prelude.{ℕ, Bool, ◌&&◌, if◌then◌else◌, List, [], ◌∷◌, find, Option, None, Some}
 use Rattle.std.specs.Result.{is_ok}
-use Rattle.std.specs.FinMap.{keys}
 use Rattle.cluster_tree.specs.PathValue.{PathValue, below}
 use Rattle.cluster_tree.specs.Contents.{Contents, entry_at}
-use Rattle.cluster_tree.specs.Folders.{lies_in}
+use Rattle.cluster_tree.specs.Folders.{names_in}
 use Rattle.cluster_tree.specs.Tree.{file_of}
 use Rattle.wal_base.specs.Hex.{is_long_name}
-
--- the name of what stands at a path
-abbrev pub last_part : PathValue → List ℕ
-last_part path = get_or path.parts (length path.parts - 1) []
-
--- the names of what lies in a folder, in ascending order of their bytes
-unfoldable pub names_in : Contents → PathValue → List (List ℕ)
-names_in c folder = map last_part (filter (lies_in folder) (keys c))
 
 -- whether a file stands at a path
 abbrev pub is_file : Contents → PathValue → Bool

@@ -1,10 +1,10 @@
 // From where to where a log is shown, and on which timeline.
 ghost use Rattle.std.specs.Prelude.{◌≡◌, ◌*◌, ◌<◌, ◌^◌, IfErr};
 ghost use Rattle.wal_base.specs.Segment.{bytes_of};
-ghost use Rattle.log_folder.specs.Bounds.{bounds_in, bounds_of, first_of, goes_on, holds_start, last_of, start_from, stop_at, stretch_named, stretch_of, timeline_of};
+ghost use Rattle.log_folder.specs.Bounds.{bounds_in, bounds_of, goes_on, holds_start, start_from, stop_at, stretch_given, stretch_named, stretch_of, timeline_of};
 
 use crate::FolderFault;
-use tool_words::{DumpWords, SegmentWord};
+use commands::DumpWords;
 use wal_base::{Lsn, SegSize, Segment, Text};
 
 /// From where to where a log is shown, and on which timeline.
@@ -49,20 +49,9 @@ fn stretch_named(size: SegSize, name: &str) -> Result<Stretch, FolderFault>
     }
 }
 
-// STARTSEG, where it is given.
-fn first_of(size: SegSize, word: &Option<SegmentWord>) -> Result<Option<Stretch>, FolderFault>
-    ensures value { result ≡ first_of size word.now }
-    ensures fault { IfErr result (λ e. e ≡ FolderFault.Usage) }
-{
-    match word {
-        Some(word) => Ok(Some(stretch_named(size, word.name.as_str())?)),
-        None => Ok(None),
-    }
-}
-
-// ENDSEG, where it is given.
-fn last_of(size: SegSize, name: &Option<Text>) -> Result<Option<Stretch>, FolderFault>
-    ensures value { result ≡ last_of size name.now }
+// What STARTSEG or ENDSEG holds, where it is given.
+fn stretch_given(size: SegSize, name: &Option<Text>) -> Result<Option<Stretch>, FolderFault>
+    ensures value { result ≡ stretch_given size name.now }
     ensures fault { IfErr result (λ e. e ≡ FolderFault.Usage) }
 {
     match name {
@@ -165,7 +154,7 @@ pub(crate) fn bounds_of(size: SegSize, words: &DumpWords) -> Result<Bounds, Fold
     ensures value { result ≡ bounds_of size words.now }
     ensures fault { IfErr result (λ e. e ≡ FolderFault.Usage) }
 {
-    let first = first_of(size, &words.first)?;
-    let last = last_of(size, &words.last)?;
+    let first = stretch_given(size, &words.first)?;
+    let last = stretch_given(size, &words.last)?;
     bounds_in(first, last, words)
 }

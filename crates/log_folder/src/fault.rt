@@ -2,16 +2,9 @@
 use cluster_tree::{OutOfMemory, Path};
 use thiserror::Error;
 
-/// Why no log is found, in the order in which it is looked for, but for `Usage`: that comes first
-/// where the folder's text is empty, and else last.
+/// Why no log is found, in the order in which it is looked for.
 #[derive(Debug, Drop, Error)]
 pub enum FolderFault {
-    /// The folder's text has a part `..`.
-    #[error("a path has a part '..'")]
-    DotDot,
-    /// The folder has more than 62 parts: its first 64.
-    #[error("the path {0} has too many parts")]
-    TooDeep(Path),
     /// No folder stands at this path, nor a link.
     #[error("{0} is not a folder")]
     NotFolder(Path),
@@ -21,15 +14,14 @@ pub enum FolderFault {
     /// This folder holds a name that isn't UTF-8.
     #[error("{0} holds a name that isn't UTF-8")]
     NameNotText(Path),
-    /// This folder has no file with a segment's name, nor has its folder pg_wal; or it is the one
-    /// of these two that is taken, and STARTSEG is no file in it.
+    /// This folder has no file with a segment's name, nor has its folder pg_wal, which may be a link
+    /// or a file; or it is the one of these two that is taken, and STARTSEG is no file in it.
     #[error("{0} has no log")]
     NoWal(Path),
     /// The first 40 bytes of this file don't tell the size of a segment.
     #[error("{0} is not a segment of a log")]
     BadSegment(Path),
-    /// The words break a rule: the text of the folder is empty, or a start or an end doesn't fit
-    /// the segments.
+    /// The words break a rule: a start or an end doesn't fit the segments.
     #[error("the words break a rule")]
     Usage,
     /// A read of the device failed.

@@ -4,8 +4,6 @@
 mod bounds;
 mod fault;
 mod find;
-mod folder;
-mod front;
 mod laws;
 mod listing;
 mod segment;
@@ -13,8 +11,4 @@ mod taken;
 
 pub use fault::FolderFault;
 pub use find::{FoundLog, find_log};
-pub use front::first_parts;
 pub use laws::{a_segment_is_found, pg_wal_is_taken, the_least_segment_is_told};
-
-#[cfg(test)]
-mod tests;

@@ -31,20 +31,22 @@ fn wal_in(alloc: Global, folder: &Path) -> Result<Path, FolderFault>
 
 // The folder pg_wal in one that has no segment.
 #[tactic(auto, unfolding(crate::specs::Folder::wal_taken))]
-fn wal_taken<F: Tree>(alloc: Global, tree: &mut F, folder: Path) -> Result<Taken, FolderFault>
-    requires room { length folder.parts ≤ 62 }
+fn wal_taken<F: Tree>(alloc: Global, tree: &mut F, folder: &Path) -> Result<Taken, FolderFault>
+    requires room { length folder.now.parts ≤ 62 }
     ensures exact { IsTrue F.tells →
-        Meets IsFree (wal_taken (F.contents tree.old) folder) result }
+        Meets IsFree (wal_taken (F.contents tree.old) folder.now) result }
     ensures room { IfOk result (λ taken. length taken.folder.parts ≤ 63) }
     ensures cause { IfErr result IsOfTree }
     ensures reads { Reads F.Tree tree.old tree.new }
     ensures read_fault { IsErrOf result FolderFault.ReadFault →
         Rose (F.failed_reads tree.old) (F.failed_reads tree.new) }
 {
-    let wal = wal_in(alloc, &folder)?;
+    let wal = wal_in(alloc, folder)?;
     match least_in(alloc, tree, &wal) {
         Ok(Some(least)) => Ok(Taken { folder: wal, least }),
-        Ok(None) | Err(FolderFault::NotFolder(_)) => Err(FolderFault::NoWal(folder)),
+        Ok(None) | Err(FolderFault::NotFolder(_) | FolderFault::Link(_)) => {
+            Err(FolderFault::NoWal(folder.copy(alloc)?))
+        }
         Err(fault) => Err(fault),
     }
 }
@@ -52,24 +54,27 @@ fn wal_taken<F: Tree>(alloc: Global, tree: &mut F, folder: Path) -> Result<Taken
 /// The folder that the log is read from: the given one where it has a segment, else pg_wal in it.
 ///
 /// Answers `NotFolder`, `Link` and `NameNotText` for the folder, then `NoWal` with it where neither
-/// has a segment; `Link` and `NameNotText` for pg_wal too.
+/// has a segment, as where pg_wal is a file or a link; `NameNotText` for pg_wal too.
 #[tactic(auto, unfolding(crate::specs::Folder::taken_of))]
 pub(crate) fn taken_of<F: Tree>(
     alloc: Global,
     tree: &mut F,
-    folder: Path,
+    folder: &Path,
 ) -> Result<Taken, FolderFault>
-    requires room { length folder.parts ≤ 62 }
+    requires room { length folder.now.parts ≤ 62 }
     ensures exact { IsTrue F.tells →
-        Meets IsFree (taken_of (F.contents tree.old) folder) result }
+        Meets IsFree (taken_of (F.contents tree.old) folder.now) result }
     ensures room { IfOk result (λ taken. length taken.folder.parts ≤ 63) }
     ensures cause { IfErr result IsOfTree }
     ensures reads { Reads F.Tree tree.old tree.new }
     ensures read_fault { IsErrOf result FolderFault.ReadFault →
         Rose (F.failed_reads tree.old) (F.failed_reads tree.new) }
 {
-    match least_in(alloc, tree, &folder)? {
-        Some(least) => Ok(Taken { folder, least }),
+    match least_in(alloc, tree, folder)? {
+        Some(least) => Ok(Taken {
+            folder: folder.copy(alloc)?,
+            least,
+        }),
         None => wal_taken(alloc, tree, folder),
     }
 }

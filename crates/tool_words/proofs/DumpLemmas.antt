@@ -10,8 +10,8 @@ use Rattle.tool_words.specs.Laws.{IsPlainText, dump_at, no_filters}
 use Rattle.tool_words.specs.Roots.{root_of}
 use Rattle.tool_words.specs.Waldump.{asked_for, dump_in, filters_in, waldump_of, waldump_table}
 use Rattle.tool_words.specs.declared.waldump.SegmentWord.{SegmentWord}
-use Rattle.tool_words.specs.declared.waldump.DumpWords.{DumpWords}
-use Rattle.tool_words.specs.declared.waldump.WaldumpWords.TheVariants.{Managers}
+use Rattle.tool_words.specs.declared.waldump.DumpTexts.{DumpTexts}
+use Rattle.tool_words.specs.declared.waldump.WaldumpTexts.TheVariants.{Managers}
 
 pub no_start : (name : List ℕ) → waldump_of (name ∷ []) ≡ None
 unfolding waldump_table found_in clap_on_literals filters_in dump_in
@@ -26,7 +26,7 @@ unfolding waldump_table found_in clap_on_literals filters_in dump_in
 list_is_read name = refl
 
 -- a dump of these
-abbrev begun : Option (List ℕ) → Option SegmentWord → Option Lsn → Option DumpWords
+abbrev begun : Option (List ℕ) → Option SegmentWord → Option Lsn → Option DumpTexts
 begun path first start = Some (record {
   path = path;
   first = first;

@@ -1,19 +1,102 @@
--- The words of the program: a command's name and its own words. PostgreSQL 16 manual, parts "PostgreSQL Client Applications" and "PostgreSQL Server Applications".
-use Rattle.std.specs.Prelude.{ℕ, List, [], ◌∷◌, Option, None, codes, bytes_eq, option_map, if◌then◌else◌}
+-- What the program's words ask for: PostgreSQL 16 manual, reference pages of pg_rewind, pg_controldata and pg_waldump. Own: "The order of what
+-- is wrong with roots", "The folder of a dump".
+use Rattle.std.specs.Prelude.{ℕ, ◌==◌, ◌||◌, Bool, true, false, if◌then◌else◌, List, length, codes, Option, None, Some, unwrap_or, option_map, Result, Ok, Err}
+use Rattle.cluster_tree.specs.Apart.{overlap}
+use Rattle.cluster_tree.specs.Causes.{given}
+use Rattle.cluster_tree.specs.PathValue.{PathValue}
+use Rattle.cluster_tree.specs.Paths.{checked}
+use Rattle.cluster_tree.specs.declared.path_fault.PathFault.{PathFault}
+use Rattle.cluster_tree.specs.declared.path_fault.PathFault.TheVariants as path_fault
+use Rattle.commands.specs.Name.{name_of}
+use Rattle.commands.specs.declared.command.Command.{Command}
+use Rattle.commands.specs.declared.command.Command.TheVariants as command
+use Rattle.commands.specs.declared.fault.CommandFault.{CommandFault}
+use Rattle.commands.specs.declared.fault.CommandFault.TheVariants as fault
+use Rattle.commands.specs.declared.name.CommandName.{CommandName}
+use Rattle.commands.specs.declared.name.CommandName.TheVariants as name
+use Rattle.commands.specs.declared.waldump.WaldumpWords.TheVariants as asked
 use Rattle.tool_words.specs.Controldata.{controldata_of}
+use Rattle.tool_words.specs.Paths.{root_named, folder_named}
 use Rattle.tool_words.specs.Rewind.{rewind_of}
 use Rattle.tool_words.specs.Waldump.{waldump_of}
-use Rattle.tool_words.specs.declared.command.Command.{Command}
-use Rattle.tool_words.specs.declared.command.Command.TheVariants as command
+use Rattle.tool_words.specs.declared.rewind.RewindTexts.{RewindTexts}
+use Rattle.tool_words.specs.declared.waldump.DumpTexts.{DumpTexts}
+use Rattle.tool_words.specs.declared.waldump.SegmentWord.{SegmentWord}
+use Rattle.tool_words.specs.declared.waldump.WaldumpTexts.{WaldumpTexts}
+use Rattle.tool_words.specs.declared.waldump.WaldumpTexts.TheVariants as texts
 
--- what the command of this name is asked to do
-unfoldable pub command_named : List ℕ → List (List ℕ) → Option Command
-command_named name words =
-    if bytes_eq name (codes "pg_controldata") then option_map command.Controldata (controldata_of words)
-    else (if bytes_eq name (codes "pg_rewind") then option_map command.Rewind (rewind_of words)
-    else (if bytes_eq name (codes "pg_waldump") then option_map command.Waldump (waldump_of words) else None))
+-- pg_controldata, at its root
+abbrev pub controldata_asked : Option (List ℕ) → Result Command CommandFault
+controldata_asked None = Err fault.Usage
+controldata_asked (Some text) = given (root_named text) (λ root. Ok (command.Controldata (record { root = root })))
 
--- what the words ask for; none where they are in no command's grammar, which is Usage
-abbrev pub command_of : List (List ℕ) → Option Command
-command_of [] = None
-command_of (name ∷ words) = command_named name (name ∷ words)
+-- the text of a path is refused for a part `..`
+abbrev pub climbs : {A : Type 0} → Result A PathFault → Bool
+climbs (Ok _) = false
+climbs (Err path_fault.Empty) = false
+climbs (Err path_fault.DotDot) = true
+climbs (Err path_fault.TooDeep) = false
+climbs (Err path_fault.OutOfMemory) = false
+
+-- pg_rewind of two roots, of which neither may hold the other
+abbrev pub rewind_at : Bool → PathValue → PathValue → Result Command CommandFault
+rewind_at dry_run target source =
+    if overlap target source then Err fault.PathsOverlap
+    else Ok (command.Rewind (record { target = target; source = source; dry_run = dry_run }))
+
+-- a part `..` of either root is told before the depth of both
+unfoldable pub two_roots : Bool → List ℕ → List ℕ → Result Command CommandFault
+two_roots dry_run target source =
+    if climbs (checked 0 target) || climbs (checked 0 source) then Err fault.DotDot
+    else given (root_named target) (λ t. given (root_named source) (λ s. rewind_at dry_run t s))
+
+abbrev pub rewind_asked : Option RewindTexts → Result Command CommandFault
+rewind_asked None = Err fault.Usage
+rewind_asked (Some words) = two_roots words.dry_run words.target words.source
+
+-- what stands before the name of STARTSEG, up to and with the last slash; the current folder where nothing does
+abbrev pub front_text : Option SegmentWord → List ℕ
+front_text None = codes "."
+front_text (Some word) = if length word.folder == 0 then codes "." else word.folder
+
+-- the text of a dump's folder: that of -p, else the front of STARTSEG
+unfoldable pub folder_text : DumpTexts → List ℕ
+folder_text words = unwrap_or words.path (front_text words.first)
+
+-- the name of STARTSEG
+abbrev pub segment_of : Option SegmentWord → Option (List ℕ)
+segment_of first = option_map (λ word. word.name) first
+
+-- a dump of the log in a folder
+abbrev pub dump_in_folder : DumpTexts → PathValue → Command
+dump_in_folder words folder = command.Waldump (asked.Dump (record {
+  folder = folder;
+  first = segment_of words.first;
+  last = words.last;
+  start = words.start;
+  stop = words.stop;
+  timeline = words.timeline;
+  filters = words.filters;
+}))
+
+-- pg_waldump; for the list of the managers no folder is looked at
+abbrev pub waldump_asked : Option WaldumpTexts → Result Command CommandFault
+waldump_asked None = Err fault.Usage
+waldump_asked (Some texts.Managers) = Ok (command.Waldump asked.Managers)
+waldump_asked (Some (texts.Dump words)) = given (folder_named (folder_text words)) (λ folder. Ok (dump_in_folder words folder))
+
+-- what the words of the command of this name ask for; the others aren't built yet, whatever their words
+unfoldable pub command_named : Option CommandName → List (List ℕ) → Result Command CommandFault
+command_named None words = Err fault.Usage
+command_named (Some name.PgRewind) words = rewind_asked (rewind_of words)
+command_named (Some name.PgWaldump) words = waldump_asked (waldump_of words)
+command_named (Some name.PgControldata) words = controldata_asked (controldata_of words)
+command_named (Some name.PgResetwal) words = Err fault.NotBuilt
+command_named (Some name.PgArchivecleanup) words = Err fault.NotBuilt
+command_named (Some name.PgWalreplay) words = Err fault.NotBuilt
+command_named (Some name.PgWalcompare) words = Err fault.NotBuilt
+command_named (Some name.Pair) words = Err fault.NotBuilt
+
+-- the command that the words ask for, or why there is none; the first word is its name
+abbrev pub command_of : List (List ℕ) → Result Command CommandFault
+command_of words = command_named (name_of words) words

@@ -7,11 +7,11 @@ use Rattle.tool_words.specs.Rewind.{rewind_from, rewind_of}
 use Rattle.tool_words.specs.Roots.{root_of}
 use Rattle.tool_words.specs.Forms.{segment_word, with_value}
 use Rattle.tool_words.specs.Waldump.{waldump_of}
-use Rattle.tool_words.specs.declared.rewind.RewindWords.{RewindWords}
-use Rattle.tool_words.specs.declared.waldump.Filters.{Filters}
+use Rattle.tool_words.specs.declared.rewind.RewindTexts.{RewindTexts}
+use Rattle.commands.specs.declared.waldump.Filters.{Filters}
 use Rattle.tool_words.specs.declared.waldump.SegmentWord.{SegmentWord}
-use Rattle.tool_words.specs.declared.waldump.WaldumpWords.{WaldumpWords}
-use Rattle.tool_words.specs.declared.waldump.WaldumpWords.TheVariants.{Managers, Dump}
+use Rattle.tool_words.specs.declared.waldump.WaldumpTexts.{WaldumpTexts}
+use Rattle.tool_words.specs.declared.waldump.WaldumpTexts.TheVariants.{Managers, Dump}
 
 -- a text that no option looks like: it does not begin with a hyphen (45)
 abbrev pub IsPlainText : List ℕ → Type 0
@@ -28,7 +28,7 @@ pub record ReadsRoot (name dir : List ℕ) : Type 0 where
   pub help : controldata_of (name ∷ codes "--help" ∷ []) ≡ None
 
 -- these two roots, neither of them empty
-abbrev pub both : List ℕ → List ℕ → Bool → Option RewindWords
+abbrev pub both : List ℕ → List ℕ → Bool → Option RewindTexts
 both target source dry_run = rewind_from (root_of target) (root_of source) dry_run
 
 -- the two roots of pg_rewind
@@ -59,7 +59,7 @@ no_filters = record {
 }
 
 -- a dump that begins with a segment, or in a folder at a position
-abbrev pub dump_at : Option (List ℕ) → Option SegmentWord → Option Lsn → Option WaldumpWords
+abbrev pub dump_at : Option (List ℕ) → Option SegmentWord → Option Lsn → Option WaldumpTexts
 dump_at path first start = Some (Dump (record {
   path = path;
   first = first;

@@ -1,3 +1,4 @@
+pub mod Paths
 pub mod Roots
 pub mod Controldata
 pub mod Rewind

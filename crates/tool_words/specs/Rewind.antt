@@ -3,7 +3,7 @@ use Rattle.std.specs.Prelude.{ℕ, Bool, List, [], ◌∷◌, Option, Some, None
 use Rattle.clap.specs.Walk.{Row, Rule, first_of}
 use Rattle.command_words.specs.Table.{flag, found_in, is_on, letter, option}
 use Rattle.tool_words.specs.Roots.{root_given}
-use Rattle.tool_words.specs.declared.rewind.RewindWords.{RewindWords}
+use Rattle.tool_words.specs.declared.rewind.RewindTexts.{RewindTexts}
 
 -- its options and its flag
 unfoldable pub rewind_table : List Rule
@@ -13,16 +13,16 @@ rewind_table =
     flag (codes "dry-run") (letter (codes "n")) (Some (codes "dry-run")) ∷ []
 
 -- both roots are needed
-abbrev pub rewind_from : Option (List ℕ) → Option (List ℕ) → Bool → Option RewindWords
+abbrev pub rewind_from : Option (List ℕ) → Option (List ℕ) → Bool → Option RewindTexts
 rewind_from (Some target) (Some source) dry_run =
     Some (record { target = target; source = source; dry_run = dry_run })
 rewind_from _ _ dry_run = None
 
 -- what was found in the words
-abbrev pub rewind_in : List Row → Option RewindWords
+abbrev pub rewind_in : List Row → Option RewindTexts
 rewind_in rows = rewind_from (root_given (first_of (codes "target") rows))
     (root_given (first_of (codes "source") rows)) (is_on (codes "dry-run") rows)
 
 -- what the words ask for; none where they are not in the grammar
-abbrev pub rewind_of : List (List ℕ) → Option RewindWords
+abbrev pub rewind_of : List (List ℕ) → Option RewindTexts
 rewind_of words = option_and_then rewind_in (found_in rewind_table words)

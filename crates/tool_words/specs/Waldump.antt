@@ -10,10 +10,10 @@ use Rattle.rmgr_desc.specs.Naming.{manager_named}
 use Rattle.wal_base.specs.Decimal.{decimal_number}
 use Rattle.tool_words.specs.Forms.{fork_of, given, relation_of, segment_name, segment_word, with_value}
 use Rattle.tool_words.specs.Roots.{root_of}
-use Rattle.tool_words.specs.declared.waldump.DumpWords.{DumpWords}
-use Rattle.tool_words.specs.declared.waldump.Filters.{Filters}
-use Rattle.tool_words.specs.declared.waldump.WaldumpWords.{WaldumpWords}
-use Rattle.tool_words.specs.declared.waldump.WaldumpWords.TheVariants.{Managers, Dump}
+use Rattle.tool_words.specs.declared.waldump.DumpTexts.{DumpTexts}
+use Rattle.commands.specs.declared.waldump.Filters.{Filters}
+use Rattle.tool_words.specs.declared.waldump.WaldumpTexts.{WaldumpTexts}
+use Rattle.tool_words.specs.declared.waldump.WaldumpTexts.TheVariants.{Managers, Dump}
 
 -- its flags, its options and its words
 unfoldable pub waldump_table : List Rule
@@ -66,7 +66,7 @@ filters_in rows =
     })))))))
 
 -- what a dump is asked for
-unfoldable pub dump_in : List Row → Option DumpWords
+unfoldable pub dump_in : List Row → Option DumpTexts
 dump_in rows =
     with_value (filters_in rows) (λ filters.
     with_value (given lsn_of (codes "start") rows) (λ start.
@@ -86,17 +86,17 @@ dump_in rows =
     }))))))))
 
 -- a start is given, by itself or as a segment
-abbrev pub has_start : DumpWords → Bool
+abbrev pub has_start : DumpTexts → Bool
 has_start dump = is_some dump.start || is_some dump.first
 
 -- the names of the managers, or a dump, which has a start
-abbrev pub asked_for : Bool → DumpWords → Option WaldumpWords
+abbrev pub asked_for : Bool → DumpTexts → Option WaldumpTexts
 asked_for list dump = if list then Some Managers else (if has_start dump then Some (Dump dump) else None)
 
 -- what was found in the words; all values are of their form, also where only the names are asked for
-abbrev pub waldump_in : List Row → Option WaldumpWords
+abbrev pub waldump_in : List Row → Option WaldumpTexts
 waldump_in rows = with_value (dump_in rows) (asked_for (is_list rows))
 
 -- what the words ask for; none where they are not in the grammar
-abbrev pub waldump_of : List (List ℕ) → Option WaldumpWords
+abbrev pub waldump_of : List (List ℕ) → Option WaldumpTexts
 waldump_of words = with_value (found_in waldump_table words) waldump_in

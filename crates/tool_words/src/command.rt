@@ -1,50 +1,85 @@
-// The words of the program: a command's name and its own words.
-ghost use Rattle.std.specs.Prelude.{◌≡◌, map, string_bytes};
-ghost use Rattle.command_words.specs.Answers.{AnswersAs};
-ghost use Rattle.tool_words.specs.Command.{command_named, command_of};
+// What the program's words ask for.
+ghost use Rattle.std.specs.Prelude.{◌≡◌, map, string_bytes, IfOk};
+ghost use Rattle.cluster_tree.specs.Causes.{Meets};
+ghost use Rattle.commands.specs.Faults.{IsFree};
+ghost use Rattle.commands.specs.Fit.{IsFit};
+ghost use Rattle.tool_words.specs.Command.{command_of, controldata_asked, rewind_asked, waldump_asked};
+ghost use Rattle.tool_words.specs.Controldata.{controldata_of};
+ghost use Rattle.tool_words.specs.Rewind.{rewind_of};
+ghost use Rattle.tool_words.specs.Waldump.{waldump_of};
 
 use crate::controldata::controldata_words;
-use crate::rewind::{RewindWords, rewind_words};
-use crate::waldump::{WaldumpWords, waldump_words};
+use crate::dump::dump_asked;
+use crate::paths::{MOST_OF_ROOT, path_named};
+use crate::rewind::rewind_words;
+use crate::roots::two_roots;
+use crate::waldump::{WaldumpTexts, waldump_words};
 use command_words::WordsFault;
+use commands::{Command, CommandFault, CommandName, ControldataWords, WaldumpWords, name_of};
 use std::alloc::Global;
-use wal_base::Text;
 
-/// What the program is asked to do. Each command whose words are read has a variant.
-#[derive(Drop)]
-pub enum Command {
-    /// The root of the cluster whose control file is to be shown.
-    Controldata(Text),
-    /// A rewind.
-    Rewind(RewindWords),
-    /// A dump of a log.
-    Waldump(WaldumpWords),
+fn controldata_asked(alloc: Global, words: &[String]) -> Result<Command, CommandFault>
+    ensures answer { Meets IsFree (controldata_asked (controldata_of (map string_bytes words.now))) result }
+    ensures fit { IfOk result IsFit }
+{
+    match controldata_words(alloc, words) {
+        Ok(text) => {
+            let root = path_named(alloc, MOST_OF_ROOT, text.as_str())?;
+            Ok(Command::Controldata(ControldataWords { root }))
+        }
+        Err(WordsFault::Usage) => Err(CommandFault::Usage),
+        Err(WordsFault::OutOfMemory) => Err(CommandFault::OutOfMemory),
+    }
 }
 
-#[tactic(auto, unfolding(crate::specs::Command::command_named))]
-fn named(alloc: Global, name: &str, words: &[String]) -> Result<Command, WordsFault>
-    ensures exact { AnswersAs (command_named name.now (map string_bytes words.now)) result }
+fn rewind_asked(alloc: Global, words: &[String]) -> Result<Command, CommandFault>
+    ensures answer { Meets IsFree (rewind_asked (rewind_of (map string_bytes words.now))) result }
+    ensures fit { IfOk result IsFit }
 {
-    if name == "pg_controldata" {
-        Ok(Command::Controldata(controldata_words(alloc, words)?))
-    } else if name == "pg_rewind" {
-        Ok(Command::Rewind(rewind_words(alloc, words)?))
-    } else if name == "pg_waldump" {
-        Ok(Command::Waldump(waldump_words(alloc, words)?))
-    } else {
-        Err(WordsFault::Usage)
+    match rewind_words(alloc, words) {
+        Ok(texts) => {
+            let target = texts.target.as_str();
+            let source = texts.source.as_str();
+            two_roots(alloc, texts.dry_run, target, source)
+        }
+        Err(WordsFault::Usage) => Err(CommandFault::Usage),
+        Err(WordsFault::OutOfMemory) => Err(CommandFault::OutOfMemory),
+    }
+}
+
+fn waldump_asked(alloc: Global, words: &[String]) -> Result<Command, CommandFault>
+    ensures answer { Meets IsFree (waldump_asked (waldump_of (map string_bytes words.now))) result }
+    ensures fit { IfOk result IsFit }
+{
+    match waldump_words(alloc, words) {
+        Ok(WaldumpTexts::Managers) => Ok(Command::Waldump(WaldumpWords::Managers)),
+        Ok(WaldumpTexts::Dump(texts)) => dump_asked(alloc, texts),
+        Err(WordsFault::Usage) => Err(CommandFault::Usage),
+        Err(WordsFault::OutOfMemory) => Err(CommandFault::OutOfMemory),
     }
 }
 
 /// What the words ask for, the first of them being a command's name.
 ///
-/// Answers `Usage` where they are in no command's grammar, and `OutOfMemory` only for want of
-/// memory.
-pub fn read_command(alloc: Global, words: &[String]) -> Result<Command, WordsFault>
-    ensures exact { AnswersAs (command_of (map string_bytes words.now)) result }
+/// Answers `Usage` where they are in no command's grammar, `NotBuilt` where they name a command that
+/// isn't built, `DotDot` and `TooDeep` for a root or a folder, and `PathsOverlap` for two roots; and
+/// `OutOfMemory` only for want of memory.
+#[tactic(auto, unfolding(crate::specs::Command::command_named))]
+pub fn read_command(alloc: Global, words: &[String]) -> Result<Command, CommandFault>
+    ensures answer { Meets IsFree (command_of (map string_bytes words.now)) result }
+    ensures fit { IfOk result IsFit }
 {
-    match words {
-        [] => Err(WordsFault::Usage),
-        [name, ..] => named(alloc, name.as_str(), words),
+    match name_of(words) {
+        None => Err(CommandFault::Usage),
+        Some(CommandName::PgRewind) => rewind_asked(alloc, words),
+        Some(CommandName::PgWaldump) => waldump_asked(alloc, words),
+        Some(CommandName::PgControldata) => controldata_asked(alloc, words),
+        Some(
+            CommandName::PgResetwal
+            | CommandName::PgArchivecleanup
+            | CommandName::PgWalreplay
+            | CommandName::PgWalcompare
+            | CommandName::Pair,
+        ) => Err(CommandFault::NotBuilt),
     }
 }

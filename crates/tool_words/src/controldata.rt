@@ -38,7 +38,7 @@ fn one_of<'a>(option: Option<&'a str>, word: Option<&'a str>) -> Option<&'a str>
 /// Answers `Usage` where the words are not in its grammar, where not exactly one of option and word
 /// is given, and where the root is empty.
 #[tactic(auto, using(crate::proofs::TableLemmas::controldata_is_simple))]
-pub fn controldata_words(alloc: Global, words: &[String]) -> Result<Text, WordsFault>
+pub(crate) fn controldata_words(alloc: Global, words: &[String]) -> Result<Text, WordsFault>
     ensures exact { AnswersAs (controldata_of (map string_bytes words.now)) result }
 {
     let table = table();

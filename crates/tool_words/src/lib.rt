@@ -3,17 +3,15 @@
 
 mod command;
 mod controldata;
+mod dump;
 mod forms;
+mod front;
 mod laws;
+mod paths;
 mod rewind;
 mod root;
+mod roots;
 mod waldump;
 
-pub use command::{Command, read_command};
-pub use controldata::controldata_words;
+pub use command::read_command;
 pub use laws::{a_root_is_read, a_start_is_read, two_roots_are_read};
-pub use rewind::{RewindWords, rewind_words};
-pub use waldump::{DumpWords, Filters, SegmentWord, WaldumpWords, waldump_words};
-
-#[cfg(test)]
-mod tests;

@@ -9,15 +9,15 @@ use command_words::{Entry, WordsFault, find};
 use std::alloc::Global;
 use wal_base::Text;
 
-/// What `pg_rewind` is asked to do.
+/// What `pg_rewind` is asked to do, in texts.
 #[derive(Drop)]
-pub struct RewindWords {
+pub(crate) struct RewindTexts {
     /// The root of the cluster that is to be rewound.
-    pub target: Text,
+    pub(crate) target: Text,
     /// The root of the cluster whose log it is to follow.
-    pub source: Text,
+    pub(crate) source: Text,
     /// Whether nothing is to be written.
-    pub dry_run: bool,
+    pub(crate) dry_run: bool,
 }
 
 #[tactic(auto, unfolding(crate::specs::Rewind::rewind_table))]
@@ -36,7 +36,7 @@ fn table() -> [Entry; 3]
 /// Answers `Usage` where the words are not in its grammar, and where one of the two roots is not
 /// given or is empty.
 #[tactic(auto, using(crate::proofs::TableLemmas::rewind_is_simple))]
-pub fn rewind_words(alloc: Global, words: &[String]) -> Result<RewindWords, WordsFault>
+pub(crate) fn rewind_words(alloc: Global, words: &[String]) -> Result<RewindTexts, WordsFault>
     ensures exact { AnswersAs (rewind_of (map string_bytes words.now)) result }
 {
     let table = table();
@@ -46,7 +46,7 @@ pub fn rewind_words(alloc: Global, words: &[String]) -> Result<RewindWords, Word
             let target = root(alloc, target)?;
             let source = root(alloc, source)?;
             let dry_run = found.flag("dry-run");
-            Ok(RewindWords {
+            Ok(RewindTexts {
                 target,
                 source,
                 dry_run,

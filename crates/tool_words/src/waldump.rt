@@ -9,71 +9,48 @@ ghost use Rattle.tool_words.specs.Waldump.{dump_in, filters_in, is_list, manager
 
 use crate::forms::{optional, segment_name, segment_word};
 use crate::root::root;
-use block_refs::{Fork, RelName};
 use command_words::{Entry, Found, WordsFault, find};
+use commands::Filters;
 use rmgr_desc::manager_named;
 use std::alloc::Global;
 use wal_base::{Lsn, Text};
 
-/// What `pg_waldump` is asked to do.
+/// What `pg_waldump` is asked to do, in texts.
 #[derive(Drop)]
-pub enum WaldumpWords {
+pub(crate) enum WaldumpTexts {
     /// To print the names of the resource managers (`-r list`).
     Managers,
     /// To dump a log.
-    Dump(DumpWords),
+    Dump(DumpTexts),
 }
 
-/// What a dump of a log is asked for.
+/// What a dump of a log is asked for, in texts.
 #[derive(Drop)]
-pub struct DumpWords {
+pub(crate) struct DumpTexts {
     /// The folder that holds the log, or a cluster (`-p`).
-    pub path: Option<Text>,
+    pub(crate) path: Option<Text>,
     /// The segment that the dump begins with (STARTSEG).
-    pub first: Option<SegmentWord>,
+    pub(crate) first: Option<SegmentWord>,
     /// The name of the segment that the dump ends with, the last part of ENDSEG: 24 digits 0 to 9 and
     /// A to F.
-    pub last: Option<Text>,
+    pub(crate) last: Option<Text>,
     /// The position where the dump begins (`-s`).
-    pub start: Option<Lsn>,
+    pub(crate) start: Option<Lsn>,
     /// The position where it ends (`-e`).
-    pub stop: Option<Lsn>,
+    pub(crate) stop: Option<Lsn>,
     /// The timeline of the log (`-t`).
-    pub timeline: Option<u32>,
+    pub(crate) timeline: Option<u32>,
     /// Which records are shown, and how.
-    pub filters: Filters,
+    pub(crate) filters: Filters,
 }
 
 /// The file of a segment.
 #[derive(Drop)]
-pub struct SegmentWord {
+pub(crate) struct SegmentWord {
     /// What the word has up to and with its last `/`; empty where it has none.
-    pub folder: Text,
+    pub(crate) folder: Text,
     /// The name behind that: 24 digits 0 to 9 and A to F.
-    pub name: Text,
-}
-
-/// Which records are shown, and how. A record is shown where it meets each filter that is given.
-#[derive(Clone, Copy, Debug, PartialEq, Eq)]
-pub struct Filters {
-    /// The number of records after which the dump ends; 0 is no limit (`-n`).
-    pub limit: u64,
-    /// Whether each block reference gets a line of its own (`-b`).
-    pub details: bool,
-    /// Whether nothing is shown (`-q`).
-    pub quiet: bool,
-    /// Whether only records with a full-page image are shown (`-w`).
-    pub images_only: bool,
-    /// The number of the resource manager whose records are shown (`-r`).
-    pub manager: Option<u8>,
-    /// The relation to which they refer (`-R`).
-    pub rel: Option<RelName>,
-    /// The number of the block to which they refer, only given with a relation (`-B`).
-    pub block: Option<u32>,
-    /// The fork to which they refer (`-F`).
-    pub fork: Option<Fork>,
-    /// The transaction to which they belong (`-x`).
-    pub xid: Option<u32>,
+    pub(crate) name: Text,
 }
 
 #[tactic(auto, unfolding(crate::specs::Waldump::waldump_table))]
@@ -178,7 +155,7 @@ fn last_given(alloc: Global, found: &Found<'_>) -> Result<Option<Text>, WordsFau
 }
 
 #[tactic(auto, unfolding(crate::specs::Waldump::dump_in))]
-fn dump_given(alloc: Global, found: &Found<'_>) -> Result<DumpWords, WordsFault>
+fn dump_given(alloc: Global, found: &Found<'_>) -> Result<DumpTexts, WordsFault>
     ensures { AnswersAs (dump_in found.now) result }
 {
     let filters = filters_given(found)?;
@@ -188,7 +165,7 @@ fn dump_given(alloc: Global, found: &Found<'_>) -> Result<DumpWords, WordsFault>
     let path = path_given(alloc, found)?;
     let first = first_given(alloc, found)?;
     let last = last_given(alloc, found)?;
-    Ok(DumpWords {
+    Ok(DumpTexts {
         path,
         first,
         last,
@@ -205,17 +182,17 @@ fn dump_given(alloc: Global, found: &Found<'_>) -> Result<DumpWords, WordsFault>
 /// given without a relation, and where a dump has neither `-s` nor STARTSEG. What depends on the size
 /// of segments isn't judged here.
 #[tactic(auto, using(crate::proofs::TableLemmas::waldump_is_simple))]
-pub fn waldump_words(alloc: Global, words: &[String]) -> Result<WaldumpWords, WordsFault>
+pub(crate) fn waldump_words(alloc: Global, words: &[String]) -> Result<WaldumpTexts, WordsFault>
     ensures exact { AnswersAs (waldump_of (map string_bytes words.now)) result }
 {
     let table = table();
     let found = find(alloc, &table, words)?;
     let dump = dump_given(alloc, &found)?;
     if is_list(&found) {
-        return Ok(WaldumpWords::Managers);
+        return Ok(WaldumpTexts::Managers);
     }
     if dump.start.is_none() && dump.first.is_none() {
         return Err(WordsFault::Usage);
     }
-    Ok(WaldumpWords::Dump(dump))
+    Ok(WaldumpTexts::Dump(dump))
 }

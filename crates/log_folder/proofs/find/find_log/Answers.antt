@@ -1,4 +1,4 @@
-use Rattle.std.proofs.Common.{◌≡◌, Err, inr}
+use Rattle.std.proofs.Common.{◌≡◌, Err}
 use Rattle.log_folder.specs.declared.fault.FolderFault.TheVariants as fault
 use Rattle.log_folder.specs.Bounds.{bounds_of}
 use Rattle.log_folder.proofs.find.find_log.Goals as goal
@@ -8,4 +8,4 @@ returns-in_err-bounds-clause-usage g c is =
     let value = c.in_err-bounds.ensures.value in
     let usage = c.in_err-bounds.ensures.fault in
     let refused : bounds_of c.in_ok-size.size c.args.words.now ≡ Err fault.Usage = cc in
-    inr (c.in_ok-size.size, refused)
+    (c.in_ok-size.size, refused)

@@ -1,0 +1,32 @@
+-- The paths that a command's words give. Own: "Roots of at most 61 parts", "The folder of a dump".
+use Rattle.std.specs.Prelude.{◌≤◌, length}
+use Rattle.cluster_tree.specs.Apart.{AreApart}
+use Rattle.cluster_tree.specs.PathValue.{PathValue}
+use Rattle.commands.specs.declared.command.Command.{Command}
+use Rattle.commands.specs.declared.command.Command.TheVariants as command
+use Rattle.commands.specs.declared.waldump.WaldumpWords.{WaldumpWords}
+use Rattle.commands.specs.declared.waldump.WaldumpWords.TheVariants as waldump
+
+-- a cluster's root leaves room for the files below it, up to the 64 parts of a path
+abbrev pub IsFitRoot : PathValue → Type 0
+IsFitRoot root = length root.parts ≤ 61
+
+-- two roots, of which neither holds the other
+pub record AreFitRoots (target source : PathValue) : Type 0 where
+  pub target_depth : IsFitRoot target
+  pub source_depth : IsFitRoot source
+  pub apart : AreApart target source
+
+-- a dump's folder leaves room for pg_wal and a file in it
+abbrev pub IsFitFolder : PathValue → Type 0
+IsFitFolder folder = length folder.parts ≤ 62
+
+abbrev pub IsFitWaldump : WaldumpWords → Type 0
+IsFitWaldump waldump.Managers = Unit {0}
+IsFitWaldump (waldump.Dump words) = IsFitFolder words.folder
+
+-- what a command may be carried out on
+abbrev pub IsFit : Command → Type 0
+IsFit (command.Rewind words) = AreFitRoots words.target words.source
+IsFit (command.Controldata words) = IsFitRoot words.root
+IsFit (command.Waldump words) = IsFitWaldump words

@@ -1,0 +1,13 @@
+// A command with what its words ask for.
+use crate::{ControldataWords, RewindWords, WaldumpWords};
+
+/// A command with what its words ask for. Each command that is built has a variant.
+#[derive(Drop)]
+pub enum Command {
+    /// pg_rewind.
+    Rewind(RewindWords),
+    /// pg_waldump.
+    Waldump(WaldumpWords),
+    /// pg_controldata.
+    Controldata(ControldataWords),
+}

@@ -1,0 +1,16 @@
+//! The commands: their names, and what their words ask for.
+#![tactic(auto)]
+
+mod command;
+mod controldata;
+mod fault;
+mod name;
+mod rewind;
+mod waldump;
+
+pub use command::Command;
+pub use controldata::ControldataWords;
+pub use fault::CommandFault;
+pub use name::{CommandName, name_of, name_text, named};
+pub use rewind::RewindWords;
+pub use waldump::{DumpWords, Filters, WaldumpWords};
