@@ -1,0 +1,123 @@
+-- The line of a cause on standard error. Own: "The line of a cause".
+use Rattle.std.specs.Prelude.{ℕ, ◌-◌, ◌^◌, false, true, List, [], ◌∷◌, ◌++◌, codes, string_bytes, Option}
+use Rattle.std.specs.Fmt.{digits, decimal, padded_integral, format_spec}
+use Rattle.std.specs.List.{concat}
+use Rattle.cluster_tree.specs.PathValue.{PathValue, path_text}
+use Rattle.wal_base.specs.Lsn.{lsn_text}
+use Rattle.wal_base.specs.declared.lsn.Lsn.{Lsn}
+use Rattle.wal_records.specs.declared.why.Why.{Why}
+use Rattle.wal_records.specs.declared.why.Why.TheVariants as why
+use Rattle.control_file.specs.FieldNames.{field_name}
+use Rattle.control_file.specs.declared.field.Field.{Field}
+use Rattle.run_acts.specs.declared.cause.Cause.{Cause}
+use Rattle.run_acts.specs.declared.cause.Cause.TheVariants as cause
+use Rattle.run_acts.specs.declared.cause.PathCause.TheVariants as paths
+use Rattle.run_acts.specs.declared.cause.ControlCause.TheVariants as control
+use Rattle.run_acts.specs.declared.cause.RewindCause.TheVariants as rewind
+use Rattle.run_acts.specs.declared.cause.LogCause.TheVariants as logs
+use Rattle.commands.specs.declared.name.CommandName.{CommandName}
+use Rattle.cause_lines.specs.declared.lines.Line.{Line}
+use Rattle.cause_lines.specs.declared.lines.Line.TheVariants as line
+use Rattle.cause_lines.specs.declared.fixed.Fixed.{Fixed}
+use Rattle.cause_lines.specs.declared.fixed.Fixed.TheVariants as fixed
+use Rattle.commands.specs.Name.{name_text}
+
+-- a checksum: eight hexadecimal digits, as %08X
+abbrev pub hex8 : ℕ → List ℕ
+hex8 n = padded_integral (format_spec 32 0 4 8 (2 ^ 64 - 1)) false [] (digits 16 true n)
+
+-- the name of a cause without values
+abbrev pub fixed_name : Fixed → List ℕ
+fixed_name fixed.Usage = codes "Usage"
+fixed_name fixed.DotDot = codes "DotDot"
+fixed_name fixed.PathsOverlap = codes "PathsOverlap"
+fixed_name fixed.NotBuilt = codes "NotBuilt"
+fixed_name fixed.ReadFault = codes "ReadFault"
+fixed_name fixed.WriteFault = codes "WriteFault"
+fixed_name fixed.SinkFault = codes "SinkFault"
+fixed_name fixed.OutOfMemory = codes "OutOfMemory"
+
+-- COMMAND: error: and these pieces, and a newline
+abbrev pub line_with : Option CommandName → List (List ℕ) → List ℕ
+line_with name pieces = concat (name_text name ∷ codes ": error: " ∷ (pieces ++ (codes "\n" ∷ [])))
+
+-- the line of a cause without values
+unfoldable pub fixed_line : Option CommandName → Fixed → List ℕ
+fixed_line name f = line_with name (fixed_name f ∷ [])
+
+-- a cause with a path
+abbrev pub path_pieces : List ℕ → PathValue → List (List ℕ)
+path_pieces what path = what ∷ codes " " ∷ path_text path ∷ []
+
+-- a cause with a root and a number
+abbrev pub number_pieces : List ℕ → PathValue → ℕ → List (List ℕ)
+number_pieces what root n = what ∷ codes " " ∷ path_text root ∷ codes " " ∷ decimal n ∷ []
+
+abbrev pub crc_pieces : PathValue → ℕ → ℕ → List (List ℕ)
+crc_pieces root stored computed = codes "Crc " ∷ path_text root ∷ codes " " ∷ hex8 stored ∷ codes " " ∷ hex8 computed ∷ []
+
+abbrev pub shape_pieces : PathValue → Field → ℕ → List (List ℕ)
+shape_pieces root field n = codes "Shape " ∷ path_text root ∷ codes " " ∷ field_name field ∷ codes " " ∷ decimal n ∷ []
+
+abbrev pub systems_pieces : ℕ → ℕ → List (List ℕ)
+systems_pieces target source = codes "SystemsDiffer " ∷ decimal target ∷ codes " " ∷ decimal source ∷ []
+
+-- the name of a reason
+abbrev pub why_name : Why → List ℕ
+why_name why.Place = codes "Place"
+why_name why.NoSegment = codes "NoSegment"
+why_name why.ShortSegment = codes "ShortSegment"
+why_name why.Page = codes "Page"
+why_name why.Continuation = codes "Continuation"
+why_name why.ZeroLength = codes "ZeroLength"
+why_name why.ShortLength = codes "ShortLength"
+why_name why.TooLong = codes "TooLong"
+why_name why.Manager = codes "Manager"
+why_name why.Prev = codes "Prev"
+why_name why.Crc = codes "Crc"
+
+abbrev pub end_pieces : Lsn → Why → List (List ℕ)
+end_pieces at why = codes "LogEnds " ∷ lsn_text at.0 ∷ codes " " ∷ why_name why ∷ []
+
+-- a cause with a position and a number
+abbrev pub record_pieces : List ℕ → Lsn → ℕ → List (List ℕ)
+record_pieces what at n = what ∷ codes " " ∷ lsn_text at.0 ∷ codes " " ∷ decimal n ∷ []
+
+abbrev pub place_pieces : Lsn → List (List ℕ)
+place_pieces at = codes "NoRecordAt " ∷ lsn_text at.0 ∷ []
+
+-- the line of a cause; there is none of Done
+abbrev pub line_of : Option CommandName → Cause → List ℕ
+line_of name cause.Done = []
+line_of name cause.Usage = fixed_line name fixed.Usage
+line_of name cause.NotBuilt = fixed_line name fixed.NotBuilt
+line_of name cause.ReadFault = fixed_line name fixed.ReadFault
+line_of name cause.WriteFault = fixed_line name fixed.WriteFault
+line_of name cause.SinkFault = fixed_line name fixed.SinkFault
+line_of name cause.OutOfMemory = fixed_line name fixed.OutOfMemory
+line_of name (cause.Changed path) = line_with name (path_pieces (codes "Changed") path)
+line_of name (cause.Paths paths.DotDot) = fixed_line name fixed.DotDot
+line_of name (cause.Paths (paths.TooDeep path)) = line_with name (path_pieces (codes "TooDeep") path)
+line_of name (cause.Paths paths.PathsOverlap) = fixed_line name fixed.PathsOverlap
+line_of name (cause.Paths (paths.NotFolder path)) = line_with name (path_pieces (codes "NotFolder") path)
+line_of name (cause.Paths (paths.Link path)) = line_with name (path_pieces (codes "Link") path)
+line_of name (cause.Paths (paths.NameNotText path)) = line_with name (path_pieces (codes "NameNotText") path)
+line_of name (cause.Control (control.ControlMissing root)) = line_with name (path_pieces (codes "ControlMissing") root)
+line_of name (cause.Control (control.Size root n)) = line_with name (number_pieces (codes "Size") root n)
+line_of name (cause.Control (control.Crc root stored computed)) = line_with name (crc_pieces root stored computed)
+line_of name (cause.Control (control.Version root n)) = line_with name (number_pieces (codes "Version") root n)
+line_of name (cause.Control (control.Catalog root n)) = line_with name (number_pieces (codes "Catalog") root n)
+line_of name (cause.Control (control.Shape root field n)) = line_with name (shape_pieces root field n)
+line_of name (cause.Rewind (rewind.SystemsDiffer target source)) = line_with name (systems_pieces target source)
+line_of name (cause.Log (logs.LogEnds at why)) = line_with name (end_pieces at why)
+line_of name (cause.Log (logs.BadParts at offset)) = line_with name (record_pieces (codes "BadParts") at offset)
+line_of name (cause.Log (logs.Compressed at id)) = line_with name (record_pieces (codes "Compressed") at id)
+line_of name (cause.Log (logs.NoRecordAt at)) = line_with name (place_pieces at)
+line_of name (cause.Log (logs.NoWal path)) = line_with name (path_pieces (codes "NoWal") path)
+line_of name (cause.Log (logs.BadSegment path)) = line_with name (path_pieces (codes "BadSegment") path)
+
+-- the text of a line on its way
+abbrev pub made_text : Option CommandName → Line → List ℕ
+made_text name line.Nothing = []
+made_text name (line.Known f) = fixed_line name f
+made_text name (line.Made text) = string_bytes text

@@ -1,0 +1,8 @@
+//! The line of a cause on standard error.
+#![tactic(auto)]
+
+mod fixed;
+mod lines;
+
+pub use fixed::{Fixed, fixed_line};
+pub use lines::{Line, line_of};

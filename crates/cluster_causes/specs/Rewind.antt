@@ -1,0 +1,24 @@
+-- The faults of a rewind as causes of a run. Own: "The line of a cause".
+use Rattle.rewind_core.specs.declared.fault.RewindFault.{RewindFault}
+use Rattle.rewind_core.specs.declared.fault.RewindFault.TheVariants as fault
+use Rattle.run_acts.specs.declared.cause.Cause.{Cause}
+use Rattle.run_acts.specs.declared.cause.Cause.TheVariants as cause
+use Rattle.run_acts.specs.declared.cause.ControlCause.TheVariants as control
+use Rattle.run_acts.specs.declared.cause.RewindCause.TheVariants as rewind
+
+-- the cause of a fault of a rewind; those that no command answers yet are NotBuilt
+abbrev pub rewind_cause : RewindFault → Cause
+rewind_cause (fault.Unfinished path) = cause.NotBuilt
+rewind_cause (fault.ControlMissing root) = cause.Control (control.ControlMissing root)
+rewind_cause (fault.Size root n) = cause.Control (control.Size root n)
+rewind_cause (fault.Crc root stored computed) = cause.Control (control.Crc root stored computed)
+rewind_cause (fault.Version root n) = cause.Control (control.Version root n)
+rewind_cause (fault.Catalog root n) = cause.Control (control.Catalog root n)
+rewind_cause (fault.Shape root field n) = cause.Control (control.Shape root field n)
+rewind_cause (fault.SystemsDiffer target source) = cause.Rewind (rewind.SystemsDiffer target source)
+rewind_cause (fault.NoHints root) = cause.NotBuilt
+rewind_cause (fault.NotClean root n) = cause.NotBuilt
+rewind_cause fault.NotBuilt = cause.NotBuilt
+rewind_cause fault.ReadFault = cause.ReadFault
+rewind_cause (fault.Changed path) = cause.Changed path
+rewind_cause fault.OutOfMemory = cause.OutOfMemory

@@ -1,0 +1,2 @@
+pub mod BlameSteps
+pub mod AnswerSteps

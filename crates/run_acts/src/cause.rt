@@ -1,0 +1,116 @@
+// Why a run ended.
+use cluster_tree::{Path, SinkFailed};
+use control_file::Field;
+use wal_base::{Lsn, OutOfMemory};
+use wal_records::Why;
+
+/// Why a run ended. Each command that is built adds its causes.
+#[derive(Drop)]
+pub enum Cause {
+    /// The command was carried out.
+    Done,
+    /// The words are in no command's grammar.
+    Usage,
+    /// The words, the clusters or what they need are not built yet.
+    NotBuilt,
+    /// A read of the tree failed.
+    ReadFault,
+    /// A change of the tree failed.
+    WriteFault,
+    /// A write on standard output or standard error failed.
+    SinkFault,
+    /// Memory is wanting.
+    OutOfMemory,
+    /// The tree contradicted, about this path, what it had answered earlier in the run.
+    Changed(Path),
+    /// A path is refused.
+    Paths(PathCause),
+    /// A control file is refused.
+    Control(ControlCause),
+    /// Two clusters are unfit for a rewind.
+    Rewind(RewindCause),
+    /// A log or a segment of one is refused.
+    Log(LogCause),
+}
+
+/// What is wrong with a path.
+#[derive(Drop)]
+pub enum PathCause {
+    /// A root or the folder of a log has a part `..`.
+    DotDot,
+    /// A root has more than 61 parts, or the folder of a log more than 62; of one with more than 64
+    /// parts the first 64.
+    TooDeep(Path),
+    /// One of two roots is the other or lies in it.
+    PathsOverlap,
+    /// What has to be a folder isn't there, or is a file.
+    NotFolder(Path),
+    /// What has to be a folder is a link or a special file.
+    Link(Path),
+    /// A folder holds a name that isn't text.
+    NameNotText(Path),
+}
+
+/// What is wrong with a control file. Its root comes first.
+#[derive(Drop)]
+pub enum ControlCause {
+    /// `global/pg_control` is not a file.
+    ControlMissing(Path),
+    /// The number of bytes, which is not 8192.
+    Size(Path, u64),
+    /// The checksum that is stored, and the one that the bytes have.
+    Crc(Path, u32, u32),
+    /// The version, which is not 1300.
+    Version(Path, u32),
+    /// The catalog version, which is not 202307071.
+    Catalog(Path, u32),
+    /// A field and its value, which is out of shape, or is not the target's.
+    Shape(Path, Field, u64),
+}
+
+/// Why two clusters are unfit for a rewind.
+#[derive(Drop)]
+pub enum RewindCause {
+    /// The target's system identifier, and the source's.
+    SystemsDiffer(u64, u64),
+}
+
+/// What is wrong with a log.
+#[derive(Drop)]
+pub enum LogCause {
+    /// The place at which the log ends before the stop, and why.
+    LogEnds(Lsn, Why),
+    /// A record without parts: its start, and the offset in its body of the first fragment at which
+    /// no rule fits.
+    BadParts(Lsn, u32),
+    /// A compressed image: the start of its record, and the id of its block reference.
+    Compressed(Lsn, u8),
+    /// The start, from which no record lies before the stop.
+    NoRecordAt(Lsn),
+    /// The folder, where the log isn't found.
+    NoWal(Path),
+    /// The file, whose first 40 bytes aren't the header of a segment.
+    BadSegment(Path),
+}
+
+impl From<SinkFailed> for Cause {
+    ghost use Rattle.std.specs.Prelude.{◌≡◌};
+    ghost use Rattle.run_acts.specs.declared.cause.Cause.TheVariants.{SinkFault};
+
+    ghost from_gives = { λ _ e. e ≡ SinkFault };
+
+    fn from(_: SinkFailed) -> Cause {
+        Cause::SinkFault
+    }
+}
+
+impl From<OutOfMemory> for Cause {
+    ghost use Rattle.std.specs.Prelude.{◌≡◌};
+    ghost use Rattle.run_acts.specs.declared.cause.Cause.TheVariants as cause;
+
+    ghost from_gives = { λ _ e. e ≡ cause.OutOfMemory };
+
+    fn from(_: OutOfMemory) -> Cause {
+        Cause::OutOfMemory
+    }
+}
