@@ -1,3 +1,2 @@
-pub mod HoldLemmas
 pub mod ReadingLemmas
 pub mod RoomLemmas

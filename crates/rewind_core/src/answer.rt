@@ -1,10 +1,10 @@
 // The public call.
 ghost use Rattle.std.specs.Prelude.{◌≡◌, ◌≢◌, ◌≤◌, length, IsTrue, Err, IsErrOf};
+ghost use Rattle.cluster_tree.specs.Apart.{AreApart};
 ghost use Rattle.cluster_tree.specs.PathValue.{PathValue};
 ghost use Rattle.cluster_tree.specs.Causes.{Meets, Rose};
 ghost use Rattle.cluster_tree.specs.Frame.{Reads};
 ghost use Rattle.rewind_core.specs.Faults.{IsFree};
-ghost use Rattle.rewind_core.specs.Roots.{AreApart};
 ghost use Rattle.rewind_core.specs.Rewind.{rewind_of};
 
 use crate::control::control_at;

@@ -1,0 +1,16 @@
+-- The forms of what pg_controldata does.
+use Rattle.std.proofs.Common.{inl, inr, refl, Result, Ok, Err}
+use Rattle.control_file.specs.Text.{control_text_of}
+use Rattle.control_file.specs.declared.control.Control.{Control}
+use Rattle.rewind_core.specs.declared.fault.RewindFault.{RewindFault}
+use Rattle.run_acts.proofs.AnswerSteps.{Looks}
+use Rattle.cluster_causes.specs.Rewind.{rewind_cause}
+use Rattle.cmd_controldata.specs.Controldata.{IsControldata, control_answer}
+
+pub answer-form : (r : Result Control RewindFault) → IsControldata (control_answer r)
+answer-form (Ok control) = inl (control_text_of control, refl)
+answer-form (Err fault) = inr (rewind_cause fault, refl)
+
+pub answer-looks : (r : Result Control RewindFault) → Looks ((control_answer r).acts)
+answer-looks (Ok control) = tt
+answer-looks (Err fault) = tt

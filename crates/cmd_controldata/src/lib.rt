@@ -1,0 +1,6 @@
+//! pg_controldata.
+#![tactic(auto)]
+
+mod shows;
+
+pub use shows::controldata;

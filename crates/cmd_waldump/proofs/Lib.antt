@@ -1,0 +1,3 @@
+pub mod ManagerLemmas
+pub mod DumpLemmas
+pub mod FormLemmas
