@@ -1,4 +1,0 @@
-pub mod RootLemmas
-pub mod ShownLemmas
-pub mod ManagerLemmas
-pub mod FolderLemmas

@@ -38,7 +38,7 @@ pub struct DirTree<R> {
 // The answer, with a failure counted.
 fn counted<T>(failed: &mut u64, answer: Result<T, TreeFault>) -> Result<T, TreeFault>
     ensures same { result ≡ answer }
-    ensures counts { Counts failed.old failed.new result }
+    ensures counts { Counts (λ n. n) (λ _. 0) failed.old failed.new result }
 {
     if let Err(TreeFault::Failed) = &answer {
         *failed = failed.saturating_add(1);

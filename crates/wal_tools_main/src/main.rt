@@ -1,39 +1,29 @@
-//! The commands, from their words to their exit, and the program over the machine's files.
+//! The program over the machine's files: its words, its exit, and the adapters.
 #![tactic(auto)]
 
-mod cause;
 mod changed;
-mod command;
 mod dir_tree;
-mod exit;
-mod finish;
-mod fixed;
-mod lines;
 mod listing;
-mod managers;
 mod opened;
-mod pg_controldata;
-mod pg_rewind;
-mod pg_waldump;
-mod program;
 mod removing;
-mod roots;
 mod seen;
 mod std_sink;
 #[cfg(test)]
 mod tests;
-mod words;
 
-pub use cause::{Cause, ControlCause, LogCause, PathCause, RewindCause};
-pub use command::{Command, CommandName};
+use commands::{CommandName, named};
 pub use dir_tree::DirTree;
-pub use exit::Exit;
-pub use program::run;
+use run_acts::Cause;
+use std::io::ErrorKind;
 use std::process::ExitCode;
 use std::rt::{Clock, Env};
 use std::time::{SystemTime, UNIX_EPOCH};
-use std::{env, io};
+use std::{env, io, str};
 pub use std_sink::StdSink;
+use wal_tools::{finish, run};
+
+// Longer than any command's name.
+const NAME_ROOM: usize = 32;
 
 // The command and its words, without the program's own name.
 fn words_of<R: Env + AllocGlobal>(rt: &R) -> io::Result<Vec<String>> {
@@ -42,6 +32,27 @@ fn words_of<R: Env + AllocGlobal>(rt: &R) -> io::Result<Vec<String>> {
         words.push(word)?;
     }
     Ok(words)
+}
+
+// The command that the first word names, which is looked at without memory, and whatever the other
+// words are.
+fn first_name<R: Env>(rt: &R) -> Option<CommandName> {
+    let mut bytes = [0; NAME_ROOM];
+    let Ok(size) = rt.arg(1, &mut bytes) else {
+        return None;
+    };
+    match str::from_utf8(&bytes[..size]) {
+        Ok(word) => named(word),
+        Err(_) => None,
+    }
+}
+
+// The cause of words that aren't text, or that there is no memory for.
+fn unread_cause(error: &io::Error) -> Cause {
+    match error.kind() {
+        ErrorKind::OutOfMemory => Cause::OutOfMemory,
+        _ => Cause::Usage,
+    }
 }
 
 // Seconds since 1970, and 0 where the clock can't be read.
@@ -57,11 +68,15 @@ fn seconds_now(rt: &impl Clock) -> i64 {
 
 fn main(rt: HostRuntime) -> ExitCode {
     let alloc = rt.alloc();
-    let words = words_of(&rt).unwrap_or(Vec::new(alloc));
-    let now = seconds_now(&rt);
     let mut out = StdSink::new(rt.stdout());
     let mut err = StdSink::new(rt.stderr());
-    let mut tree = DirTree::new(rt, alloc);
-    let exit = run(alloc, &words, &mut tree, &mut out, &mut err, now);
+    let exit = match words_of(&rt) {
+        Ok(words) => {
+            let now = seconds_now(&rt);
+            let mut tree = DirTree::new(rt, alloc);
+            run(alloc, &words, &mut tree, &mut out, &mut err, now)
+        }
+        Err(error) => finish(alloc, first_name(&rt), unread_cause(&error), &mut err),
+    };
     ExitCode::from(exit.status)
 }

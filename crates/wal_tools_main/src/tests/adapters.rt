@@ -1,11 +1,17 @@
 // The adapters over the real thing.
-use super::clusters::path;
 use crate::{DirTree, StdSink};
-use cluster_tree::{Kind, Names, Sink, SinkFailed, Tree, TreeFault};
+use cluster_tree::{Kind, Names, Path, Sink, SinkFailed, Tree, TreeFault};
+use std::alloc::Global;
 use std::io::Cursor;
 use std::os::unix::fs::{MetadataExt, symlink};
+use std::process::Abort;
 use std::test::Fail;
 use std::{env, fs, process};
+
+// The path that a text names.
+fn path(alloc: Global, text: &str, rt: &impl Abort) -> Path {
+    Path::parse(alloc, text).expect(rt, "a path")
+}
 
 // A folder of the test of this name alone, which is not there yet.
 fn fresh_folder(rt: &HostRuntime, name: &str) -> Result<String, Fail> {

@@ -1,0 +1,110 @@
+-- A run, from the words to the line of the cause.
+use Rattle.std.proofs.Common.{◌≡◌, ◌≢◌, ◌⊎◌, ℕ, Bool, true, false, IsTrue, List, [], Option, None, Some, inl, inr, refl, sym, ap, ◌∙◌, subst, Result, Ok, Err}
+use Rattle.cluster_tree.specs.Causes.{Meets}
+use Rattle.cluster_tree.specs.Contents.{Contents}
+use Rattle.cluster_tree.specs.declared.tree.ChangeCall.{ChangeCall}
+use Rattle.commands.specs.Faults.{IsFree as IsFreeOfWords}
+use Rattle.commands.specs.declared.command.Command.{Command}
+use Rattle.commands.specs.declared.command.Command.TheVariants as command
+use Rattle.commands.specs.declared.fault.CommandFault.{CommandFault}
+use Rattle.commands.specs.declared.fault.CommandFault.TheVariants as fault
+use Rattle.commands.specs.declared.waldump.WaldumpWords.{WaldumpWords}
+use Rattle.commands.specs.declared.rewind.RewindWords.{RewindWords}
+use Rattle.commands.specs.declared.controldata.ControldataWords.{ControldataWords}
+use Rattle.cmd_controldata.specs.Controldata.{IsControldata, controldata_answer}
+use Rattle.cmd_rewind.specs.Rewind.{IsRewind, rewind_answer}
+use Rattle.cmd_waldump.specs.Waldump.{AskForList, IsWaldump, waldump_answer}
+use Rattle.rewind_core.specs.RootControl.{control_at}
+use Rattle.rewind_core.specs.Rewind.{rewind_of}
+use Rattle.log_folder.specs.Found.{found_in}
+use Rattle.acts.specs.Acts.{Refused, Seen, Sunk, seen}
+use Rattle.run_acts.specs.Answers.{Answer, Carries, cause_in, refused}
+use Rattle.run_acts.specs.Causes.{IsFree, ending_of, has_values}
+use Rattle.run_acts.specs.declared.cause.Cause.{Cause}
+use Rattle.run_acts.specs.declared.cause.Cause.TheVariants as cause
+use Rattle.run_acts.proofs.AnswerSteps.{Looks, carries_fault, carries_refused, carries_exact, carries_told}
+use Rattle.cmd_controldata.proofs.FormLemmas.{answer-form as control-form, answer-looks as control-looks}
+use Rattle.cmd_rewind.proofs.FormLemmas.{answer-form as rewind-form, answer-looks as rewind-looks}
+use Rattle.cmd_waldump.proofs.FormLemmas.{answer-form as waldump-form, answer-looks as waldump-looks}
+use Rattle.wal_tools.specs.Answers.{IsAnswer, answered}
+use Rattle.wal_tools.specs.Words.{NeedsNoTree, refused_by_words, words_cause}
+
+-- what is done has the command's form, and begins with a look
+pub answered-form : (c : Contents) (asked : Result Command CommandFault) → IsAnswer asked (answered c asked)
+answered-form c (Ok (command.Rewind words)) = rewind-form words.dry_run (rewind_of c words.target words.source)
+answered-form c (Ok (command.Controldata words)) = control-form (control_at c words.root)
+answered-form c (Ok (command.Waldump words)) = waldump-form c words
+answered-form c (Err e) = refl
+
+pub answered-looks : (c : Contents) (asked : Result Command CommandFault) → Looks ((answered c asked).acts)
+answered-looks c (Ok (command.Rewind words)) = rewind-looks words.dry_run (rewind_of c words.target words.source)
+answered-looks c (Ok (command.Controldata words)) = control-looks (control_at c words.root)
+answered-looks c (Ok (command.Waldump words)) = waldump-looks c words
+answered-looks c (Err e) = tt
+
+-- what is carried out of words
+abbrev pub CarriesOut : Bool → Contents → Bool → Bool → Result Command CommandFault → Cause → Seen → Seen → Type 0
+CarriesOut tells c o e asked ended s u = Carries (IsTrue tells ⊎ NeedsNoTree asked) (answered c asked) (IsAnswer asked) o e ended s u
+
+-- the words ask for this command
+pub of_command : (tells : Bool) (c : Contents) {asked : Result Command CommandFault} {k : Command} {o e : Bool} {ended : Cause} {s u : Seen} → asked ≡ Ok k → CarriesOut tells c o e (Ok k) ended s u → CarriesOut tells c o e asked ended s u
+of_command tells c {asked} {k} {o} {e} {ended} {s} {u} is p = let P : Result Command CommandFault → Type 0 = λ a. CarriesOut tells c o e a ended s u in subst P (sym is) p
+
+by_tree : (tells : Bool) → IsTrue tells ⊎ ⊥ → IsTrue tells
+by_tree tells (inl t) = t
+by_tree tells (inr none) = absurd none
+
+-- pg_rewind was carried out
+pub of_rewind : (tells : Bool) (c : Contents) {k : Command} {words : RewindWords} {o e : Bool} {ended : Cause} {s u : Seen} → k ≡ command.Rewind words
+    → Carries (IsTrue tells ⊎ IsTrue words.dry_run) (rewind_answer c words) IsRewind o e ended s u → CarriesOut tells c o e (Ok k) ended s u
+of_rewind tells c {o = o} {e} {ended} {s} {u} is p = let P : Command → Type 0 = λ x. CarriesOut tells c o e (Ok x) ended s u in subst P (sym is) p
+
+-- pg_controldata was, whose words never decide alone
+pub of_controldata : (tells : Bool) (c : Contents) {k : Command} {words : ControldataWords} {o e : Bool} {ended : Cause} {s u : Seen} → k ≡ command.Controldata words
+    → Carries (IsTrue tells) (controldata_answer c words) IsControldata o e ended s u → CarriesOut tells c o e (Ok k) ended s u
+of_controldata tells c {o = o} {e} {ended} {s} {u} is p =
+    let P : Command → Type 0 = λ x. CarriesOut tells c o e (Ok x) ended s u in
+    subst P (sym is) (record { answer = p.answer; known = λ h. p.known (by_tree tells h); form = p.form; exact = p.exact; acts = p.acts })
+
+-- pg_waldump was
+pub of_waldump : (tells : Bool) (c : Contents) {k : Command} {words : WaldumpWords} {o e : Bool} {ended : Cause} {s u : Seen} → k ≡ command.Waldump words
+    → Carries (IsTrue tells ⊎ AskForList words) (waldump_answer c words) (IsWaldump words) o e ended s u → CarriesOut tells c o e (Ok k) ended s u
+of_waldump tells c {o = o} {e} {ended} {s} {u} is p = let P : Command → Type 0 = λ x. CarriesOut tells c o e (Ok x) ended s u in subst P (sym is) p
+
+module _ (tells : Bool) (c : Contents) (asked : Result Command CommandFault) {o e : Bool} {k : List ChangeCall} {out err : Sunk} where
+  -- there was no memory for the words
+  pub no_words : CarriesOut tells c o e asked cause.OutOfMemory (seen c k out err) (seen c k out err)
+  no_words = carries_fault (answered-form c asked) (answered-looks c asked) (inr refl) refl refl
+
+  refuses : (f : CommandFault) → CarriesOut tells c o e (Err f) (words_cause f) (seen c k out err) (seen c k out err)
+  refuses fault.Usage = carries_refused cause.Usage refl (λ h. refl) refl refl refl
+  refuses fault.NotBuilt = carries_refused cause.NotBuilt refl (λ h. refl) refl refl refl
+  refuses fault.DotDot = carries_refused (words_cause fault.DotDot) refl (λ h. refl) refl refl refl
+  refuses (fault.TooDeep path) = carries_refused (words_cause (fault.TooDeep path)) refl (λ h. refl) refl refl refl
+  refuses fault.PathsOverlap = carries_refused (words_cause fault.PathsOverlap) refl (λ h. refl) refl refl refl
+  refuses fault.OutOfMemory = carries_fault refl tt (inr refl) refl refl
+
+  -- the words are refused
+  pub words_refused : (f : CommandFault) (why : Cause) → why ≡ words_cause f → (f ≡ fault.OutOfMemory) ⊎ (asked ≡ Err f) → CarriesOut tells c o e asked why (seen c k out err) (seen c k out err)
+  words_refused f why is (inl m) = carries_told (is ∙ ap words_cause m) no_words
+  words_refused f why is (inr r) =
+      let P : Result Command CommandFault → Type 0 = λ a. CarriesOut tells c o e a why (seen c k out err) (seen c k out err) in
+      subst P (sym r) (carries_told is (refuses f))
+
+-- why the words are refused is what they decide alone
+pub refused_alone : (f : CommandFault) (asked : Result Command CommandFault) → (f ≡ fault.OutOfMemory) ⊎ (asked ≡ Err f) → (e : Cause) → refused_by_words asked ≡ Some e → (words_cause f ≡ e) ⊎ (words_cause f ≡ cause.OutOfMemory)
+refused_alone f asked (inl m) e is = inr (ap words_cause m)
+refused_alone f asked (inr r) e is = let same : Some (words_cause f) ≡ Some e = sym (ap refused_by_words r) ∙ is in inl (cc same)
+
+-- the cause that is told is the outcome, or want of memory for its line
+pub exact_told : (tells : Bool) (c : Contents) (asked : Result Command CommandFault) {o e : Bool} {outcome own ended : Cause} {s u : Seen} → own ≡ outcome → (ended ≡ own) ⊎ (IsTrue (has_values own) × (ended ≡ cause.OutOfMemory))
+    → CarriesOut tells c o e asked outcome s u → IsTrue tells ⊎ NeedsNoTree asked → IsFree ended ⊎ (ended ≡ cause_in (answered c asked).refusal)
+exact_told tells c asked {o} {e} {outcome} {own} {ended} {s} {u} same (inl is) p h = carries_exact h (carries_told (is ∙ same) p)
+exact_told tells c asked same (inr m) p h = inl (inr (inr (inr m.1)))
+
+-- a line that is made in memory, where there was none, has values
+pub values_of : (b : Bool) → (b ≡ false → ⊥) → b ≡ true
+values_of true h = refl
+values_of false h = absurd (h refl)
+
+pub ruleset line_steps = (values_of)

@@ -1,0 +1,27 @@
+use Rattle.acts.specs.Acts.{sunk}
+use Rattle.wal_tools.proofs.RunLemmas.{of_controldata, of_rewind, of_waldump}
+use Rattle.wal_tools.proofs.commanded.carry_out.Goals as goal
+
+pub returns-in-Rewind-clause-carries : goal.returns-in-Rewind-clause-carries
+returns-in-Rewind-clause-carries g c =
+    of_rewind g.F.Tree.tells (g.F.Tree.contents c.args.tree.now) c.in-Rewind.is
+    (c.rewind.ensures.carries g.O.Sink.tells (sunk (g.O.Sink.written c.args.out.now) (g.O.Sink.failed_writes c.args.out.now)))
+
+pub returns-in-Controldata-clause-carries : goal.returns-in-Controldata-clause-carries
+returns-in-Controldata-clause-carries g c =
+    of_controldata g.F.Tree.tells (g.F.Tree.contents c.args.tree.now) c.in-Controldata.is
+    (c.controldata.ensures.carries g.E.Sink.tells (sunk (g.E.Sink.written c.args.err.now) (g.E.Sink.failed_writes c.args.err.now)))
+
+pub returns-in-Waldump-clause-carries : goal.returns-in-Waldump-clause-carries
+returns-in-Waldump-clause-carries g c =
+    of_waldump g.F.Tree.tells (g.F.Tree.contents c.args.tree.now) c.in-Waldump.is
+    (c.waldump.ensures.carries g.E.Sink.tells (sunk (g.E.Sink.written c.args.err.now) (g.E.Sink.failed_writes c.args.err.now)))
+
+pub returns-in-Rewind-clause-blames : goal.returns-in-Rewind-clause-blames
+returns-in-Rewind-clause-blames g c = c.rewind.ensures.blames (g.O.Sink.failed_writes c.args.out.now)
+
+pub returns-in-Controldata-clause-blames : goal.returns-in-Controldata-clause-blames
+returns-in-Controldata-clause-blames g c = c.controldata.ensures.blames (g.E.Sink.failed_writes c.args.err.now)
+
+pub returns-in-Waldump-clause-blames : goal.returns-in-Waldump-clause-blames
+returns-in-Waldump-clause-blames g c = c.waldump.ensures.blames (g.E.Sink.failed_writes c.args.err.now)

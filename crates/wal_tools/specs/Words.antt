@@ -1,0 +1,47 @@
+-- What the words alone decide, whatever files there are: PostgreSQL 16 manual, reference pages of pg_rewind, pg_controldata and pg_waldump.
+use Rattle.std.specs.Prelude.{◌≡◌, IsTrue, if◌then◌else◌, Option, None, Some, Result, Ok, Err}
+use Rattle.commands.specs.declared.command.Command.{Command}
+use Rattle.commands.specs.declared.command.Command.TheVariants as command
+use Rattle.commands.specs.declared.fault.CommandFault.{CommandFault}
+use Rattle.commands.specs.declared.fault.CommandFault.TheVariants as fault
+use Rattle.run_acts.specs.declared.cause.Cause.{Cause}
+use Rattle.run_acts.specs.declared.cause.Cause.TheVariants as cause
+use Rattle.run_acts.specs.declared.cause.PathCause.TheVariants as paths
+use Rattle.cmd_waldump.specs.Waldump.{AskForList, BreakRule}
+
+-- the cause of words that ask for no command
+abbrev pub words_cause : CommandFault → Cause
+words_cause fault.Usage = cause.Usage
+words_cause fault.NotBuilt = cause.NotBuilt
+words_cause fault.DotDot = cause.Paths paths.DotDot
+words_cause (fault.TooDeep path) = cause.Paths (paths.TooDeep path)
+words_cause fault.PathsOverlap = cause.Paths paths.PathsOverlap
+words_cause fault.OutOfMemory = cause.OutOfMemory
+
+-- why the words alone refuse, if they do: they ask for no command, or for a dry run, which isn't built yet
+abbrev pub refused_by_words : Result Command CommandFault → Option Cause
+refused_by_words (Ok (command.Rewind words)) = if words.dry_run then Some cause.NotBuilt else None
+refused_by_words (Ok (command.Controldata words)) = None
+refused_by_words (Ok (command.Waldump words)) = None
+refused_by_words (Err e) = Some (words_cause e)
+
+-- Words are faulty: they are in no command's grammar, or they are pg_waldump's and break a rule on its start and its end where segments have some size.
+abbrev pub AreFaulty : Result Command CommandFault → Type 0
+AreFaulty (Ok (command.Rewind words)) = ⊥
+AreFaulty (Ok (command.Controldata words)) = ⊥
+AreFaulty (Ok (command.Waldump words)) = BreakRule words
+AreFaulty (Err e) = e ≡ fault.Usage
+
+-- what is asked for needs no tree: the list of resource managers, and words that refuse alone
+abbrev pub NeedsNoTree : Result Command CommandFault → Type 0
+NeedsNoTree (Ok (command.Rewind words)) = IsTrue words.dry_run
+NeedsNoTree (Ok (command.Controldata words)) = ⊥
+NeedsNoTree (Ok (command.Waldump words)) = AskForList words
+NeedsNoTree (Err e) = Unit {0}
+
+-- a command that may make changing calls: none is built yet
+abbrev pub MayChange : Result Command CommandFault → Type 0
+MayChange (Ok (command.Rewind words)) = ⊥
+MayChange (Ok (command.Controldata words)) = ⊥
+MayChange (Ok (command.Waldump words)) = ⊥
+MayChange (Err e) = ⊥

@@ -1,0 +1,131 @@
+// The top call.
+ghost use Rattle.std.specs.Prelude.{◌≡◌, ◌≢◌, ◌⊎◌, Err, IsTrue, None, Some, map, string_bytes};
+ghost use Rattle.cluster_tree.specs.Frame.{Reads};
+ghost use Rattle.cluster_tree.specs.PathValue.{PathValue};
+ghost use Rattle.commands.specs.Name.{name_of};
+ghost use Rattle.tool_words.specs.Command.{command_of};
+ghost use Rattle.acts.specs.Acts.{seen, sunk};
+ghost use Rattle.run_acts.specs.Answers.{Blames, Carries, cause_in};
+ghost use Rattle.run_acts.specs.Causes.{IsFree, cause_of, is_of_text, status_of};
+ghost use Rattle.cause_lines.specs.Lines.{line_of};
+ghost use Rattle.wal_tools.specs.Answers.{IsAnswer, answered};
+ghost use Rattle.wal_tools.specs.Runs.{Runs};
+ghost use Rattle.wal_tools.specs.Words.{AreFaulty, MayChange, NeedsNoTree, refused_by_words};
+
+use crate::commanded::carry_out;
+use crate::ending::finish;
+use crate::words::{command_of, words_cause};
+use cluster_tree::{Sink, Tree};
+use commands::{CommandFault, name_of};
+use run_acts::{Cause, Exit, PathCause};
+use std::alloc::Global;
+
+// Answers the words, but for the line of the cause.
+fn answer<F: Tree, O: Sink, E: Sink>(
+    alloc: Global,
+    words: &[String],
+    tree: &mut F,
+    out: &mut O,
+    err: &mut E,
+    now: i64,
+) -> Result<(), Cause>
+    ensures carries { Carries
+        (IsTrue F.tells ⊎ NeedsNoTree (command_of (map string_bytes words.now)))
+        (answered (F.contents tree.old) (command_of (map string_bytes words.now)))
+        (IsAnswer (command_of (map string_bytes words.now))) O.tells E.tells (cause_of result)
+        (seen (F.contents tree.old) (F.calls tree.old)
+        (sunk (O.written out.old) (O.failed_writes out.old))
+        (sunk (E.written err.old) (E.failed_writes err.old)))
+        (seen (F.contents tree.new) (F.calls tree.new)
+        (sunk (O.written out.new) (O.failed_writes out.new))
+        (sunk (E.written err.new) (E.failed_writes err.new))) }
+    ensures blames { Blames (cause_of result)
+        (F.failed_reads tree.old) (F.failed_reads tree.new)
+        (F.failed_changes tree.old) (F.failed_changes tree.new)
+        (O.failed_writes out.old) (O.failed_writes out.new)
+        (E.failed_writes err.old) (E.failed_writes err.new) }
+    ensures usage { result ≡ Err Cause.Usage → AreFaulty (command_of (map string_bytes words.now)) }
+    ensures nameless { name_of (map string_bytes words.now) ≡ None → result ≡ Err Cause.Usage }
+    ensures unfit { (e : Cause) → refused_by_words (command_of (map string_bytes words.now))
+        ≡ Some e → (result ≡ Err e) ⊎ (result ≡ Err Cause.OutOfMemory) }
+    ensures texts { (p : PathCause) → IsTrue (is_of_text p) → result ≡ Err (Cause.Paths p) →
+        refused_by_words (command_of (map string_bytes words.now)) ≡ Some (Cause.Paths p) }
+    ensures apart { NeedsNoTree (command_of (map string_bytes words.now)) → tree.new ≡ tree.old }
+    ensures changed { IsTrue F.tells → (p : PathValue) → result ≢ Err (Cause.Changed p) }
+    ensures unwritten { result ≢ Err Cause.WriteFault }
+    ensures reads { Reads F.Tree tree.old tree.new }
+{
+    match command_of(alloc, words) {
+        Ok(command) => carry_out(alloc, &command, tree, out, err, now),
+        Err(CommandFault::OutOfMemory) => Err(Cause::OutOfMemory),
+        Err(fault) => Err(words_cause(fault)),
+    }
+}
+
+fn cause_of(outcome: Result<(), Cause>) -> Cause
+    ensures { result ≡ cause_of outcome }
+{
+    match outcome {
+        Ok(()) => Cause::Done,
+        Err(cause) => cause,
+    }
+}
+
+/// Carries out the command that the words ask for, and tells how it ended.
+///
+/// `words` are the command and its words, `tree` holds the files, `out` and `err` are standard
+/// output and standard error, and `now` is in seconds since 1970. Where the run ends in another
+/// cause than `Done`, one line on `err` names it.
+pub fn run<F: Tree, O: Sink, E: Sink>(
+    alloc: Global,
+    words: &[String],
+    tree: &mut F,
+    out: &mut O,
+    err: &mut E,
+    now: i64,
+) -> Exit
+    ensures status { result.status ≡ status_of result.cause }
+    // the cause is that of the words and the contents, a fault of a device, or want of memory
+    ensures exact { IsTrue F.tells ⊎ NeedsNoTree (command_of (map string_bytes words.now)) →
+        IsFree result.cause ⊎ (result.cause ≡ cause_in (answered (F.contents tree.old)
+        (command_of (map string_bytes words.now))).refusal) }
+    // the acts of the command, in order, as far as they came, and then the line of the cause
+    ensures runs { Runs (IsTrue F.tells ⊎ NeedsNoTree (command_of (map string_bytes words.now)))
+        (answered (F.contents tree.old) (command_of (map string_bytes words.now)))
+        (IsAnswer (command_of (map string_bytes words.now))) O.tells E.tells result.cause
+        (line_of (name_of (map string_bytes words.now)) result.cause)
+        (seen (F.contents tree.old) (F.calls tree.old)
+        (sunk (O.written out.old) (O.failed_writes out.old))
+        (sunk (E.written err.old) (E.failed_writes err.old)))
+        (seen (F.contents tree.new) (F.calls tree.new)
+        (sunk (O.written out.new) (O.failed_writes out.new))
+        (sunk (E.written err.new) (E.failed_writes err.new))) }
+
+    // each fault of a device comes only where its own count rose
+    ensures blames { Blames result.cause
+        (F.failed_reads tree.old) (F.failed_reads tree.new)
+        (F.failed_changes tree.old) (F.failed_changes tree.new)
+        (O.failed_writes out.old) (O.failed_writes out.new)
+        (E.failed_writes err.old) (E.failed_writes err.new) }
+    ensures write_fault { result.cause ≡ Cause.WriteFault →
+        MayChange (command_of (map string_bytes words.now)) }
+    ensures changed { IsTrue F.tells → (p : PathValue) → result.cause ≢ Cause.Changed p }
+
+    // what the words alone decide, over every tree
+    ensures usage { result.cause ≡ Cause.Usage →
+        AreFaulty (command_of (map string_bytes words.now)) }
+    ensures nameless { name_of (map string_bytes words.now) ≡ None → result.cause ≡ Cause.Usage }
+    ensures unfit { (e : Cause) → refused_by_words (command_of (map string_bytes words.now))
+        ≡ Some e → (result.cause ≡ e) ⊎ (result.cause ≡ Cause.OutOfMemory) }
+    ensures texts { (p : PathCause) → IsTrue (is_of_text p) → result.cause ≡ Cause.Paths p →
+        refused_by_words (command_of (map string_bytes words.now)) ≡ Some (Cause.Paths p) }
+
+    // the list of resource managers, and words that refuse, need no tree; what only reads changes none
+    ensures apart { NeedsNoTree (command_of (map string_bytes words.now)) → tree.new ≡ tree.old }
+    ensures reads { ¬ MayChange (command_of (map string_bytes words.now)) →
+        Reads F.Tree tree.old tree.new }
+{
+    let name = name_of(words);
+    let outcome = answer(alloc, words, tree, out, err, now);
+    finish(alloc, name, cause_of(outcome), err)
+}
