@@ -1,0 +1,22 @@
+//! Worked cases of the commands: texts, each a tree of files, words, and what they have to do, which
+//! one driver runs.
+#![tactic(auto)]
+
+#[cfg(test)]
+mod control_files;
+#[cfg(test)]
+mod driver;
+#[cfg(test)]
+mod dumps;
+#[cfg(test)]
+mod faulty_words;
+#[cfg(test)]
+mod folders;
+#[cfg(test)]
+mod names;
+#[cfg(test)]
+mod options;
+#[cfg(test)]
+mod own;
+#[cfg(test)]
+mod words;
