@@ -12,8 +12,6 @@ mod line;
 mod names;
 mod reading;
 mod rows;
-#[cfg(test)]
-mod tests;
 mod text;
 mod time;
 mod writing;

@@ -5,8 +5,6 @@ mod laws;
 mod readers;
 mod row;
 mod rule;
-#[cfg(test)]
-mod tests;
 mod value;
 mod writing;
 

@@ -11,8 +11,6 @@ pub mod pack;
 pub mod page;
 pub mod refusal;
 pub mod shape;
-#[cfg(test)]
-mod tests;
 pub mod trim;
 
 pub use line::Line;

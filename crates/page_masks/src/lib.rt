@@ -7,8 +7,6 @@ pub mod kind;
 mod laws;
 pub mod masking;
 mod others;
-#[cfg(test)]
-mod tests;
 
 pub use kind::{PageKind, kind_of};
 pub use laws::{composes, mask_shows, mask_twice, masks_without_lsn, stamps};

@@ -15,6 +15,3 @@ pub use control::control_at;
 pub use fault::RewindFault;
 pub use outcome::{Divergence, RewindDone, Told};
 pub use whole_file::{Found, read_whole};
-
-#[cfg(test)]
-mod tests;

@@ -19,6 +19,3 @@ pub use laws::{
 };
 pub use parting::divergence;
 pub use reading::read_history;
-
-#[cfg(test)]
-mod tests;

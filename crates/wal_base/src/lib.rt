@@ -29,6 +29,3 @@ pub use seg_size::SegSize;
 pub use segment::{Segment, is_long_name};
 pub use spans::{Span, Spans};
 pub use text::Text;
-
-#[cfg(test)]
-mod tests;

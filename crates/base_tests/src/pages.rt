@@ -1,5 +1,5 @@
 // Expected bytes were computed by a Python script that follows bufpage.c, independent of this crate.
-use crate::{Line, Page, PageRefusal};
+use page_layout::{Line, Page, PageRefusal};
 use std::alloc::Global;
 use std::process::Abort;
 use std::test::Fail;

@@ -1,12 +1,12 @@
-//! The files that the tests read. Their bytes, their CRCs and what they say come from a script of
-//! its own that lays the fields out with Python's struct and computes CRC-32C bit by bit
-//! (tests/pg_control.py).
+// The control files that the tests read. Their bytes, their CRCs and what they say come from a script
+// of its own that lays the fields out with Python's struct and computes CRC-32C bit by bit
+// (tests/pg_control.py).
+use control_file::{Checkpoint, Control};
+use wal_base::Crc32c;
 
-use crate::{Checkpoint, Control};
-
-/// A cluster that was shut down on timeline 1, as (offset, width, value); zeros elsewhere but for
-/// the nonce.
-pub const EXAMPLE: [(usize, usize, u64); 36] = [
+// A cluster that was shut down on timeline 1, as (offset, width, value); zeros elsewhere but for
+// the nonce.
+pub(crate) const EXAMPLE: [(usize, usize, u64); 36] = [
     (0, 8, 7300000000000000001), // sysid
     (8, 4, 1300), // version
     (12, 4, 202307071), // catalog
@@ -45,17 +45,17 @@ pub const EXAMPLE: [(usize, usize, u64); 36] = [
     (248, 1, 1), // float8ByVal
 ];
 
-/// The nonce of the example: 0 to 31.
-pub const EXAMPLE_NONCE: [u8; 32] = [
+// The nonce of the example: 0 to 31.
+pub(crate) const EXAMPLE_NONCE: [u8; 32] = [
     0, 1, 2, 3, 4, 5, 6, 7, 8, 9, 10, 11, 12, 13, 14, 15, 16, 17, 18, 19, 20, 21, 22, 23, 24, 25,
     26, 27, 28, 29, 30, 31,
 ];
 
-/// The CRC of the example's first 288 bytes.
-pub const EXAMPLE_CRC: u32 = 0xFC30_B61D;
+// The CRC of the example's first 288 bytes.
+pub(crate) const EXAMPLE_CRC: u32 = 0xFC30_B61D;
 
-/// A control file in which each field has a number of its own, as far as its rule lets it.
-pub const DISTINCT: [(usize, usize, u64); 46] = [
+// A control file in which each field has a number of its own, as far as its rule lets it.
+pub(crate) const DISTINCT: [(usize, usize, u64); 46] = [
     (0, 8, 0xF102_0304_0506_0708), // sysid
     (8, 4, 1300), // version
     (12, 4, 202307071), // catalog
@@ -104,16 +104,16 @@ pub const DISTINCT: [(usize, usize, u64); 46] = [
     (252, 4, 1), // checksumVersion
 ];
 
-/// The nonce of that file: 224 to 255.
-pub const DISTINCT_NONCE: [u8; 32] = [
+// The nonce of that file: 224 to 255.
+pub(crate) const DISTINCT_NONCE: [u8; 32] = [
     224, 225, 226, 227, 228, 229, 230, 231, 232, 233, 234, 235, 236, 237, 238, 239, 240, 241, 242,
     243, 244, 245, 246, 247, 248, 249, 250, 251, 252, 253, 254, 255,
 ];
 
-/// The CRC of that file's first 288 bytes.
-pub const DISTINCT_CRC: u32 = 0x5720_A62E;
+// The CRC of that file's first 288 bytes.
+pub(crate) const DISTINCT_CRC: u32 = 0x5720_A62E;
 
-/// Writes a number at an offset, the lowest byte first.
+// Writes a number at an offset, the lowest byte first.
 fn put(file: &mut [u8; 8192], at: usize, width: usize, value: u64) {
     let places = file.iter_mut().skip(at).take(width);
     for (place, byte) in places.zip(value.to_le_bytes()) {
@@ -121,8 +121,8 @@ fn put(file: &mut [u8; 8192], at: usize, width: usize, value: u64) {
     }
 }
 
-/// The bytes with these fields, this nonce and this CRC.
-pub fn spelled(fields: &[(usize, usize, u64)], nonce: [u8; 32], crc: u32) -> [u8; 8192] {
+// The bytes with these fields, this nonce and this CRC.
+pub(crate) fn spelled(fields: &[(usize, usize, u64)], nonce: [u8; 32], crc: u32) -> [u8; 8192] {
     let mut file = [0; 8192];
     for (at, width, value) in fields {
         put(&mut file, *at, *width, *value);
@@ -134,8 +134,8 @@ pub fn spelled(fields: &[(usize, usize, u64)], nonce: [u8; 32], crc: u32) -> [u8
     file
 }
 
-/// The example with these fields and this CRC in place of its own.
-pub fn edited(edits: &[(usize, usize, u64)], crc: u32) -> [u8; 8192] {
+// The example with these fields and this CRC in place of its own.
+pub(crate) fn edited(edits: &[(usize, usize, u64)], crc: u32) -> [u8; 8192] {
     let mut file = spelled(&EXAMPLE, EXAMPLE_NONCE, crc);
     for (at, width, value) in edits {
         put(&mut file, *at, *width, *value);
@@ -143,7 +143,16 @@ pub fn edited(edits: &[(usize, usize, u64)], crc: u32) -> [u8; 8192] {
     file
 }
 
-pub fn distinct_checkpoint() -> Checkpoint {
+// The example with these fields and the CRC that its bytes have then.
+pub(crate) fn sealed(edits: &[(usize, usize, u64)]) -> [u8; 8192] {
+    let mut file = edited(edits, 0);
+    let mut crc = Crc32c::new();
+    crc.add(file.get(..288).unwrap_or(&[]));
+    put(&mut file, 288, 4, u64::from(crc.value()));
+    file
+}
+
+pub(crate) fn distinct_checkpoint() -> Checkpoint {
     Checkpoint {
         redo: 0x2132_4354_6576_8798,
         tli: 0x8000_0002,
@@ -164,7 +173,7 @@ pub fn distinct_checkpoint() -> Checkpoint {
     }
 }
 
-pub fn distinct_control() -> Control {
+pub(crate) fn distinct_control() -> Control {
     Control {
         sysid: 0xF102_0304_0506_0708,
         version: 1300,

@@ -1,12 +1,12 @@
-//! Each answer of a rewind over trees in memory. The checksums of the control files come from a
-//! script of its own (tests/pg_control.py).
-use super::*;
+// Each answer of a rewind over trees in memory. The checksums of the control files come from a
+// script of its own (tests/pg_control.py).
 use cluster_tree::{FailPlan, FailingTree, MemoryTree, Path, Tree};
+use rewind_core::{Found, read_whole, rewind};
 use std::alloc::Global;
 use std::process::Abort;
 use std::test::Fail;
 
-/// The fields of a cluster that was shut down on timeline 1, as (offset, width, value).
+// The fields of a cluster that was shut down on timeline 1, as (offset, width, value).
 const FIELDS: [(usize, usize, u64); 13] = [
     (0, 8, 7300000000000000001), // sysid
     (8, 4, 1300), // version
@@ -23,7 +23,7 @@ const FIELDS: [(usize, usize, u64); 13] = [
     (228, 4, 1048576), // walSegSize
 ];
 
-/// A control file: the fields that differ from those, and the checksum.
+// A control file: the fields that differ from those, and the checksum.
 #[derive(Clone, Copy)]
 struct Given {
     edits: &'static [(usize, usize, u64)],
@@ -58,22 +58,16 @@ fn control_bytes(given: Given) -> [u8; 8192] {
     file
 }
 
-pub(crate) fn path(alloc: Global, text: &str, rt: &impl Abort) -> Path {
+fn path(alloc: Global, text: &str, rt: &impl Abort) -> Path {
     Path::parse(alloc, text).expect(rt, "a path")
 }
 
-pub(crate) fn make_folder(alloc: Global, tree: &mut MemoryTree, text: &str, rt: &impl Abort) {
+fn make_folder(alloc: Global, tree: &mut MemoryTree, text: &str, rt: &impl Abort) {
     let made = tree.make_folder(&path(alloc, text, rt));
     assert_eq!(rt; made, Ok(()), "{text}");
 }
 
-pub(crate) fn make_file(
-    alloc: Global,
-    tree: &mut MemoryTree,
-    text: &str,
-    bytes: &[u8],
-    rt: &impl Abort,
-) {
+fn make_file(alloc: Global, tree: &mut MemoryTree, text: &str, bytes: &[u8], rt: &impl Abort) {
     let file = path(alloc, text, rt);
     let made = tree.make_file(&file);
     assert_eq!(rt; made, Ok(()), "{text}");
@@ -81,7 +75,7 @@ pub(crate) fn make_file(
     assert_eq!(rt; written, Ok(()), "{text}");
 }
 
-/// The folders of a target `t` and a source `s`.
+// The folders of a target `t` and a source `s`.
 fn two_folders(alloc: Global, rt: &impl Abort) -> MemoryTree {
     let mut tree = MemoryTree::new(alloc);
     for folder in ["t", "t/global", "s", "s/global"] {
@@ -90,7 +84,7 @@ fn two_folders(alloc: Global, rt: &impl Abort) -> MemoryTree {
     tree
 }
 
-/// A target `t` and a source `s` with these control files.
+// A target `t` and a source `s` with these control files.
 fn two_clusters(alloc: Global, target: Given, source: Given, rt: &impl Abort) -> MemoryTree {
     let mut tree = two_folders(alloc, rt);
     let target = control_bytes(target);
@@ -100,7 +94,7 @@ fn two_clusters(alloc: Global, target: Given, source: Given, rt: &impl Abort) ->
     tree
 }
 
-/// What a rewind of `t` from `s` says.
+// What a rewind of `t` from `s` says.
 fn said<F: Tree>(alloc: Global, tree: &mut F, rt: &impl Abort) -> Result<String, Fail> {
     let target = path(alloc, "t", rt);
     let source = path(alloc, "s", rt);
@@ -115,7 +109,7 @@ fn said<F: Tree>(alloc: Global, tree: &mut F, rt: &impl Abort) -> Result<String,
     })
 }
 
-/// Runs a rewind, which has to say this and to leave the tree as it is.
+// Runs a rewind, which has to say this and to leave the tree as it is.
 fn check(
     alloc: Global,
     tree: &mut MemoryTree,

@@ -1,6 +1,6 @@
 // Expected values are those of heap_mask, btree_mask and seq_mask, worked out by hand.
-use crate::{PageKind, kind_of, mask, same_page};
 use page_layout::{Line, Page};
+use page_masks::{PageKind, kind_of, mask, same_page};
 use std::alloc::Global;
 use std::test::Fail;
 use wal_base::Lsn;

@@ -1,8 +1,7 @@
-//! Values by hand from the layout of numbers with the lowest byte first.
+// Values by hand from the layout of numbers with the lowest byte first.
+use layout::{Row, Rule, first_broken, i64_at, raw_at, u8_at, u16_at, u32_at, u64_at};
 
-use crate::{Row, Rule, Value, first_broken, i64_at, raw_at, u8_at, u16_at, u32_at, u64_at};
-
-/// The byte at place k is k + 1, but the last eight are FE and seven FF: -2 in two's complement.
+// The byte at place k is k + 1, but the last eight are FE and seven FF: -2 in two's complement.
 const BYTES: [u8; 40] = [
     1, 2, 3, 4, 5, 6, 7, 8, 9, 10, 11, 12, 13, 14, 15, 16, 17, 18, 19, 20, 21, 22, 23, 24, 25, 26,
     27, 28, 29, 30, 31, 32, 0xFE, 0xFF, 0xFF, 0xFF, 0xFF, 0xFF, 0xFF, 0xFF,
@@ -59,18 +58,16 @@ fn rules_allow(rt: HostRuntime) {
     }
 }
 
+fn broken_field(rows: &[Row<char>]) -> Option<char> {
+    first_broken(rows).map(|row| row.field)
+}
+
 #[test]
 fn finds_the_first_broken_row(rt: HostRuntime) {
     let kept = Row::byte('a', 0, 1, Rule::AtMost(1));
     let second = Row::word('b', 4, 9, Rule::Only(8));
     let third = Row::long('c', 8, 0, Rule::Between(1, 2));
-    assert_eq!(rt;
-        first_broken(&[kept, second, third]).map(|row| row.field),
-        Some('b')
-    );
-    assert_eq!(rt;
-        first_broken(&[kept, third]).map(|row| row.field),
-        Some('c')
-    );
-    assert_eq!(rt; first_broken(&[kept]).map(|row| row.field), None);
+    assert_eq!(rt; broken_field(&[kept, second, third]), Some('b'));
+    assert_eq!(rt; broken_field(&[kept, third]), Some('c'));
+    assert_eq!(rt; broken_field(&[kept]), None);
 }

@@ -1,6 +1,0 @@
-//! Tests over two control files.
-
-mod files;
-mod reading;
-mod text;
-mod writing;
