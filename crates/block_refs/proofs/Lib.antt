@@ -8,3 +8,6 @@ pub mod OutcomeLemmas
 pub mod FillLemmas
 pub mod RiseLemmas
 pub mod OrderLemmas
+pub mod ValueLemmas
+pub mod WrittenHeads
+pub mod WrittenLemmas

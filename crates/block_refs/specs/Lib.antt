@@ -9,3 +9,4 @@ pub mod Standing
 pub mod Spelling
 pub mod Bytes
 pub mod Outcomes
+pub mod Written

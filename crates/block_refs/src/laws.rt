@@ -1,6 +1,6 @@
 //! Laws: what holds of the definitions, whatever calls them.
 
-ghost use Rattle.std.specs.Prelude.{◌≡◌, ◌↔◌, ℕ, List, ◌++◌, None, Some, drop, Ok, Err};
+ghost use Rattle.std.specs.Prelude.{◌≡◌, ◌↔◌, ◌<◌, ◌^◌, ℕ, List, ◌++◌, None, Some, drop, length, map, Ok, Err};
 ghost use Rattle.std.specs.List.{flat_map, slice_get};
 ghost use Rattle.block_refs.specs.declared.fault.Flaw.{Flaw};
 ghost use Rattle.block_refs.specs.declared.placed.Placed.{Placed};
@@ -8,7 +8,8 @@ ghost use Rattle.block_refs.specs.declared.names.BlockName.{BlockName};
 ghost use Rattle.block_refs.specs.Order.{block_cmp, compared};
 ghost use Rattle.block_refs.specs.Parts.{PartsView, parts_of};
 ghost use Rattle.block_refs.specs.Spelling.{HasParts, IsFirstFlaw, IdsRise};
-ghost use Rattle.block_refs.specs.Bytes.{block_with, block_part, main_bytes};
+ghost use Rattle.block_refs.specs.Bytes.{block_with, block_part, main_bytes, placed_bytes, stored_image};
+ghost use Rattle.block_refs.specs.Written.{CanWriteAll, Written, body_bytes, written_parts};
 
 /// A body has one reading: the parts that it spells, or its first flaw.
 pub fn bodies_have_one_reading()
@@ -43,4 +44,21 @@ pub fn ids_rise()
 /// Blocks are ordered by tablespace, database, relation, fork and number.
 pub fn blocks_are_ordered()
     ensures { (a b : BlockName) → compared a b ≡ block_cmp a b }
+{}
+
+/// A body that is written is read again: it has the references that were given, in order, and each
+/// has its image and its bytes; the main bytes are those that were given.
+pub fn written_bodies_are_read_again()
+    ensures read { (blocks : List Written) (main : List ℕ) → CanWriteAll None blocks →
+        length main < 2 ^ 32 → parts_of (body_bytes blocks main) ≡ Ok (written_parts blocks main) }
+    ensures references { (blocks : List Written) (main : List ℕ) →
+        map (λ placed. placed.block) (written_parts blocks main).blocks ≡ map (λ w. w.block) blocks }
+    ensures images { (blocks : List Written) (main : List ℕ) → CanWriteAll None blocks →
+        map (stored_image (body_bytes blocks main) (written_parts blocks main))
+        (written_parts blocks main).blocks ≡ map (λ w. w.image) blocks }
+    ensures bytes { (blocks : List Written) (main : List ℕ) → CanWriteAll None blocks →
+        map (placed_bytes (body_bytes blocks main) (written_parts blocks main))
+        (written_parts blocks main).blocks ≡ map (λ w. w.bytes) blocks }
+    ensures rest { (blocks : List Written) (main : List ℕ) →
+        main_bytes (body_bytes blocks main) (written_parts blocks main) ≡ main }
 {}

@@ -16,7 +16,10 @@ mod split;
 
 pub use block_ref::{BlockRef, ImageRef};
 pub use fault::PartsFault;
-pub use laws::{blocks_are_ordered, bodies_have_one_reading, ids_rise, parts_fill_a_body};
+pub use laws::{
+    blocks_are_ordered, bodies_have_one_reading, ids_rise, parts_fill_a_body,
+    written_bodies_are_read_again,
+};
 pub use names::{BlockName, Fork, RelName};
 pub use page::image_page;
 pub use parts::Parts;

@@ -12,8 +12,8 @@ use Rattle.layout.specs.declared.value.Value.TheVariants.{Byte, Half, Word, Long
 use Rattle.layout.specs.Readers.{u32_at, u64_at, i64_at, value_at}
 use Rattle.layout.specs.Values.{ValueFits, number, width}
 use Rattle.layout.specs.Writing.{value_bytes}
-use Rattle.layout.proofs.PutLemmas.{value_again, length-value_bytes}
-use Rattle.layout.proofs.SpliceLemmas.{Stands}
+use Rattle.layout.proofs.PutLemmas.{length-value_bytes}
+use Rattle.block_refs.proofs.ValueLemmas.{value_in}
 use Rattle.record_layouts.specs.Fields.{taken, word, long, signed, count}
 use Rattle.record_layouts.specs.Items.{items, item_list}
 use Rattle.record_layouts.specs.Spelling.{word_bytes, list_bytes}
@@ -23,18 +23,6 @@ pub taken_again : {A : Type 0} (size : ℕ) (front rest : List ℕ) (read value 
 taken_again size front rest read value len e =
     let room : size ≤ length (front ++ rest) = omega (arith, length-append front rest) in
     rw (le-ltb (length (front ++ rest)) size room, drop_at front rest size len, e) refl
-
--- where a value's bytes stand behind others, it is read
-pub stands_in : (v : Value) (before after : List ℕ) → Stands (length before) (value_bytes v) (before ++ (value_bytes v ++ after))
-stands_in v before after i lt =
-    get_or-append_right before (value_bytes v ++ after) (length before) (length before + i) 0 refl (omega arith)
-    ∙ get_or_append_left (value_bytes v) after 0 (length before + i - length before) (omega arith)
-    ∙ ap (λ (k : ℕ). get_or (value_bytes v) k 0) (omega arith)
-
-pub value_in : (v : Value) (before after : List ℕ) → ValueFits v → value_at v (length before) (before ++ (value_bytes v ++ after)) ≡ v
-value_in v before after fits =
-    let room : length before + width v ≤ length (before ++ (value_bytes v ++ after)) = omega (arith, length-append before (value_bytes v ++ after), length-append (value_bytes v) after, length-value_bytes v fits) in
-    value_again v (length before) (before ++ (value_bytes v ++ after)) fits room (stands_in v before after)
 
 pub word_in : (n : ℕ) (before after : List ℕ) → n < 2 ^ 32 → u32_at (length before) (before ++ (word_bytes n ++ after)) ≡ n
 word_in n before after fits = ap number (value_in (Word n) before after fits)
