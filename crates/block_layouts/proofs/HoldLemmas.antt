@@ -13,11 +13,11 @@ use Rattle.block_layouts.specs.Prune.{places_left, prune_places_of}
 use Rattle.block_layouts.specs.Laws.{HoldsUpdate, HoldsPrune}
 use Rattle.block_layouts.proofs.ListLemmas.{place_count-is, redirect_count-is}
 
-else_some : {A : Type 0} (b : Bool) (x : Option A) (y : A) → cond b None x ≡ Some y → (b ≡ false) × (x ≡ Some y)
+pub else_some : {A : Type 0} (b : Bool) (x : Option A) (y : A) → cond b None x ≡ Some y → (b ≡ false) × (x ≡ Some y)
 else_some true x y e = absurd cc
 else_some false x y e = (refl, e)
 
-some_is : {A : Type 0} (x y : A) → Some x ≡ Some y → x ≡ y
+pub some_is : {A : Type 0} (x y : A) → Some x ≡ Some y → x ≡ y
 some_is x y e = cc
 
 -- the size of the bitmap
@@ -70,7 +70,7 @@ update_holds parts bytes tuple e =
     by None h e = absurd cc
     by (Some size) h e = update_with parts bytes size tuple (size_is parts (header_at (header_place parts) bytes).hoff size h) e
 
-halved : (n : ℕ) → (2 * (n / 2) ≤ n) × (n < 2 * (n / 2) + 2)
+pub halved : (n : ℕ) → (2 * (n / 2) ≤ n) × (n < 2 * (n / 2) + 2)
 halved n = (omega arith, omega arith)
 
 pub prune_holds : (redirected dead : ℕ) (bytes : List ℕ) (places : PrunePlaces) → prune_places_of redirected dead bytes ≡ Some places → HoldsPrune redirected dead bytes places

@@ -8,3 +8,6 @@ pub mod ListLemmas
 pub mod InsertedLemmas
 pub mod HoldLemmas
 pub mod SplitLemmas
+pub mod SpellingLemmas
+pub mod UpdateSpelling
+pub mod PruneSpelling

@@ -1,4 +1,3 @@
-pub mod Fields
 pub mod Row
 pub mod Tuple
 pub mod Update
@@ -10,4 +9,5 @@ pub mod MultiInsert
 pub mod IndexTuples
 pub mod Split
 pub mod Meta
+pub mod Spelling
 pub mod Laws

@@ -2,7 +2,7 @@
 use Rattle.std.specs.Prelude.{ℕ, List, Option}
 use Rattle.layout.specs.Readers.{u8_at, u32_at}
 use Rattle.block_layouts.specs.declared.meta.BtreeMeta.{BtreeMeta}
-use Rattle.block_layouts.specs.Fields.{whole}
+use Rattle.layout_readers.specs.Whole.{whole}
 
 -- the six numbers of four bytes, and one byte
 abbrev pub meta_at_front : List ℕ → BtreeMeta

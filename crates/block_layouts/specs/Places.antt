@@ -1,7 +1,7 @@
 -- Places of lines in a block's bytes: PostgreSQL 16, src/include/storage/off.h, OffsetNumber, two bytes each.
 use Rattle.std.specs.Prelude.{ℕ, ◌+◌, ◌*◌, List, Option}
 use Rattle.layout.specs.Readers.{u16_at}
-use Rattle.block_layouts.specs.Fields.{whole}
+use Rattle.layout_readers.specs.Whole.{whole}
 use Rattle.block_layouts.specs.Row.{row_of}
 
 -- one place, and the offset behind it

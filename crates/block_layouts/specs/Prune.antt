@@ -2,7 +2,7 @@
 -- heap_xlog_prune.
 use Rattle.std.specs.Prelude.{ℕ, ◌+◌, ◌-◌, ◌*◌, ◌/◌, List, length, Option}
 use Rattle.block_layouts.specs.declared.prune.PrunePlaces.{PrunePlaces}
-use Rattle.block_layouts.specs.Fields.{whole}
+use Rattle.layout_readers.specs.Whole.{whole}
 use Rattle.block_layouts.specs.Places.{places_from}
 use Rattle.block_layouts.specs.Redirects.{redirects_from}
 

@@ -4,7 +4,7 @@ use Rattle.std.specs.Prelude.{ℕ, ◌+◌, List, drop, Option}
 use Rattle.layout.specs.Readers.{u8_at, u16_at}
 use Rattle.block_layouts.specs.declared.tuple.HeapTuple.{HeapTuple}
 use Rattle.block_layouts.specs.declared.tuple.TupleHeader.{TupleHeader}
-use Rattle.block_layouts.specs.Fields.{whole}
+use Rattle.layout_readers.specs.Whole.{whole}
 
 -- a header with the bytes that stand behind it
 pub record TupleView : Type 0 where

@@ -7,6 +7,7 @@ ghost use Rattle.block_layouts.specs.Freeze.{first_plan, freeze_plans_of, place_
 use crate::places::{PLACE_SIZE, Places};
 use crate::plan::FreezePlan;
 use layout::{u8_at, u16_at, u32_at};
+use std::alloc::AllocError;
 use std::marker::Model;
 
 /// The bytes of a plan (`xl_heap_freeze_plan`).
@@ -14,7 +15,7 @@ const PLAN_SIZE: usize = 12;
 
 /// Plans with their places, which are read off the record's bytes one by one. Contracts see the
 /// list of those still to come.
-#[derive(Clone, Debug, Drop)]
+#[derive(Debug, Drop)]
 pub struct FreezePlans<'a> {
     bytes: &'a [u8],
     plan: usize,
@@ -62,6 +63,24 @@ impl<'a> FreezePlans<'a> {
         ensures value { result ≡ length self.now }
     {
         self.left
+    }
+}
+
+/// A clone has the same still to come. It takes no memory, so it doesn't fail.
+impl<'a> Clone for FreezePlans<'a> {
+    ghost use Rattle.std.specs.Prelude.{◌≡◌, ⊤};
+
+    ghost is_clone = { λ old new. new ≡ old };
+
+    ghost is_infallible = { λ _. ⊤ };
+
+    fn clone(&self) -> Result<FreezePlans<'a>, AllocError> {
+        Ok(FreezePlans {
+            bytes: self.bytes,
+            plan: self.plan,
+            places: self.places,
+            left: self.left,
+        })
     }
 }
 

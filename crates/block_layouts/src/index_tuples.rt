@@ -5,6 +5,7 @@ ghost use Rattle.std.specs.Iterator.{YieldsFirstBy, item_count};
 ghost use Rattle.block_layouts.specs.IndexTuples.{count_below, item_behind, item_size, item_stands, restored_tuples_of, told_size};
 
 use layout::u16_at;
+use std::alloc::AllocError;
 use std::marker::Model;
 
 /// The bytes of an index tuple's header (`IndexTupleData`).
@@ -15,7 +16,7 @@ const SIZE_LIMIT: u16 = 0x2000;
 
 /// Index tuples, which are read off the record's bytes one by one. Contracts see the list of those
 /// still to come, each as its bytes.
-#[derive(Clone, Debug, Drop)]
+#[derive(Debug, Drop)]
 pub struct IndexTuples<'a> {
     bytes: &'a [u8],
     at: usize,
@@ -104,6 +105,23 @@ impl<'a> IndexTuples<'a> {
         }
         let end = from + item_size(self.bytes, from);
         Some(&self.bytes[from..end])
+    }
+}
+
+/// A clone has the same still to come. It takes no memory, so it doesn't fail.
+impl<'a> Clone for IndexTuples<'a> {
+    ghost use Rattle.std.specs.Prelude.{◌≡◌, ⊤};
+
+    ghost is_clone = { λ old new. new ≡ old };
+
+    ghost is_infallible = { λ _. ⊤ };
+
+    fn clone(&self) -> Result<IndexTuples<'a>, AllocError> {
+        Ok(IndexTuples {
+            bytes: self.bytes,
+            at: self.at,
+            left: self.left,
+        })
     }
 }
 

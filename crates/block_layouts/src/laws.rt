@@ -2,6 +2,7 @@
 
 ghost use Rattle.std.specs.Prelude.{◌≡◌, ◌↔◌, ◌+◌, ◌*◌, ◌<◌, ℕ, Bool, List, Some, length, slice_get, sum_by};
 ghost use Rattle.layout.specs.Readers.{u16_at};
+ghost use Rattle.layout_readers.specs.Rows.{AreBytes};
 ghost use Rattle.block_layouts.specs.declared.prune.PrunePlaces.{PrunePlaces};
 ghost use Rattle.block_layouts.specs.declared.update.OldParts.{OldParts};
 ghost use Rattle.block_layouts.specs.Freeze.{first_plan, plan_at, plans_from};
@@ -11,6 +12,7 @@ ghost use Rattle.block_layouts.specs.MultiInsert.{multi_insert_tuples_of};
 ghost use Rattle.block_layouts.specs.Places.{places_from};
 ghost use Rattle.block_layouts.specs.Prune.{prune_places_of};
 ghost use Rattle.block_layouts.specs.Redirects.{redirect_at, redirects_from};
+ghost use Rattle.block_layouts.specs.Spelling.{CanWriteUpdate, SpellsPrune, update_bytes};
 ghost use Rattle.block_layouts.specs.Split.{SplitView, split_tuples_of};
 ghost use Rattle.block_layouts.specs.Tuple.{TupleView};
 ghost use Rattle.block_layouts.specs.Update.{UpdateView, update_tuple_of};
@@ -63,6 +65,20 @@ pub fn prunes_hold_their_bytes()
     ensures { (redirected dead : ℕ) (bytes : List ℕ) (places : PrunePlaces) →
         prune_places_of redirected dead bytes ≡ Some places →
         HoldsPrune redirected dead bytes places }
+{}
+
+/// The new tuple of an update is read exactly where the bytes are those that it is written as.
+pub fn updates_are_spelled()
+    ensures { (parts : OldParts) (bytes : List ℕ) (tuple : UpdateView) → AreBytes bytes →
+        (update_tuple_of parts bytes ≡ Some tuple)
+        ↔ (CanWriteUpdate parts tuple × (update_bytes parts tuple ≡ bytes)) }
+{}
+
+/// What a prune makes of lines is read exactly where the bytes spell it.
+pub fn prunes_are_spelled()
+    ensures { (redirected dead : ℕ) (bytes : List ℕ) (places : PrunePlaces) → AreBytes bytes →
+        (prune_places_of redirected dead bytes ≡ Some places)
+        ↔ SpellsPrune redirected dead bytes places }
 {}
 
 /// The tuples of a split are read exactly where the bytes begin with them, and they are index tuples.

@@ -17,8 +17,9 @@ mod update;
 pub use freeze::{FreezePlans, freeze_plans};
 pub use index_tuples::{IndexTuples, restored_tuples};
 pub use laws::{
-    inserted_tuples_are_the_bytes, places_stand, plans_stand, prunes_hold_their_bytes,
-    restored_tuples_are_the_bytes, splits_begin_the_bytes, updates_hold_their_bytes,
+    inserted_tuples_are_the_bytes, places_stand, plans_stand, prunes_are_spelled,
+    prunes_hold_their_bytes, restored_tuples_are_the_bytes, splits_begin_the_bytes,
+    updates_are_spelled, updates_hold_their_bytes,
 };
 pub use meta::{BtreeMeta, metapage};
 pub use multi_insert::{HeapTuples, multi_insert_tuples};
@@ -29,6 +30,3 @@ pub use redirects::{Redirect, Redirects};
 pub use split::{SplitTuples, split_tuples};
 pub use tuple::{HeapTuple, TupleHeader, insert_tuple};
 pub use update::{OldParts, UpdateTuple, update_tuple};
-
-#[cfg(test)]
-mod tests;

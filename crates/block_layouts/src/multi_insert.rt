@@ -7,6 +7,7 @@ ghost use Rattle.block_layouts.specs.MultiInsert.{even, multi_insert_tuples_of, 
 
 use crate::tuple::{HEADER_SIZE, HeapTuple, header_at};
 use layout::u16_at;
+use std::alloc::AllocError;
 use std::marker::Model;
 
 /// The bytes of a tuple's length and header (`SizeOfMultiInsertTuple`).
@@ -14,7 +15,7 @@ const FRONT_SIZE: usize = 2 + HEADER_SIZE;
 
 /// Heap tuples, which are read off the record's bytes one by one. Contracts see the list of those
 /// still to come.
-#[derive(Clone, Debug, Drop)]
+#[derive(Debug, Drop)]
 pub struct HeapTuples<'a> {
     bytes: &'a [u8],
     at: usize,
@@ -75,6 +76,23 @@ impl<'a> HeapTuples<'a> {
         ensures value { result ≡ length self.now }
     {
         self.left
+    }
+}
+
+/// A clone has the same still to come. It takes no memory, so it doesn't fail.
+impl<'a> Clone for HeapTuples<'a> {
+    ghost use Rattle.std.specs.Prelude.{◌≡◌, ⊤};
+
+    ghost is_clone = { λ old new. new ≡ old };
+
+    ghost is_infallible = { λ _. ⊤ };
+
+    fn clone(&self) -> Result<HeapTuples<'a>, AllocError> {
+        Ok(HeapTuples {
+            bytes: self.bytes,
+            at: self.at,
+            left: self.left,
+        })
     }
 }
 

@@ -5,6 +5,7 @@ ghost use Rattle.std.specs.Iterator.{YieldsFirst, item_count};
 ghost use Rattle.block_layouts.specs.Places.{first_places_of, places_from};
 
 use layout::u16_at;
+use std::alloc::AllocError;
 use std::marker::Model;
 
 /// The bytes of a place (`OffsetNumber`).
@@ -12,7 +13,7 @@ pub(crate) const PLACE_SIZE: usize = 2;
 
 /// Places of lines on a page, counted from 1 (`OffsetNumber`), which are read off the record's
 /// bytes one by one. Contracts see the list of those still to come.
-#[derive(Clone, Debug, Drop)]
+#[derive(Debug, Drop)]
 pub struct Places<'a> {
     bytes: &'a [u8],
     at: usize,
@@ -54,6 +55,23 @@ impl<'a> Places<'a> {
             return None;
         }
         Some(u16_at(self.bytes, self.at + PLACE_SIZE * at))
+    }
+}
+
+/// A clone has the same still to come. It takes no memory, so it doesn't fail.
+impl<'a> Clone for Places<'a> {
+    ghost use Rattle.std.specs.Prelude.{◌≡◌, ⊤};
+
+    ghost is_clone = { λ old new. new ≡ old };
+
+    ghost is_infallible = { λ _. ⊤ };
+
+    fn clone(&self) -> Result<Places<'a>, AllocError> {
+        Ok(Places {
+            bytes: self.bytes,
+            at: self.at,
+            left: self.left,
+        })
     }
 }
 

@@ -5,6 +5,7 @@ ghost use Rattle.std.specs.Iterator.{YieldsFirst, item_count};
 ghost use Rattle.block_layouts.specs.Redirects.{redirect_at, redirects_from};
 
 use layout::u16_at;
+use std::alloc::AllocError;
 use std::marker::Model;
 
 /// The bytes of a pair.
@@ -21,7 +22,7 @@ pub struct Redirect {
 
 /// Pairs of places, which are read off the record's bytes one by one. Contracts see the list of
 /// those still to come.
-#[derive(Clone, Debug, Drop)]
+#[derive(Debug, Drop)]
 pub struct Redirects<'a> {
     bytes: &'a [u8],
     at: usize,
@@ -75,6 +76,23 @@ impl<'a> Redirects<'a> {
             return None;
         }
         Some(pair_at(self.bytes, self.at + REDIRECT_SIZE * at))
+    }
+}
+
+/// A clone has the same still to come. It takes no memory, so it doesn't fail.
+impl<'a> Clone for Redirects<'a> {
+    ghost use Rattle.std.specs.Prelude.{◌≡◌, ⊤};
+
+    ghost is_clone = { λ old new. new ≡ old };
+
+    ghost is_infallible = { λ _. ⊤ };
+
+    fn clone(&self) -> Result<Redirects<'a>, AllocError> {
+        Ok(Redirects {
+            bytes: self.bytes,
+            at: self.at,
+            left: self.left,
+        })
     }
 }
 

@@ -8,6 +8,5 @@ pub mod OutcomeLemmas
 pub mod FillLemmas
 pub mod RiseLemmas
 pub mod OrderLemmas
-pub mod ValueLemmas
 pub mod WrittenHeads
 pub mod WrittenLemmas

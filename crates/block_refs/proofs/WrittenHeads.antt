@@ -1,15 +1,14 @@
 -- The header of a block that is written is read again.
 use Rattle.std.proofs.Common.{◌≡◌, ◌⊎◌, inl, inr, ℕ, ◌+◌, ◌-◌, ◌<◌, ◌≤◌, ◌^◌, Bool, true, false, ltb, List, [], ◌∷◌, ◌++◌, length, Option, Some, None, refl, sym, ap, ◌∙◌, arith, append_assoc, length-append}
 use Rattle.std.specs.Prelude.{◌↔◌, IfSome, bit_and, is_some}
-use Rattle.std.specs.List.{AllByRecursion, flat_map}
+use Rattle.std.specs.List.{AllByRecursion}
 use Rattle.std.proofs.lemmas.Bool.{le-ltb, lt-ltb, ltb-true}
 use Rattle.std.proofs.lemmas.Grind.{flat_map-append}
 use Rattle.layout.specs.declared.value.Value.{Value}
 use Rattle.layout.specs.declared.value.Value.TheVariants.{Byte, Half, Word}
 use Rattle.layout.specs.Readers.{u8_at, u16_at, u32_at, value_at}
-use Rattle.layout.specs.Values.{ValueFits, number as told, width}
+use Rattle.layout.specs.Values.{ValueFits, number as told}
 use Rattle.layout.specs.Writing.{value_bytes}
-use Rattle.layout.proofs.PutLemmas.{length-value_bytes}
 use Rattle.block_refs.specs.declared.block_ref.BlockRef.{BlockRef}
 use Rattle.block_refs.specs.declared.block_ref.ImageRef.{ImageRef}
 use Rattle.block_refs.specs.declared.names.Fork.{Fork}
@@ -20,20 +19,11 @@ use Rattle.block_refs.specs.Bits.{has_image, has_bytes, will_init, is_same_rel, 
 use Rattle.block_refs.specs.Header.{relation_at}
 use Rattle.block_refs.specs.Standing.{IsHole, IsImage, IsImageWidth, IsHead, image_as, head_of}
 use Rattle.block_refs.specs.Written.{Written, block_flags, image_bits, image_values, rel_values, flags_of, head_values, head_bytes, IsStored, CanWrite}
-use Rattle.block_refs.proofs.ValueLemmas.{value_in}
+use Rattle.layout_readers.proofs.RowLemmas.{length_row}
+use Rattle.layout_readers.proofs.ValueLemmas.{value_in}
+use Rattle.layout_readers.specs.Rows.{row_bytes as bytes_of, row_width as widths}
 
 -- ---- values in a row
-
-abbrev pub widths : List Value → ℕ
-widths [] = 0
-widths (v ∷ vs) = width v + widths vs
-
-abbrev pub bytes_of : List Value → List ℕ
-bytes_of vs = flat_map value_bytes vs
-
-pub length_row : (vs : List Value) → AllByRecursion ValueFits vs → length (bytes_of vs) ≡ widths vs
-length_row [] fits = refl
-length_row (v ∷ vs) fits = length-append (value_bytes v) (bytes_of vs) ∙ rw (length-value_bytes v fits.0, length_row vs fits.1) refl
 
 -- the value behind others in a row
 pub row_at : (front behind body : List ℕ) (vs : List Value) (v : Value) (ws : List Value) (at : ℕ) → body ≡ front ++ (bytes_of (vs ++ (v ∷ ws)) ++ behind) → AllByRecursion ValueFits vs → ValueFits v

@@ -22,7 +22,9 @@ use Rattle.block_refs.specs.Spelling.{AreHeaders, placed_in}
 use Rattle.block_refs.specs.Written.{Written, flags_of, main_values, head_bytes, data_bytes, body_bytes, CanWrite, CanWriteAll, placed_from, heads_size, written_parts}
 use Rattle.block_refs.specs.Bytes.{main_bytes, placed_bytes, stored_image}
 use Rattle.block_refs.proofs.PartsLemmas.{parts_are}
-use Rattle.block_refs.proofs.WrittenHeads.{bytes_of, length_row, row_at, says, image_room, There, there_is, kept_of, head_is, head_fits, head_size, stored_size}
+use Rattle.layout_readers.proofs.RowLemmas.{length_row}
+use Rattle.layout_readers.specs.Rows.{row_bytes as bytes_of}
+use Rattle.block_refs.proofs.WrittenHeads.{row_at, says, image_room, There, there_is, kept_of, head_is, head_fits, head_size, stored_size}
 
 -- headers that were laid, from what was seen on
 record Laid (body : List ℕ) (seen : Seen) (blocks : List Written) (main : List ℕ) : Type 0 where

@@ -4,7 +4,7 @@ use Rattle.std.specs.Prelude.{◌≡◌, ◌⊎◌, ℕ, ◌+◌, ◌-◌, ◌==
 use Rattle.std.specs.List.{flat_map}
 use Rattle.layout.specs.declared.value.Value.{Value}
 use Rattle.layout.specs.declared.value.Value.TheVariants.{Byte, Half, Word}
-use Rattle.layout.specs.Writing.{value_bytes}
+use Rattle.layout_readers.specs.Rows.{row_bytes}
 use Rattle.block_refs.specs.declared.block_ref.BlockRef.{BlockRef}
 use Rattle.block_refs.specs.declared.block_ref.ImageRef.{ImageRef}
 use Rattle.block_refs.specs.declared.names.Fork.{Fork}
@@ -55,7 +55,7 @@ main_values size =
 
 -- the headers of blocks, and behind all headers their images and bytes
 abbrev pub head_bytes : Written → List ℕ
-head_bytes w = flat_map value_bytes (head_values w)
+head_bytes w = row_bytes (head_values w)
 
 abbrev pub data_bytes : Written → List ℕ
 data_bytes w = w.image ++ w.bytes
@@ -64,7 +64,7 @@ data_bytes w = w.image ++ w.bytes
 abbrev pub body_bytes : List Written → List ℕ → List ℕ
 body_bytes blocks main =
     flat_map head_bytes blocks
-    ++ (flat_map value_bytes (main_values (length main)) ++ (flat_map data_bytes blocks ++ main))
+    ++ (row_bytes (main_values (length main)) ++ (flat_map data_bytes blocks ++ main))
 
 -- an image that can be written: a page less its hole, which lies behind the page's first byte or is none
 abbrev pub IsStored : Option ImageRef → List ℕ → Type 0
@@ -99,7 +99,7 @@ placed_from at (w ∷ ws) =
 -- the parts of that body
 abbrev pub heads_size : List Written → List ℕ → ℕ
 heads_size blocks main =
-    length (flat_map head_bytes blocks) + length (flat_map value_bytes (main_values (length main)))
+    length (flat_map head_bytes blocks) + length (row_bytes (main_values (length main)))
 
 abbrev pub written_parts : List Written → List ℕ → PartsView
 written_parts blocks main = record {

@@ -24,6 +24,3 @@ pub use names::{BlockName, Fork, RelName};
 pub use page::image_page;
 pub use parts::Parts;
 pub use split::{split_into, split_record};
-
-#[cfg(test)]
-mod tests;

@@ -1,5 +1,5 @@
 -- The dropped relations of an end that is whole are those that are read off a cut one.
-use Rattle.std.proofs.Common.{◌≡◌, ℕ, Bool, true, false, cond, List, [], Option, Some, None, refl, sym, ap, ◌∙◌}
+use Rattle.std.proofs.Common.{◌≡◌, ℕ, Bool, true, false, cond, List, [], Option, Some, None, ap, ◌∙◌}
 use Rattle.std.specs.Prelude.{ℤ}
 use Rattle.layout.specs.Readers.{u32_at}
 use Rattle.block_refs.specs.Bits.{has_bits}

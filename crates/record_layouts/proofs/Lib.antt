@@ -4,3 +4,4 @@ pub mod EndLemmas
 pub mod NumberLemmas
 pub mod PrefixLemmas
 pub mod DroppedLemmas
+pub mod HeapSpellingLemmas

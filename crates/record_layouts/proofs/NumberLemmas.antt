@@ -1,5 +1,5 @@
 -- Operations are told by their numbers.
-use Rattle.std.proofs.Common.{◌≡◌, ℕ, zero, suc, ◌+◌, ◌<◌, ◌≤◌, Bool, true, false, cond, eqb, ◌&&◌, List, refl, sym, ◌∙◌, arith}
+use Rattle.std.proofs.Common.{◌≡◌, ℕ, zero, suc, ◌+◌, ◌<◌, ◌≤◌, Bool, true, false, cond, eqb, refl, sym, ◌∙◌, arith}
 use Rattle.std.specs.Prelude.{bit_and}
 use Rattle.std.specs.List.{list_all, range_with_len}
 use Rattle.std.proofs.lemmas.Bool.{and_parts, eqb-true}
@@ -26,9 +26,7 @@ use Rattle.record_layouts.specs.declared.relmap.RelMapOp.TheVariants as relmap
 use Rattle.record_layouts.specs.RelMap.{relmap_number, relmap_op_of, relmap_op_numbered}
 use Rattle.record_layouts.specs.declared.standby.StandbyOp.TheVariants as standby
 use Rattle.record_layouts.specs.Standby.{standby_number, standby_op_of, standby_op_numbered}
-use Rattle.record_layouts.specs.declared.heap2.Heap2Op.TheVariants as heap2
 use Rattle.record_layouts.specs.Heap2.{heap2_number, heap2_op_of}
-use Rattle.record_layouts.specs.declared.heap.HeapOp.TheVariants as heap
 use Rattle.record_layouts.specs.Heap.{heap_number, heap_op_of}
 use Rattle.record_layouts.specs.declared.btree.BtreeOp.TheVariants as btree
 use Rattle.record_layouts.specs.Btree.{btree_number, btree_op_of, btree_op_numbered}

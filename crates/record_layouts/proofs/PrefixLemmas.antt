@@ -1,46 +1,31 @@
 -- What is there of a layout is what the whole layout has.
-use Rattle.std.proofs.Common.{◌≡◌, ℕ, ◌+◌, ◌*◌, ◌/◌, ◌<◌, ◌≤◌, Bool, true, false, cond, ltb, List, [], length, Option, Some, None, refl, sym, ap, subst, ◌∙◌, arith}
-use Rattle.std.specs.Prelude.{slice_get, slice_index, min, option_map}
+use Rattle.std.proofs.Common.{◌≡◌, ℕ, ◌*◌, ◌/◌, ◌<◌, ◌≤◌, Bool, true, false, cond, ltb, List, [], length, Option, Some, None, refl, ap, subst, ◌∙◌, arith}
+use Rattle.std.specs.Prelude.{min, option_map}
 use Rattle.std.proofs.lemmas.Bool.{ltb-false, le-ltb}
 use Rattle.std.proofs.Math.Nat.{min-eq_left}
 use Rattle.std.proofs.lemmas.Option.{slice_get-get_or}
 use Rattle.control_file.specs.declared.checkpoint.Checkpoint.{Checkpoint}
 use Rattle.control_file.specs.Reading.{checkpoint_of, checkpoint_at}
 use Rattle.block_refs.specs.declared.names.Fork.{Fork}
-use Rattle.block_refs.specs.declared.names.RelName.{RelName}
 use Rattle.block_refs.specs.Names.{fork_of}
 use Rattle.layout.specs.Readers.{u8_at, u32_at}
 use Rattle.record_layouts.specs.declared.bytes.Read.{Read}
 use Rattle.record_layouts.specs.declared.database.DatabaseCreate.{DatabaseCreate}
 use Rattle.record_layouts.specs.declared.database.DatabaseDrop.{DatabaseDrop}
 use Rattle.record_layouts.specs.declared.database.DatabaseDropPrefix.{DatabaseDropPrefix}
-use Rattle.record_layouts.specs.declared.end.TransactionEnd.{TransactionEnd}
-use Rattle.record_layouts.specs.declared.end_parts.Outcome.{Outcome}
 use Rattle.record_layouts.specs.declared.storage.StorageCreate.{StorageCreate}
 use Rattle.record_layouts.specs.declared.storage.StorageTruncate.{StorageTruncate}
 use Rattle.record_layouts.specs.declared.xlog.ParameterChange.{ParameterChange}
-use Rattle.block_refs.specs.Bits.{has_bits}
-use Rattle.record_layouts.specs.Fields.{whole, byte_if, given, given_or, taken, count, word, signed, relation}
-use Rattle.record_layouts.specs.Items.{items, item_list, item_prefix, stats_item}
+use Rattle.layout_readers.specs.Whole.{whole}
+use Rattle.layout_readers.proofs.WholeLemmas.{whole_is}
+use Rattle.record_layouts.specs.Fields.{byte_if, given, given_or, taken, count, word}
+use Rattle.record_layouts.specs.Items.{items, item_list, item_prefix}
 use Rattle.record_layouts.specs.EndParts.{part}
-use Rattle.record_layouts.specs.End.{relations_behind}
 use Rattle.record_layouts.specs.Database.{database_create_of, create_prefix_of, database_drop_of, drop_prefix_of}
 use Rattle.record_layouts.specs.Storage.{storage_create_of, storage_create_with, storage_truncate_of, created_name_of, cut_name_of}
 use Rattle.record_layouts.specs.Xlog.{parameter_change_of}
 use Rattle.record_layouts.specs.XlogPrefixes.{checkpoint_prefix_of, parameter_prefix_of}
 use Rattle.record_layouts.specs.PrefixLaws.{checkpoint_there, created_there, dropped_there, parameters_there}
-
--- a layout that is whole has its bytes
-record Whole {A : Type 0} (size : ℕ) (bytes : List ℕ) (value found : A) : Type 0 where
-  room : size ≤ length bytes
-  same : value ≡ found
-
-whole_is : {A : Type 0} (size : ℕ) (bytes : List ℕ) (value found : A) → whole size bytes value ≡ Some found → Whole size bytes value found
-whole_is size bytes value found e = by (ltb (length bytes) size) refl e
-  where
-    by : (b : Bool) → ltb (length bytes) size ≡ b → cond b None (Some value) ≡ Some found → Whole size bytes value found
-    by true h e = absurd cc
-    by false h e = record { room = ltb-false _ _ h; same = cc }
 
 there : {A : Type 0} (size at : ℕ) (bytes : List ℕ) (value : A) → size ≤ length bytes → at ≤ size → whole at bytes value ≡ Some value
 there size at bytes value room low = rw (le-ltb (length bytes) at (omega (arith, room, low))) refl

@@ -1,19 +1,18 @@
 -- What a server writes is read again, part by part.
-use Rattle.std.proofs.Common.{true, ◌≡◌, ◌<◌, ◌≤◌, ◌+◌, ◌*◌, ◌^◌, ◌++◌, ℕ, List, [], ◌∷◌, length, map, Some, refl, ◌∙◌, ap, sym, arith, append_assoc, length-append, get_or, ◌-◌, add_comm, add-one}
+use Rattle.std.proofs.Common.{true, ◌≡◌, ◌<◌, ◌≤◌, ◌+◌, ◌*◌, ◌^◌, ◌++◌, ℕ, List, [], ◌∷◌, length, map, Some, refl, ◌∙◌, ap, sym, arith, append_assoc, length-append, add_comm, add-one}
 use Rattle.std.specs.Prelude.{ℤ, pos, nat_lt}
 use Rattle.std.specs.List.{AllByRecursion, flat_map, range_with_len}
 use Rattle.std.proofs.Math.Nat.{mul-suc, mul-zero}
 use Rattle.std.proofs.lemmas.Bool.{le-ltb}
 use Rattle.std.proofs.lemmas.List.{drop_at}
-use Rattle.std.proofs.lemmas.List.{get_or_append_left, get_or-append_right}
 use Rattle.std.proofs.lemmas.Bool.Decides.{nat_tests}
 use Rattle.layout.specs.declared.value.Value.{Value}
 use Rattle.layout.specs.declared.value.Value.TheVariants.{Byte, Half, Word, Long, Signed, Raw}
-use Rattle.layout.specs.Readers.{u32_at, u64_at, i64_at, value_at}
-use Rattle.layout.specs.Values.{ValueFits, number, width}
+use Rattle.layout.specs.Readers.{u32_at, u64_at, i64_at}
+use Rattle.layout.specs.Values.{ValueFits, number}
 use Rattle.layout.specs.Writing.{value_bytes}
 use Rattle.layout.proofs.PutLemmas.{length-value_bytes}
-use Rattle.block_refs.proofs.ValueLemmas.{value_in}
+use Rattle.layout_readers.proofs.ValueLemmas.{value_in}
 use Rattle.record_layouts.specs.Fields.{taken, word, long, signed, count}
 use Rattle.record_layouts.specs.Items.{items, item_list}
 use Rattle.record_layouts.specs.Spelling.{word_bytes, list_bytes}

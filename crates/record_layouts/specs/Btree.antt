@@ -1,7 +1,7 @@
 -- The manager Btree: PostgreSQL 16, src/include/access/nbtxlog.h.
 use Rattle.std.specs.Prelude.{ℕ, List, ◌==◌, bit_and, if◌then◌else◌, Option, slice_get, Bool, true, is_some}
 use Rattle.layout.specs.Readers.{u16_at, u32_at}
-use Rattle.record_layouts.specs.Fields.{whole}
+use Rattle.layout_readers.specs.Whole.{whole}
 use Rattle.record_layouts.specs.declared.btree.BtreeOp.{BtreeOp}
 use Rattle.record_layouts.specs.declared.btree.BtreeOp.TheVariants as op
 use Rattle.record_layouts.specs.declared.btree.BtreeInsert.{BtreeInsert}

@@ -1,7 +1,7 @@
 -- The manager CLOG: PostgreSQL 16, src/include/access/clog.h.
 use Rattle.std.specs.Prelude.{ℕ, List, ◌==◌, bit_and, if◌then◌else◌, Option, Bool, true, is_some}
 use Rattle.layout.specs.Readers.{u32_at}
-use Rattle.record_layouts.specs.Fields.{whole}
+use Rattle.layout_readers.specs.Whole.{whole}
 use Rattle.record_layouts.specs.declared.clog.ClogOp.{ClogOp}
 use Rattle.record_layouts.specs.declared.clog.ClogOp.TheVariants as op
 use Rattle.record_layouts.specs.declared.clog.ClogZeroPage.{ClogZeroPage}

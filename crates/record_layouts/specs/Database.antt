@@ -1,7 +1,8 @@
 -- The manager Database: PostgreSQL 16, src/include/commands/dbcommands_xlog.h.
 use Rattle.std.specs.Prelude.{ℕ, List, ◌==◌, bit_and, if◌then◌else◌, Option, None, Some, [], Bool, true, is_some}
 use Rattle.layout.specs.Readers.{u32_at}
-use Rattle.record_layouts.specs.Fields.{whole, word_if, given, given_or, word}
+use Rattle.layout_readers.specs.Whole.{whole}
+use Rattle.record_layouts.specs.Fields.{word_if, given, given_or, word}
 use Rattle.record_layouts.specs.Items.{item_list, item_prefix}
 use Rattle.record_layouts.specs.declared.database.DatabaseDrop.{DatabaseDrop}
 use Rattle.record_layouts.specs.declared.database.DatabaseCreatePrefix.{DatabaseCreatePrefix}

@@ -1,16 +1,13 @@
--- Fields of main bytes, at an offset or from the front. Own: which bytes make a layout whole is told by docs/FORMATS.md.
-use Rattle.std.specs.Prelude.{ℕ, ◌+◌, ◌==◌, ℤ, Bool, List, length, take, drop, slice_get, Option, Some, None, nat_lt, option_and_then, if◌then◌else◌}
+-- Fields of main bytes, at an offset or from the front.
+use Rattle.std.specs.Prelude.{ℕ, ◌+◌, ◌==◌, ℤ, Bool, List, take, drop, slice_get, Option, Some, None, nat_lt, option_and_then, if◌then◌else◌}
 use Rattle.std.specs.Int.{w32, cast_signed}
 use Rattle.std.specs.List.{position}
 use Rattle.wal_base.specs.declared.lsn.Lsn.{Lsn}
 use Rattle.layout.specs.Readers.{u32_at, u64_at, i64_at}
 use Rattle.block_refs.specs.declared.names.RelName.{RelName}
 use Rattle.block_refs.specs.Header.{relation_at}
+use Rattle.layout_readers.specs.Whole.{whole}
 use Rattle.record_layouts.specs.declared.bytes.Read.{Read}
-
--- a value whose bytes are so many, where they are there
-abbrev pub whole : {A : Type 0} → ℕ → List ℕ → A → Option A
-whole size bytes value = if nat_lt (length bytes) size then None else Some value
 
 -- at an offset: a signed number of four bytes, a position of the log, a relation
 unfoldable pub int_at : ℕ → List ℕ → ℤ

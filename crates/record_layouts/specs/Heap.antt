@@ -1,7 +1,7 @@
 -- The manager Heap: PostgreSQL 16, src/include/access/heapam_xlog.h.
 use Rattle.std.specs.Prelude.{ℕ, List, ◌==◌, bit_and, if◌then◌else◌, Option, Bool, is_some}
 use Rattle.layout.specs.Readers.{u8_at, u16_at, u32_at}
-use Rattle.record_layouts.specs.Fields.{whole}
+use Rattle.layout_readers.specs.Whole.{whole}
 use Rattle.block_refs.specs.Bits.{has_bits}
 use Rattle.record_layouts.specs.declared.heap.HeapOp.{HeapOp}
 use Rattle.record_layouts.specs.declared.heap.HeapOp.TheVariants as op

@@ -1,7 +1,7 @@
 -- The manager Heap2: PostgreSQL 16, src/include/access/heapam_xlog.h.
 use Rattle.std.specs.Prelude.{ℕ, List, ◌==◌, bit_and, if◌then◌else◌, Option, slice_get, Bool, nat_lt, length, drop, None, option_map, true, is_some}
 use Rattle.layout.specs.Readers.{u8_at, u16_at, u32_at}
-use Rattle.record_layouts.specs.Fields.{whole}
+use Rattle.layout_readers.specs.Whole.{whole}
 use Rattle.block_refs.specs.Bits.{has_bits}
 use Rattle.record_layouts.specs.Heap.{heap_lock_of}
 use Rattle.record_layouts.specs.Items.{places_of}
@@ -42,7 +42,7 @@ heap2_number op.NewCid = 0x70
 
 -- MULTI_INSERT: xl_heap_multi_insert, flags, an unused byte, the number of tuples, and their places
 abbrev pub multi_insert_with : List ℕ → List ℕ → HeapMultiInsert
-multi_insert_with bytes places = record { flags = u8_at 0 bytes; places = places }
+multi_insert_with bytes places = record { flags = u8_at 0 bytes; ntuples = u16_at 2 bytes; places = places }
 
 abbrev pub multi_insert_of : Bool → List ℕ → Option HeapMultiInsert
 multi_insert_of init bytes =

@@ -6,7 +6,8 @@ use Rattle.record_layouts.specs.declared.bytes.Read.{Read}
 use Rattle.record_layouts.specs.declared.kinds.Member.{Member}
 use Rattle.record_layouts.specs.declared.kinds.Message.{Message}
 use Rattle.record_layouts.specs.declared.kinds.StatsItem.{StatsItem}
-use Rattle.record_layouts.specs.Fields.{count, given, given_or, taken, whole}
+use Rattle.layout_readers.specs.Whole.{whole}
+use Rattle.record_layouts.specs.Fields.{count, given, given_or, taken}
 
 -- so many items from the front of some bytes
 abbrev pub items : {A : Type 0} → ℕ → (ℕ → List ℕ → A) → ℕ → List ℕ → List A

@@ -19,3 +19,4 @@ pub mod Btree
 pub mod Sequence
 pub mod Spelling
 pub mod PrefixLaws
+pub mod HeapSpelling

@@ -1,7 +1,8 @@
 -- The manager MultiXact: PostgreSQL 16, src/include/access/multixact.h.
 use Rattle.std.specs.Prelude.{ℕ, List, ◌==◌, bit_and, if◌then◌else◌, Option, Some, Bool, true, is_some}
 use Rattle.layout.specs.Readers.{u32_at}
-use Rattle.record_layouts.specs.Fields.{whole, given, word}
+use Rattle.layout_readers.specs.Whole.{whole}
+use Rattle.record_layouts.specs.Fields.{given, word}
 use Rattle.record_layouts.specs.Items.{item_list, member}
 use Rattle.record_layouts.specs.declared.multixact.MultiXactCreate.{MultiXactCreate}
 use Rattle.record_layouts.specs.declared.multixact.MultiXactOp.{MultiXactOp}

@@ -1,6 +1,7 @@
 -- The manager Sequence: PostgreSQL 16, src/include/commands/sequence.h.
 use Rattle.std.specs.Prelude.{ℕ, List, ◌==◌, bit_and, if◌then◌else◌, Option, drop, Bool, true, is_some}
-use Rattle.record_layouts.specs.Fields.{relation, whole}
+use Rattle.layout_readers.specs.Whole.{whole}
+use Rattle.record_layouts.specs.Fields.{relation}
 use Rattle.record_layouts.specs.declared.sequence.SequenceLog.{SequenceLog}
 use Rattle.record_layouts.specs.declared.sequence.SequenceOp.{SequenceOp}
 use Rattle.record_layouts.specs.declared.sequence.SequenceOp.TheVariants as op

@@ -1,7 +1,8 @@
 -- The manager Standby: PostgreSQL 16, src/include/storage/standbydefs.h.
 use Rattle.std.specs.Prelude.{ℕ, List, ◌==◌, bit_and, if◌then◌else◌, Option, Bool, true, is_some}
 use Rattle.layout.specs.Readers.{u8_at, u32_at}
-use Rattle.record_layouts.specs.Fields.{int_at, whole}
+use Rattle.layout_readers.specs.Whole.{whole}
+use Rattle.record_layouts.specs.Fields.{int_at}
 use Rattle.record_layouts.specs.declared.standby.StandbyOp.{StandbyOp}
 use Rattle.record_layouts.specs.declared.standby.StandbyOp.TheVariants as op
 use Rattle.record_layouts.specs.declared.standby.RunningXacts.{RunningXacts}

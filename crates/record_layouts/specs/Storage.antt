@@ -1,7 +1,8 @@
 -- The manager Storage: PostgreSQL 16, src/include/catalog/storage_xlog.h.
 use Rattle.std.specs.Prelude.{ℕ, List, ◌==◌, bit_and, if◌then◌else◌, Option, nat_lt, length, None, option_map, Bool, true, is_some}
 use Rattle.layout.specs.Readers.{u32_at}
-use Rattle.record_layouts.specs.Fields.{relation, whole, relation_if}
+use Rattle.layout_readers.specs.Whole.{whole}
+use Rattle.record_layouts.specs.Fields.{relation, relation_if}
 use Rattle.block_refs.specs.Names.{fork_of}
 use Rattle.block_refs.specs.declared.names.Fork.{Fork}
 use Rattle.block_refs.specs.declared.names.RelName.{RelName}

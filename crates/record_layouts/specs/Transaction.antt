@@ -1,7 +1,7 @@
 -- The manager Transaction: PostgreSQL 16, src/include/access/xact.h.
 use Rattle.std.specs.Prelude.{ℕ, List, ◌==◌, bit_and, if◌then◌else◌, Option, Bool, true, false, is_some}
 use Rattle.layout.specs.Readers.{u32_at}
-use Rattle.record_layouts.specs.Fields.{whole}
+use Rattle.layout_readers.specs.Whole.{whole}
 use Rattle.block_refs.specs.Bits.{has_bits}
 use Rattle.record_layouts.specs.End.{end_of}
 use Rattle.record_layouts.specs.declared.end_parts.Outcome.{Outcome}

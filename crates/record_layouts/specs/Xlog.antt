@@ -2,7 +2,8 @@
 use Rattle.std.specs.Prelude.{ℕ, List, ◌==◌, bit_and, if◌then◌else◌, Option, slice_range, Bool, true, is_some}
 use Rattle.layout.specs.Readers.{u8_at, u32_at, i64_at}
 use Rattle.control_file.specs.Reading.{checkpoint_of}
-use Rattle.record_layouts.specs.Fields.{int_at, lsn_at, whole}
+use Rattle.layout_readers.specs.Whole.{whole}
+use Rattle.record_layouts.specs.Fields.{int_at, lsn_at}
 use Rattle.record_layouts.specs.declared.xlog.RestorePoint.{RestorePoint}
 use Rattle.record_layouts.specs.declared.xlog.XlogOp.{XlogOp}
 use Rattle.record_layouts.specs.declared.xlog.XlogOp.TheVariants as op

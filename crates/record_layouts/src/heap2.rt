@@ -1,6 +1,6 @@
 //! Operations of the manager Heap2, and their layouts.
 
-ghost use Rattle.std.specs.Prelude.{◌≡◌};
+ghost use Rattle.std.specs.Prelude.{◌≡◌, IfSome, length};
 ghost use Rattle.record_layouts.specs.Heap2.{heap_prune_of, heap_vacuum_of, heap_freeze_page_of, heap_visible_of, heap2_op_of, multi_insert_of, heap2_number, heap2_is_whole};
 
 use crate::heap::HeapLock;
@@ -89,7 +89,9 @@ impl Heap2Op {
 pub struct HeapMultiInsert<'a> {
     /// Flags, `XLH_INSERT_..`.
     pub flags: u8,
-    /// The places of the tuples, from 1. On a page that is made anew they are 1, 2 and so on, and the
+    /// How many tuples there are.
+    pub ntuples: u16,
+    /// The places of the tuples, from 1, as many as there are tuples. On a page that is made anew they are 1, 2 and so on, and the
     /// record leaves them out.
     pub places: Places<'a>,
 }
@@ -98,15 +100,20 @@ impl<'a> HeapMultiInsert<'a> {
     /// The layout at the front of the main bytes of a record whose operation has this `init`, or
     /// `None` where it isn't whole.
     pub fn read(init: bool, bytes: &'a [u8]) -> Option<HeapMultiInsert<'a>>
-        ensures { result ≡ multi_insert_of init bytes.now }
+        ensures value { result ≡ multi_insert_of init bytes.now }
+        ensures places { IfSome result (λ insert. length insert.places ≡ insert.ntuples) }
     {
         if bytes.len() < 4 {
             return None;
         }
         let flags = u8_at(bytes, 0);
-        let count = u16_at(bytes, 2);
-        let places = Places::read(init, count, &bytes[4..])?;
-        Some(HeapMultiInsert { flags, places })
+        let ntuples = u16_at(bytes, 2);
+        let places = Places::read(init, ntuples, &bytes[4..])?;
+        Some(HeapMultiInsert {
+            flags,
+            ntuples,
+            places,
+        })
     }
 }
 

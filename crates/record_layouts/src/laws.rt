@@ -1,17 +1,23 @@
 //! Laws: what holds of the definitions, whatever calls them.
 
-ghost use Rattle.std.specs.Prelude.{true, ◌≡◌, ◌<◌, ℕ, Bool, List, Some};
+ghost use Rattle.std.specs.Prelude.{true, ◌≡◌, ◌<◌, ◌++◌, ℕ, Bool, List, Some, take};
+ghost use Rattle.layout_readers.specs.Rows.{AllFit, AreBytes, row_bytes};
 ghost use Rattle.control_file.specs.declared.checkpoint.Checkpoint.{Checkpoint};
 ghost use Rattle.control_file.specs.Reading.{checkpoint_of};
 ghost use Rattle.record_layouts.specs.declared.database.DatabaseCreate.{DatabaseCreate};
 ghost use Rattle.record_layouts.specs.declared.database.DatabaseDrop.{DatabaseDrop};
 ghost use Rattle.record_layouts.specs.declared.end.TransactionEnd.{TransactionEnd};
 ghost use Rattle.record_layouts.specs.declared.end_parts.Outcome.{Outcome};
+ghost use Rattle.record_layouts.specs.declared.heap.HeapUpdate.{HeapUpdate};
+ghost use Rattle.record_layouts.specs.declared.heap2.HeapPrune.{HeapPrune};
 ghost use Rattle.record_layouts.specs.declared.storage.StorageCreate.{StorageCreate};
 ghost use Rattle.record_layouts.specs.declared.storage.StorageTruncate.{StorageTruncate};
 ghost use Rattle.record_layouts.specs.declared.xlog.ParameterChange.{ParameterChange};
 ghost use Rattle.record_layouts.specs.Database.{create_prefix_of, database_create_of, database_drop_of, drop_prefix_of};
 ghost use Rattle.record_layouts.specs.End.{dropped_prefix_of, end_of};
+ghost use Rattle.record_layouts.specs.Heap.{heap_update_of};
+ghost use Rattle.record_layouts.specs.Heap2.{heap_prune_of};
+ghost use Rattle.record_layouts.specs.HeapSpelling.{MayFollow, prune_values, update_values};
 ghost use Rattle.record_layouts.specs.Operation.{manager_of, number_of, numbered, operation_of};
 ghost use Rattle.record_layouts.specs.PrefixLaws.{checkpoint_there, created_there, dropped_there, parameters_there};
 ghost use Rattle.record_layouts.specs.Spelling.{IsEnd, end_then};
@@ -52,4 +58,26 @@ pub fn prefixes_are_of_their_layouts()
         dropped_prefix_of has_xinfo bytes ≡ end.dropped }
     ensures cut { (bytes : List ℕ) (cut : StorageTruncate) → storage_truncate_of bytes ≡ Some cut →
         cut_name_of bytes ≡ Some cut.rel }
+{}
+
+/// The main bytes of an UPDATE that are spelled are read, whatever stands behind them; and what is
+/// read was spelled so.
+pub fn updates_are_spelled()
+    ensures read { (update : HeapUpdate) (rest : List ℕ) → AllFit (update_values update) →
+        heap_update_of (row_bytes (update_values update) ++ rest) ≡ Some update }
+    ensures fit { (update : HeapUpdate) (bytes : List ℕ) → AreBytes bytes →
+        heap_update_of bytes ≡ Some update → AllFit (update_values update) }
+    ensures spelled { (update : HeapUpdate) (bytes : List ℕ) → AreBytes bytes →
+        heap_update_of bytes ≡ Some update → row_bytes (update_values update) ≡ take 14 bytes }
+{}
+
+/// The same of a PRUNE, with or without its last byte.
+pub fn prunes_are_spelled()
+    ensures read { (prune : HeapPrune) (rest : List ℕ) → AllFit (prune_values prune) →
+        MayFollow prune.catalog rest →
+        heap_prune_of (row_bytes (prune_values prune) ++ rest) ≡ Some prune }
+    ensures fit { (prune : HeapPrune) (bytes : List ℕ) → AreBytes bytes →
+        heap_prune_of bytes ≡ Some prune → AllFit (prune_values prune) }
+    ensures spelled { (prune : HeapPrune) (bytes : List ℕ) → AreBytes bytes →
+        heap_prune_of bytes ≡ Some prune → row_bytes (prune_values prune) ≡ take 9 bytes }
 {}

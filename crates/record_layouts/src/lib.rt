@@ -43,7 +43,10 @@ pub use heap::{
 pub use heap2::{Heap2Op, HeapFreezePage, HeapMultiInsert, HeapPrune, HeapVacuum, HeapVisible};
 pub use items::{Item, Items};
 pub use kinds::{Member, Message, StatsItem};
-pub use laws::{ends_are_read_again, operations_have_their_numbers, prefixes_are_of_their_layouts};
+pub use laws::{
+    ends_are_read_again, operations_have_their_numbers, prefixes_are_of_their_layouts,
+    prunes_are_spelled, updates_are_spelled,
+};
 pub use multixact::{MultiXactCreate, MultiXactOp, MultiXactTruncate, MultiXactZeroPage};
 pub use operation::Operation;
 pub use places::Places;
@@ -58,6 +61,3 @@ pub use xlog::{
     RestorePoint, XlogOp,
 };
 pub use xlog_prefixes::{CheckpointPrefix, ParameterPrefix};
-
-#[cfg(test)]
-mod tests;

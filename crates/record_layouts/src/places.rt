@@ -1,6 +1,6 @@
 //! The places of tuples on a page.
 
-ghost use Rattle.std.specs.Prelude.{◌≡◌, length, slice_get};
+ghost use Rattle.std.specs.Prelude.{◌≡◌, IfSome, length, slice_get};
 ghost use Rattle.record_layouts.specs.Items.{places_of};
 
 use layout::u16_at;
@@ -27,8 +27,10 @@ impl<'a> Model for Places<'a> {
 
 impl<'a> Places<'a> {
     /// So many places: 1, 2 and so on where they are `in_turn`, else those at the front of some bytes.
+    #[tactic(auto, using(crate::proofs::ItemLemmas::length_places))]
     pub(crate) fn read(in_turn: bool, count: u16, bytes: &'a [u8]) -> Option<Places<'a>>
-        ensures { result ≡ places_of in_turn count bytes.now }
+        ensures value { result ≡ places_of in_turn count bytes.now }
+        ensures count { IfSome result (λ places. length places ≡ count) }
     {
         if !in_turn && bytes.len() < 2 * usize::from(count) {
             return None;

@@ -1,4 +1,4 @@
--- What makes a layout whole.
+-- What makes a layout whole. Own: which bytes make a layout whole is told by docs/FORMATS.md.
 use Rattle.std.specs.Prelude.{ℕ, List, length, Option, Some, None, nat_lt, if◌then◌else◌}
 
 -- a value whose bytes are so many, where they are there

@@ -1,0 +1,4 @@
+pub mod WholeLemmas
+pub mod ValueLemmas
+pub mod SpelledLemmas
+pub mod RowLemmas
