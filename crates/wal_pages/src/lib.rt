@@ -19,6 +19,3 @@ pub use header::{
 };
 pub use laws::{page_laws, pages_are_of_files};
 pub use log_path::LogPath;
-
-#[cfg(test)]
-mod tests;

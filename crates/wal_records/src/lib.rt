@@ -40,6 +40,3 @@ pub use writer_laws::{
     written_end_is_read, written_log_is_read, written_log_is_read_back, written_record_is_read,
     written_records_are_read,
 };
-
-#[cfg(test)]
-mod tests;

@@ -19,6 +19,3 @@ pub use dumped::Dumped;
 pub use fault::DumpFault;
 pub use selection::Selection;
 pub use walk::dump;
-
-#[cfg(test)]
-mod tests;

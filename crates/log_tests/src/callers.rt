@@ -1,0 +1,93 @@
+// Callers whose proofs show that the clauses are enough: what was given so far and what is to come
+// are the valid log, reading ends by a measure, and what was written is read back.
+ghost use Rattle.std.specs.Prelude.{◌≡◌, ◌≤◌, ◌++◌, None, List, map, length, IsTrue, IfOk};
+ghost use Rattle.wal_base.specs.Segment.{bytes_of};
+ghost use Rattle.wal_records.specs.Cursor.{to_come};
+ghost use Rattle.wal_records.specs.Place.{place_at};
+ghost use Rattle.wal_records.specs.Writer.{NewRecord, in_pages};
+ghost use Rattle.wal_records.specs.Stored.{Wrote, IsPathOf, IsStored, end_why};
+
+use crate::logs::{FIRST, SYSTEM, path_of};
+use crate::written::{log_of, tree_with};
+use cluster_tree::{FailPlan, FailingTree, Tree};
+use std::alloc::Global;
+use std::test::*;
+use wal_base::{Lsn, Spans};
+use wal_pages::LogPath;
+use wal_records::{LogFault, LogWriter, RecordCursor, Step, Why, written_log_is_read_back};
+
+/// Adds the transaction of each record that is still to come, and tells the place of the end and
+/// why.
+fn xids_of<F: Tree>(
+    cursor: &mut RecordCursor,
+    tree: &mut F,
+    xids: &mut Vec<u32>,
+) -> Result<(u64, Why), LogFault>
+    requires opened { cursor.old.ended ≡ None }
+    ensures xids { IsTrue F.tells → IfOk result (λ e. xids.new.items ≡ xids.old.items
+        ++ map (λ r. r.header.xid) (to_come cursor.old (F.contents tree.old)).records) }
+    ensures place { IsTrue F.tells → IfOk result (λ e.
+        (to_come cursor.old (F.contents tree.old)).place ≡ e.0) }
+    ensures why { IsTrue F.tells → IfOk result (λ e.
+        (to_come cursor.old (F.contents tree.old)).why ≡ e.1) }
+{
+    'records: loop {
+        match cursor.next(tree)? {
+            Step::End(place, why) => return Ok((place.0, why)),
+            Step::Record => {}
+        }
+        let xid = match cursor.current() {
+            Some(current) => current.header().xid,
+            None => return Err(LogFault::OutOfMemory),
+        };
+        match xids.push(xid) {
+            Ok(()) => {}
+            Err(_) => return Err(LogFault::OutOfMemory),
+        }
+    }
+}
+
+/// Adds the transactions of the records of a writer's log, as they are read from a tree that has it
+/// in its segment files, and tells the place of the end and why.
+fn written_xids<F: Tree>(
+    alloc: Global,
+    writer: &LogWriter,
+    log: LogPath,
+    start: Lsn,
+    tree: &mut F,
+    xids: &mut Vec<u32>,
+) -> Result<(u64, Why), LogFault>
+    requires room { length log.folder.parts ≤ 63 }
+    ensures xids { IsTrue F.tells → start.0 ≡ writer.now.origin.start → IsPathOf log writer.now.origin
+        → IsStored log (F.contents tree.old) start.0 writer.now.end (in_pages writer.now.bytes)
+        → IfOk result (λ e. (records : List NewRecord) → Wrote writer.now records
+        → xids.new.items ≡ xids.old.items ++ map (λ r. r.xid) records) }
+    ensures place { IsTrue F.tells → start.0 ≡ writer.now.origin.start → IsPathOf log writer.now.origin
+        → IsStored log (F.contents tree.old) start.0 writer.now.end (in_pages writer.now.bytes)
+        → IfOk result (λ e. (records : List NewRecord) → Wrote writer.now records
+        → e.0 ≡ place_at (bytes_of writer.now.origin.size) writer.now.end) }
+    ensures why { IsTrue F.tells → start.0 ≡ writer.now.origin.start → IsPathOf log writer.now.origin
+        → IsStored log (F.contents tree.old) start.0 writer.now.end (in_pages writer.now.bytes)
+        → IfOk result (λ e. (records : List NewRecord) → Wrote writer.now records
+        → e.1 ≡ end_why writer.now) }
+{
+    written_log_is_read_back();
+    let mut cursor = match RecordCursor::at(alloc, log, start) {
+        Ok(cursor) => cursor,
+        Err(_) => return Err(LogFault::OutOfMemory),
+    };
+    xids_of(&mut cursor, tree, xids)
+}
+
+#[test]
+fn what_a_writer_wrote_is_given_once(rt: HostRuntime) -> Result<(), Fail> {
+    let (writer, _) = log_of(rt.alloc(), &[(0, 10, 50), (0, 10, 24)])?;
+    let tree = tree_with(rt.alloc(), &writer)?;
+    let mut tree = FailingTree::new(tree, FailPlan::Never);
+    let log = path_of(rt.alloc(), Spans::one(rt.alloc(), 1)?, Some(SYSTEM))?;
+    let mut xids = Vec::new(rt.alloc());
+    let end = written_xids(rt.alloc(), &writer, log, Lsn(FIRST), &mut tree, &mut xids)?;
+    assert_eq!(rt; end, (0x10_0078, Why::ZeroLength));
+    assert_eq!(rt; xids.as_slice(), [700, 701].as_slice());
+    Ok(())
+}

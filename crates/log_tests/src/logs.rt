@@ -1,0 +1,155 @@
+// The logs that are read, put together field by field.
+ghost use Rattle.std.specs.Prelude.{◌≤◌, length, IfOk};
+
+use cluster_tree::{MemoryTree, Path, Tree};
+use std::alloc::Global;
+use std::test::Fail;
+use wal_base::{Crc32c, SegSize, Spans};
+use wal_pages::LogPath;
+
+/// The system that wrote the pages.
+pub const SYSTEM: u64 = 7_300_000_000_000_000_001;
+
+/// Where the segments with the numbers 1 and 2 of 1 MiB begin.
+pub const FIRST: u64 = 0x10_0000;
+
+pub const SECOND: u64 = 0x20_0000;
+
+pub const FIRST_NAME: &str = "log/000000010000000000000001";
+
+const SECOND_NAME: &str = "log/000000010000000000000002";
+
+/// The last segment of all positions, and where its last page begins.
+const LAST_NAME: &str = "log/00000001FFFFFFFF00000FFF";
+
+pub const LAST_PAGE: u64 = u64::MAX - 8191;
+
+/// What stands in a tree with a log.
+#[derive(Clone, Copy)]
+pub enum Cell<'a> {
+    /// The file of the segment at a position: so many bytes of zeros.
+    File(u64, u32),
+    Folder(&'a str),
+    Link(&'a str),
+    /// The header of a page: where it begins, its flags, and how many bytes are to come.
+    Page(u64, u16, u32),
+    /// A record of a length, with a link back, whose body is of bytes 5A. What doesn't fit on its
+    /// page stands behind the short header of the next one.
+    Record(u64, u32, u64),
+    /// Bytes.
+    Bytes(u64, &'a [u8]),
+}
+
+/// The name of the file of the segment at a position.
+fn name_at(at: u64) -> &'static str {
+    if at < SECOND {
+        FIRST_NAME
+    } else if at < LAST_PAGE - 0xF_E000 {
+        SECOND_NAME
+    } else {
+        LAST_NAME
+    }
+}
+
+/// The long header of a page: where it begins, its flags, and how many bytes are to come.
+pub fn page(at: u64, info: u16, remaining: u32) -> [u8; 40] {
+    let mut header = [0; 40];
+    header[..2].copy_from_slice(&0xD113u16.to_le_bytes());
+    header[2..4].copy_from_slice(&info.to_le_bytes());
+    header[4..8].copy_from_slice(&1u32.to_le_bytes());
+    header[8..16].copy_from_slice(&at.to_le_bytes());
+    header[16..20].copy_from_slice(&remaining.to_le_bytes());
+    header[24..32].copy_from_slice(&SYSTEM.to_le_bytes());
+    header[32..36].copy_from_slice(&0x10_0000u32.to_le_bytes());
+    header[36..].copy_from_slice(&8192u32.to_le_bytes());
+    header
+}
+
+/// A tree with the folder `log`, and in it what stands there.
+pub fn tree_of(alloc: Global, cells: &[Cell]) -> Result<MemoryTree, Fail> {
+    let mut tree = MemoryTree::new(alloc);
+    tree.make_folder(&Path::parse(alloc, "log")?)?;
+    for cell in cells {
+        put(alloc, &mut tree, *cell)?;
+    }
+    Ok(tree)
+}
+
+/// Puts something into a tree.
+fn put(alloc: Global, tree: &mut MemoryTree, cell: Cell) -> Result<(), Fail> {
+    match cell {
+        Cell::File(at, size) => add_file(alloc, tree, name_at(at), size),
+        Cell::Folder(name) => Ok(tree.make_folder(&Path::parse(alloc, name)?)?),
+        Cell::Link(name) => Ok(tree.add_link(&Path::parse(alloc, name)?)?),
+        Cell::Page(at, info, remaining) => {
+            let header = page(at, info, remaining);
+            let size = if at % FIRST == 0 { 40 } else { 24 };
+            write(alloc, tree, at, &header[..size])
+        }
+        Cell::Record(at, total, prev) => put_record(
+            alloc,
+            tree,
+            at,
+            &record_of(alloc, total, prev)?,
+        ),
+        Cell::Bytes(at, bytes) => write(alloc, tree, at, bytes),
+    }
+}
+
+/// Adds a file of so many bytes of zeros.
+pub fn add_file(alloc: Global, tree: &mut MemoryTree, name: &str, size: u32) -> Result<(), Fail> {
+    let path = Path::parse(alloc, name)?;
+    tree.make_file(&path)?;
+    tree.write_at(&path, 0, &vec![in alloc; 0; size as usize]?)?;
+    Ok(())
+}
+
+/// Writes the bytes of a record, those that don't fit on its page behind the header of the next.
+fn put_record(alloc: Global, tree: &mut MemoryTree, at: u64, bytes: &[u8]) -> Result<(), Fail> {
+    let room = 8192 - at % 8192;
+    let first = bytes.len().min(room as usize);
+    write(alloc, tree, at, &bytes[..first])?;
+    if first < bytes.len() {
+        write(alloc, tree, at.saturating_add(room + 24), &bytes[first..])?;
+    }
+    Ok(())
+}
+
+/// Writes bytes at a position of the log.
+pub fn write<F: Tree>(alloc: Global, tree: &mut F, at: u64, bytes: &[u8]) -> Result<(), Fail> {
+    tree.write_at(&Path::parse(alloc, name_at(at))?, at % FIRST, bytes)?;
+    Ok(())
+}
+
+/// The bytes of a record of a length, with a link back, whose body is of bytes 5A.
+fn record_of(alloc: Global, total: u32, prev: u64) -> Result<Vec<u8>, Fail> {
+    let body = vec![in alloc; 0x5A; total.saturating_sub(24) as usize]?;
+    let mut head = [0; 20];
+    head[..4].copy_from_slice(&total.to_le_bytes());
+    head[8..16].copy_from_slice(&prev.to_le_bytes());
+    head[17] = 10;
+    let mut crc = Crc32c::new();
+    crc.add(&body);
+    crc.add(&head);
+    let mut bytes = Vec::new(alloc);
+    bytes.extend_from_slice(&head)?;
+    bytes.extend_from_slice(&crc.value().to_le_bytes())?;
+    bytes.extend_from_slice(&body)?;
+    Ok(bytes)
+}
+
+/// The log in the folder `log`, in segments of 1 MiB of these timelines.
+pub fn path_of(alloc: Global, spans: Spans, system: Option<u64>) -> Result<LogPath, Fail>
+    ensures { IfOk result (λ log. length log.folder.parts ≤ 63) }
+{
+    let log = LogPath {
+        folder: Path::parse(alloc, "log")?,
+        spans,
+        size: SegSize::new(0x10_0000).ok_or("no size")?,
+        system,
+    };
+    if log.folder.len() > 63 {
+        return Err("too deep".into());
+    }
+    Ok(log)
+}
