@@ -1,8 +1,9 @@
 -- The line of a cause on standard error. Own: "The line of a cause".
-use Rattle.std.specs.Prelude.{ℕ, ◌-◌, ◌^◌, false, true, List, [], ◌∷◌, ◌++◌, codes, string_bytes, Option}
-use Rattle.std.specs.Fmt.{digits, decimal, padded_integral, format_spec}
+use Rattle.std.specs.Prelude.{ℕ, List, [], ◌∷◌, ◌++◌, codes, string_bytes, Option}
+use Rattle.std.specs.Fmt.{decimal}
 use Rattle.std.specs.List.{concat}
 use Rattle.cluster_tree.specs.PathValue.{PathValue, path_text}
+use Rattle.wal_base.specs.Hex.{upper_hex}
 use Rattle.wal_base.specs.Lsn.{lsn_text}
 use Rattle.wal_base.specs.declared.lsn.Lsn.{Lsn}
 use Rattle.wal_records.specs.declared.why.Why.{Why}
@@ -21,10 +22,6 @@ use Rattle.cause_lines.specs.declared.lines.Line.TheVariants as line
 use Rattle.cause_lines.specs.declared.fixed.Fixed.{Fixed}
 use Rattle.cause_lines.specs.declared.fixed.Fixed.TheVariants as fixed
 use Rattle.commands.specs.Name.{name_text}
-
--- a checksum: eight hexadecimal digits, as %08X
-abbrev pub hex8 : ℕ → List ℕ
-hex8 n = padded_integral (format_spec 32 0 4 8 (2 ^ 64 - 1)) false [] (digits 16 true n)
 
 -- the name of a cause without values
 abbrev pub fixed_name : Fixed → List ℕ
@@ -53,8 +50,9 @@ path_pieces what path = what ∷ codes " " ∷ path_text path ∷ []
 abbrev pub number_pieces : List ℕ → PathValue → ℕ → List (List ℕ)
 number_pieces what root n = what ∷ codes " " ∷ path_text root ∷ codes " " ∷ decimal n ∷ []
 
+-- a root and two checksums, as %08X
 abbrev pub crc_pieces : PathValue → ℕ → ℕ → List (List ℕ)
-crc_pieces root stored computed = codes "Crc " ∷ path_text root ∷ codes " " ∷ hex8 stored ∷ codes " " ∷ hex8 computed ∷ []
+crc_pieces root stored computed = codes "Crc " ∷ path_text root ∷ codes " " ∷ upper_hex 8 stored ∷ codes " " ∷ upper_hex 8 computed ∷ []
 
 abbrev pub shape_pieces : PathValue → Field → ℕ → List (List ℕ)
 shape_pieces root field n = codes "Shape " ∷ path_text root ∷ codes " " ∷ field_name field ∷ codes " " ∷ decimal n ∷ []

@@ -9,7 +9,7 @@ use commands::{CommandName, name_text};
 use control_file::Field;
 use run_acts::{Cause, ControlCause, LogCause, PathCause, RewindCause};
 use std::alloc::{AllocError, Global};
-use wal_base::Lsn;
+use wal_base::{HexWord, Lsn};
 use wal_records::Why;
 
 // The line of a cause with a path.
@@ -56,6 +56,14 @@ fn shape_line(
     format!(in alloc; "{name}: error: Shape {root} {field} {value}\n")
 }
 
+// A checksum as it stands in a line.
+fn checksum(sum: u32) -> HexWord
+    ensures { result ≡ record { width = 8; number = sum } }
+{
+    let number = u64::from(sum);
+    HexWord { width: 8, number }
+}
+
 // The line of a checksum that differs.
 fn crc_line(
     alloc: Global,
@@ -68,7 +76,9 @@ fn crc_line(
         (crc_pieces root.now stored computed)) }
 {
     let name = name_text(name);
-    format!(in alloc; "{name}: error: Crc {root} {stored:08X} {computed:08X}\n")
+    let stored = checksum(stored);
+    let computed = checksum(computed);
+    format!(in alloc; "{name}: error: Crc {root} {stored} {computed}\n")
 }
 
 // The line of two systems.
