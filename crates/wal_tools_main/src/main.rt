@@ -1,25 +1,14 @@
-//! The program over the machine's files: its words, its exit, and the adapters.
+//! The program over the machine's files: its words and its exit.
 #![tactic(auto)]
 
-mod changed;
-mod dir_tree;
-mod listing;
-mod opened;
-mod removing;
-mod seen;
-mod std_sink;
-#[cfg(test)]
-mod tests;
-
 use commands::{CommandName, named};
-pub use dir_tree::DirTree;
+use machine::{DirTree, StdSink};
 use run_acts::Cause;
 use std::io::ErrorKind;
 use std::process::ExitCode;
 use std::rt::{Clock, Env};
 use std::time::{SystemTime, UNIX_EPOCH};
 use std::{env, io, str};
-pub use std_sink::StdSink;
 use wal_tools::{finish, run};
 
 // Longer than any command's name.

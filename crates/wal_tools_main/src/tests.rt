@@ -1,2 +1,0 @@
-//! The adapters over the real thing.
-mod adapters;
