@@ -27,6 +27,3 @@ pub use laws::cut_layouts_are_short;
 pub use managers::{add_manager_name, manager_name};
 pub use naming::{a_name_is_one_manager, manager_named};
 pub use operations::{add_operation_name, operation_name};
-
-#[cfg(test)]
-mod tests;

@@ -3,6 +3,8 @@
 #![tactic(auto)]
 
 #[cfg(test)]
+mod bodies;
+#[cfg(test)]
 mod control_files;
 #[cfg(test)]
 mod driver;
@@ -18,5 +20,7 @@ mod names;
 mod options;
 #[cfg(test)]
 mod own;
+#[cfg(test)]
+mod records;
 #[cfg(test)]
 mod words;

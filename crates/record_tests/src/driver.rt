@@ -1,0 +1,82 @@
+//! Runs the lines of texts. README.md has their forms.
+use crate::blocks::block;
+use crate::ends::end;
+use crate::fixed::{heap, page, transaction, xlog};
+use crate::lists::list;
+use crate::names::name;
+use crate::prefixes::prefix;
+use std::alloc::Global;
+use std::process::Abort;
+use std::test::Fail;
+
+/// A line's first word, and what stands behind the blank after it.
+pub fn first_word(line: &str) -> (&str, &str) {
+    match line.split_once(' ') {
+        Some(parts) => parts,
+        None => (line, ""),
+    }
+}
+
+/// What a layout of main bytes is read as, by its name.
+fn layout(alloc: Global, name: &str, bytes: &[u8]) -> Result<String, Fail> {
+    for read in [xlog(alloc, name, bytes)?, transaction(alloc, name, bytes)?] {
+        if let Some(text) = read {
+            return Ok(text);
+        }
+    }
+    if let Some(text) = heap(alloc, name, bytes)? {
+        return Ok(text);
+    }
+    if let Some(text) = page(alloc, name, bytes)? {
+        return Ok(text);
+    }
+    if let Some(text) = list(alloc, name, bytes)? {
+        return Ok(text);
+    }
+    if let Some(text) = end(alloc, name, bytes)? {
+        return Ok(text);
+    }
+    match prefix(alloc, name, bytes)? {
+        Some(text) => Ok(text),
+        None => Err("no such layout".into()),
+    }
+}
+
+/// `whole NAME HEX`: what the bytes are read as; cut by one they are not whole.
+fn whole(alloc: Global, behind: &str) -> Result<String, Fail> {
+    let (name, digits) = first_word(behind);
+    let bytes = hex::decode(alloc, digits)?;
+    let cut = layout(alloc, name, &bytes[..bytes.len().saturating_sub(1)])?;
+    if cut.as_str() != "none" {
+        return Ok(cut);
+    }
+    layout(alloc, name, &bytes)
+}
+
+/// `read NAME HEX`: what the bytes are read as.
+fn read(alloc: Global, behind: &str) -> Result<String, Fail> {
+    let (name, digits) = first_word(behind);
+    layout(alloc, name, &hex::decode(alloc, digits)?)
+}
+
+/// What is read for a line.
+fn told(alloc: Global, line: &str) -> Result<String, Fail> {
+    let (verb, behind) = first_word(line);
+    match verb {
+        "whole" => whole(alloc, behind),
+        "read" => read(alloc, behind),
+        "block" => block(alloc, behind),
+        _ => name(alloc, verb, behind),
+    }
+}
+
+/// Each line of a text is read as it says behind its sign of equality.
+pub fn check<R: AllocGlobal + Abort>(rt: &R, text: &str) -> Result<(), Fail> {
+    for line in text.split('\n') {
+        if let Some((line, meant)) = line.split_once(" = ") {
+            let told = told(rt.alloc(), line)?;
+            assert_eq!(rt; told.as_str(), meant, "{line}");
+        }
+    }
+    Ok(())
+}
