@@ -58,7 +58,7 @@ held_at parts (Some v) bytes e = e
 held_at [] None bytes e = absurd cc
 held_at (part ∷ parts) None bytes e = absurd cc
 
-same_or_other : {P : Type 0} (q p : PathValue) → (q ≡ p → P) → (q ≢ p → P) → P
+pub same_or_other : {P : Type 0} (q p : PathValue) → (q ≡ p → P) → (q ≢ p → P) → P
 same_or_other {P} q p same other =
     elim (path_eq q p) as (λ b. path_eq q p ≡ b → P) [ true ↦ λ e. same (path_eq-same q p e) | false ↦ λ e. other (λ is. true≢false (sym (path_eq-own p) ∙ ap (λ x. path_eq x p) (sym is) ∙ e)) ] refl
 

@@ -4,3 +4,5 @@ pub mod AskLemmas
 pub mod ReadLemmas
 pub mod WayLemmas
 pub mod EditLemmas
+pub mod LawLemmas
+pub mod AlikeLemmas

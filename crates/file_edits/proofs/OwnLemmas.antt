@@ -25,11 +25,11 @@ still_on : (own more : PathValue → Bool) (o : Option PathValue) → ((q : Path
 still_on own more None w e = absurd cc
 still_on own more (Some path) w e = w path e
 
-goes_on : (own : PathValue → Bool) (a b c : List ChangeCall) → GoesOn own a b → GoesOn own b c → GoesOn own a c
+pub goes_on : (own : PathValue → Bool) (a b c : List ChangeCall) → GoesOn own a b → GoesOn own b c → GoesOn own a c
 goes_on own a b c p Same = p
 goes_on own a b c p (More call on is listed) = More call (goes_on own a b _ p on) is listed
 
-goes_wider : (own more : PathValue → Bool) (old new : List ChangeCall) → ((q : PathValue) → own q ≡ true → more q ≡ true) → GoesOn own old new → GoesOn more old new
+pub goes_wider : (own more : PathValue → Bool) (old new : List ChangeCall) → ((q : PathValue) → own q ≡ true → more q ≡ true) → GoesOn own old new → GoesOn more old new
 goes_wider own more old new w Same = Same
 goes_wider own more old new w (More call on is listed) = More call (goes_wider own more old _ w on) (still_on own more (changed_path call) w is) listed
 

@@ -30,7 +30,7 @@ pub made-refused : (path : PathValue) (c : Contents) (e : FileFault) → folder_
 unfolding folder_made
 made-refused path c e is = ap (λ r. given r (λ there. Ok (folder_left c path there))) is
 
-none_asked : (path : PathValue) (o : Option Entry) → folder_asked path o ≡ Ok false → o ≡ None
+pub none_asked : (path : PathValue) (o : Option Entry) → folder_asked path o ≡ Ok false → o ≡ None
 none_asked path None e = refl
 none_asked path (Some (FolderEntry bad)) e = absurd cc
 none_asked path (Some (FileEntry bytes)) e = absurd cc
@@ -65,7 +65,7 @@ front-unrefused c path n l none folder = unrefused c (front n path) (front (n - 
 
 pub ruleset front_steps = (made-there, made-new, made-refused, front-unrefused)
 
-by_asked : {P : Type 0} (path : PathValue) (c d : Contents) → folder_made path c ≡ Ok d → (folder_asked path (entry_at c path) ≡ Ok true → d ≡ c → P) → (folder_asked path (entry_at c path) ≡ Ok false → d ≡ insert c path (FolderEntry false) → P) → P
+pub by_asked : {P : Type 0} (path : PathValue) (c d : Contents) → folder_made path c ≡ Ok d → (folder_asked path (entry_at c path) ≡ Ok true → d ≡ c → P) → (folder_asked path (entry_at c path) ≡ Ok false → d ≡ insert c path (FolderEntry false) → P) → P
 unfolding folder_made
 by_asked {P} path c d made there new =
     elim (folder_asked path (entry_at c path)) as (λ r. folder_asked path (entry_at c path) ≡ r → given r (λ t. Ok (folder_left c path t)) ≡ Ok d → P) [

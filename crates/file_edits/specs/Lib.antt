@@ -2,3 +2,5 @@ pub mod Own
 pub mod Answers
 pub mod Asking
 pub mod Edits
+pub mod Alike
+pub mod Laws

@@ -4,12 +4,14 @@
 mod asking;
 mod calls;
 mod editing;
+mod laws;
 mod reading;
 mod removing;
 mod ways;
 
 pub use asking::{file_size, is_folder, names_of};
 pub use editing::{ensure_file, lay};
+pub use laws::{alike_laws, edit_laws, own_laws};
 pub use reading::read_or_zeros;
 pub use removing::remove_file;
 pub use ways::make_way;

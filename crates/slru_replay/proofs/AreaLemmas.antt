@@ -15,7 +15,7 @@ use Rattle.slru_replay.specs.Area.{folder_of, file_name, page_file, page_start, 
 use Rattle.slru_replay.specs.declared.area.Area.{Area}
 use Rattle.slru_replay.proofs.NameLemmas.{folder-deeper}
 
-or_right : (a b : Bool) → b ≡ true → (a || b) ≡ true
+pub or_right : (a b : Bool) → b ≡ true → (a || b) ≡ true
 or_right true b e = refl
 or_right false b e = e
 

@@ -3,3 +3,4 @@ pub mod NumberLemmas
 pub mod AreaLemmas
 pub mod StatusLemmas
 pub mod CutLemmas
+pub mod MultiXactLemmas

@@ -37,6 +37,10 @@ page_end page = page_start page + 8192
 abbrev pub page_zeroed : PathValue → Area → ℕ → Contents → Result Contents FileFault
 page_zeroed root area page c = file_edited root (page_file root area page) (laid (page_start page) (page_start page) (replicate 8192 0)) c
 
+-- bytes laid over a page: one that isn't there, or in part, is first filled with zeros
+abbrev pub page_laid : PathValue → Area → (page at : ℕ) → List ℕ → Contents → Result Contents FileFault
+page_laid root area page at bytes c = file_edited root (page_file root area page) (laid (page_end page) (page_start page + at) bytes) c
+
 -- the paths of an area: what lies in its folder, and the folders that lead there
 abbrev pub is_of_area : PathValue → Area → PathValue → Bool
 is_of_area root area path = on_way root (folder_of root area) path || lies_in (folder_of root area) path

@@ -1,3 +1,4 @@
 pub mod Area
 pub mod Status
 pub mod Cutting
+pub mod MultiXact

@@ -5,7 +5,7 @@ ghost use Rattle.cluster_tree.specs.Causes.{Rose};
 ghost use Rattle.cluster_tree.specs.Frame.{Came};
 ghost use Rattle.file_edits.specs.Answers.{Does};
 ghost use Rattle.file_edits.specs.Own.{OnOwn};
-ghost use Rattle.slru_replay.specs.Area.{is_of_area, page_start, page_zeroed};
+ghost use Rattle.slru_replay.specs.Area.{is_of_area, page_laid, page_start, page_zeroed};
 
 use crate::area::Area;
 use crate::names::{FILE_PAGES, page_file};
@@ -49,4 +49,33 @@ pub fn zero_page<F: Tree>(
     let path = page_file(alloc, root, area, page)?;
     let start = page_start(page);
     lay(alloc, tree, root, &path, start, start, &[0; PAGE])
+}
+
+/// Lays bytes over a page from an offset in it on, once its file is lengthened by zeros to the page's
+/// end where it is shorter. The file and the folders on its way are made where nothing stands.
+pub(crate) fn lay_on<F: Tree>(
+    alloc: Global,
+    tree: &mut F,
+    root: &Path,
+    area: Area,
+    page: u32,
+    at: u32,
+    bytes: &[u8],
+) -> Result<(), FileFault>
+    requires room { length root.now.parts ≤ 61 }
+    requires within { at ≤ 8192 }
+    ensures exact { IsTrue F.tells → Does (page_laid root.now area page at bytes.now
+        (F.contents tree.old)) (F.contents tree.new) result }
+    ensures frame { Came F.Tree tree.old tree.new }
+    ensures own { IsTrue F.tells → OnOwn F.calls (is_of_area root.now area) tree.old tree.new }
+    ensures read_fault { IsErrOf result FileFault.ReadFault →
+        Rose (F.failed_reads tree.old) (F.failed_reads tree.new) }
+    ensures write_fault { IsErrOf result FileFault.WriteFault →
+        Rose (F.failed_changes tree.old) (F.failed_changes tree.new) }
+    ensures changed { IsTrue F.tells → (p : PathValue) → result ≢ Err (FileFault.Changed p) }
+{
+    let path = page_file(alloc, root, area, page)?;
+    let start = page_start(page);
+    let end = start + PAGE as u64;
+    lay(alloc, tree, root, &path, end, start + u64::from(at), bytes)
 }

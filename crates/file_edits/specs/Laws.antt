@@ -1,0 +1,55 @@
+-- What follows from the definitions, for callers. Own: "Edits of files say where they go", "Alike trees".
+use Rattle.std.specs.Prelude.{◌≡◌, ◌≢◌, ◌⊎◌, ℕ, ◌<◌, Bool, true, false, List, [], length, None, Some, Ok}
+use Rattle.cluster_tree.specs.PathValue.{PathValue, Holds, below}
+use Rattle.cluster_tree.specs.Contents.{Contents, FileEntry, FolderEntry, entry_at}
+use Rattle.cluster_tree.specs.Run.{State, Run}
+use Rattle.cluster_tree.specs.Tree.{bytes_at}
+use Rattle.cluster_tree.specs.declared.tree.ChangeCall.{ChangeCall}
+use Rattle.file_edits.specs.Alike.{Alike, AlikeAnswers, SameAnswers}
+use Rattle.file_edits.specs.Asking.{names_asked, read_asked}
+use Rattle.file_edits.specs.Edits.{file_edited, file_removed, on_way}
+use Rattle.file_edits.specs.Own.{GoesOn}
+
+-- an edited file is what the edit makes of its bytes
+abbrev pub EditedStands : Type 0
+EditedStands = (root path : PathValue) (edit : List ℕ → List ℕ) (c d : Contents) → Holds root path → length root.parts < length path.parts → file_edited root path edit c ≡ Ok d → entry_at d path ≡ Some (FileEntry (edit (bytes_at c path)))
+
+-- every other path holds what it held, but for folders on the way that weren't there
+abbrev pub EditedElsewhere : Type 0
+EditedElsewhere = (root path : PathValue) (edit : List ℕ → List ℕ) (c d : Contents) (q : PathValue) → file_edited root path edit c ≡ Ok d → q ≢ path → (entry_at d q ≡ entry_at c q) ⊎ ((on_way root path q ≡ true) × (entry_at c q ≡ None) × (entry_at d q ≡ Some (FolderEntry false)))
+
+-- nothing stands where a file was removed
+abbrev pub RemovedIsGone : Type 0
+RemovedIsGone = (path : PathValue) (c d : Contents) → 0 < length path.parts → file_removed path c ≡ Ok d → entry_at d path ≡ None
+
+-- and every other path holds what it held
+abbrev pub RemovedElsewhere : Type 0
+RemovedElsewhere = (path : PathValue) (c d : Contents) (q : PathValue) → file_removed path c ≡ Ok d → q ≢ path → entry_at d q ≡ entry_at c q
+
+-- calls at own paths, whatever they answered: every other path holds what it held
+abbrev pub OwnElsewhere : Type 0
+OwnElsewhere = (own : PathValue → Bool) (old new : State) (path : PathValue) → Run old new → GoesOn own old.calls new.calls → own path ≡ false → entry_at new.contents path ≡ entry_at old.contents path
+
+-- calls at own paths after others are such calls together
+abbrev pub OwnInTurn : Type 0
+OwnInTurn = (own : PathValue → Bool) (old mid new : List ChangeCall) → GoesOn own old mid → GoesOn own mid new → GoesOn own old new
+
+-- and more paths may be own
+abbrev pub OwnIsWider : Type 0
+OwnIsWider = (own more : PathValue → Bool) (old new : List ChangeCall) → ((q : PathValue) → own q ≡ true → more q ≡ true) → GoesOn own old new → GoesOn more old new
+
+-- an edit that makes alike files of alike ones leaves alike trees alike, and is refused in both or in neither
+abbrev pub EditedAlike : Type 0
+EditedAlike = (like : List (List ℕ) → List ℕ → List ℕ → Bool) (root other : PathValue) (parts : List (List ℕ)) (edit after : List ℕ → List ℕ) (c d : Contents) → like parts [] [] ≡ true → ((a b : List ℕ) → like parts a b ≡ true → like parts (edit a) (after b) ≡ true) → Alike like c root d other → AlikeAnswers like root other (file_edited root (below root parts) edit c) (file_edited other (below other parts) after d)
+
+-- so does the removal of a file
+abbrev pub RemovedAlike : Type 0
+RemovedAlike = (like : List (List ℕ) → List ℕ → List ℕ → Bool) (root other : PathValue) (parts : List (List ℕ)) (c d : Contents) → 0 < length parts → Alike like c root d other → AlikeAnswers like root other (file_removed (below root parts) c) (file_removed (below other parts) d)
+
+-- in alike trees a folder has the same names
+abbrev pub NamesAlike : Type 0
+NamesAlike = (like : List (List ℕ) → List ℕ → List ℕ → Bool) (root other : PathValue) (parts : List (List ℕ)) (c d : Contents) → Alike like c root d other → SameAnswers root other (names_asked c (below root parts) (entry_at c (below root parts))) (names_asked d (below other parts) (entry_at d (below other parts)))
+
+-- and a file of which alike bytes are the same reads the same
+abbrev pub ReadAlike : Type 0
+ReadAlike = (like : List (List ℕ) → List ℕ → List ℕ → Bool) (root other : PathValue) (parts : List (List ℕ)) (at n : ℕ) (c d : Contents) → ((a b : List ℕ) → like parts a b ≡ true → a ≡ b) → Alike like c root d other → SameAnswers root other (read_asked c (below root parts) at n) (read_asked d (below other parts) at n)

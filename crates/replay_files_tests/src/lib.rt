@@ -1,0 +1,11 @@
+//! Tests of replay on files, as a caller uses it.
+#![tactic(auto)]
+
+#[cfg(test)]
+mod cuts;
+#[cfg(test)]
+mod faults;
+#[cfg(test)]
+mod pages;
+#[cfg(test)]
+mod trees;
