@@ -105,7 +105,7 @@ none_there path (Some (FolderEntry bad)) e = absurd cc
 none_there path (Some (FileEntry bytes)) e = absurd cc
 none_there path (Some LinkEntry) e = absurd cc
 
-by_removed : {P : Type 0} (path : PathValue) (c d : Contents) → file_removed path c ≡ Ok d → (file_asked path (entry_at c path) ≡ Ok None → d ≡ c → P) → (d ≡ remove c path → P) → P
+pub by_removed : {P : Type 0} (path : PathValue) (c d : Contents) → file_removed path c ≡ Ok d → (file_asked path (entry_at c path) ≡ Ok None → d ≡ c → P) → (d ≡ remove c path → P) → P
 unfolding file_removed
 by_removed {P} path c d made none there =
     elim (file_asked path (entry_at c path)) as (λ r. file_asked path (entry_at c path) ≡ r → given r (without path c) ≡ Ok d → P) [

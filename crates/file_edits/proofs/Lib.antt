@@ -6,3 +6,4 @@ pub mod WayLemmas
 pub mod EditLemmas
 pub mod LawLemmas
 pub mod AlikeLemmas
+pub mod ClearLemmas

@@ -1,12 +1,14 @@
 -- What follows from the definitions, for callers. Own: "Edits of files say where they go", "Alike trees".
 use Rattle.std.specs.Prelude.{◌≡◌, ◌≢◌, ◌⊎◌, ℕ, ◌<◌, Bool, true, false, List, [], length, None, Some, Ok}
+use Rattle.cluster_tree.specs.Apart.{is_held}
 use Rattle.cluster_tree.specs.PathValue.{PathValue, Holds, below}
-use Rattle.cluster_tree.specs.Contents.{Contents, FileEntry, FolderEntry, entry_at}
+use Rattle.cluster_tree.specs.Contents.{Contents, FileEntry, FolderEntry, IsTree, entry_at}
 use Rattle.cluster_tree.specs.Run.{State, Run}
 use Rattle.cluster_tree.specs.Tree.{bytes_at}
 use Rattle.cluster_tree.specs.declared.tree.ChangeCall.{ChangeCall}
 use Rattle.file_edits.specs.Alike.{Alike, AlikeAnswers, SameAnswers}
 use Rattle.file_edits.specs.Asking.{names_asked, read_asked}
+use Rattle.file_edits.specs.Clearing.{tree_removed}
 use Rattle.file_edits.specs.Edits.{file_edited, file_removed, on_way}
 use Rattle.file_edits.specs.Own.{GoesOn}
 
@@ -25,6 +27,14 @@ RemovedIsGone = (path : PathValue) (c d : Contents) → 0 < length path.parts �
 -- and every other path holds what it held
 abbrev pub RemovedElsewhere : Type 0
 RemovedElsewhere = (path : PathValue) (c d : Contents) (q : PathValue) → file_removed path c ≡ Ok d → q ≢ path → entry_at d q ≡ entry_at c q
+
+-- of a folder that was removed with all that it holds every other path holds what it held
+abbrev pub TreeElsewhere : Type 0
+TreeElsewhere = (path : PathValue) (c d : Contents) (q : PathValue) → tree_removed path c ≡ Ok d → is_held path q ≡ false → entry_at d q ≡ entry_at c q
+
+-- and nothing stands there or below, whatever stands lying in a folder
+abbrev pub TreeIsGone : Type 0
+TreeIsGone = (path : PathValue) (c d : Contents) (q : PathValue) → IsTree d → 0 < length path.parts → tree_removed path c ≡ Ok d → is_held path q ≡ true → entry_at d q ≡ None
 
 -- calls at own paths, whatever they answered: every other path holds what it held
 abbrev pub OwnElsewhere : Type 0

@@ -2,5 +2,6 @@ pub mod Own
 pub mod Answers
 pub mod Asking
 pub mod Edits
+pub mod Clearing
 pub mod Alike
 pub mod Laws

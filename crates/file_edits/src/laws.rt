@@ -1,12 +1,15 @@
 // What follows from the definitions, for callers: each function's contract is a law.
-ghost use Rattle.file_edits.specs.Laws.{EditedAlike, EditedElsewhere, EditedStands, NamesAlike, OwnElsewhere, OwnInTurn, OwnIsWider, ReadAlike, RemovedAlike, RemovedElsewhere, RemovedIsGone};
+ghost use Rattle.file_edits.specs.Laws.{EditedAlike, EditedElsewhere, EditedStands, NamesAlike, OwnElsewhere, OwnInTurn, OwnIsWider, ReadAlike, RemovedAlike, RemovedElsewhere, RemovedIsGone, TreeElsewhere, TreeIsGone};
 
-/// What stands at a path, and at every other, after a file was edited or removed there.
+/// What stands at a path, and at every other, after a file was edited or removed there, or
+/// a folder with all that it holds.
 pub fn edit_laws()
     ensures edited { EditedStands }
     ensures edited_elsewhere { EditedElsewhere }
     ensures removed { RemovedIsGone }
     ensures removed_elsewhere { RemovedElsewhere }
+    ensures tree { TreeIsGone }
+    ensures tree_elsewhere { TreeElsewhere }
 {}
 
 /// Where changing calls are at paths of one's own, all else is as it was, also after an error.

@@ -3,6 +3,7 @@
 
 mod asking;
 mod calls;
+mod clearing;
 mod editing;
 mod laws;
 mod reading;
@@ -10,6 +11,7 @@ mod removing;
 mod ways;
 
 pub use asking::{file_size, is_folder, names_of};
+pub use clearing::remove_tree;
 pub use editing::{ensure_file, lay};
 pub use laws::{alike_laws, edit_laws, own_laws};
 pub use reading::read_or_zeros;

@@ -2,10 +2,14 @@
 #![tactic(auto)]
 
 #[cfg(test)]
+mod calls;
+#[cfg(test)]
 mod cuts;
 #[cfg(test)]
 mod faults;
 #[cfg(test)]
 mod pages;
+#[cfg(test)]
+mod rows;
 #[cfg(test)]
 mod trees;

@@ -1,51 +1,76 @@
 // Trees in memory, and what stands in them.
-use cluster_tree::{Kind, MemoryTree, Path, Tree};
+use cluster_tree::{Kind, MemoryTree, Path, Tree, TreeFault};
 use std::alloc::Global;
 use std::test::Fail;
 
-/// A tree with these folders, each below one before it.
-pub(crate) fn with_folders(alloc: Global, folders: &[&str]) -> Result<MemoryTree, Fail> {
+/// What a tree has before a call.
+#[derive(Clone, Copy)]
+pub(crate) enum Had<'a> {
+    Folder(&'a str),
+    File(&'a str, &'a [u8]),
+    Link(&'a str),
+    /// A folder that holds a name that isn't UTF-8.
+    BadName(&'a str),
+}
+
+/// What it has afterwards.
+#[derive(Clone, Copy)]
+pub(crate) enum Has<'a> {
+    Nothing(&'a str),
+    /// A file of so many bytes.
+    Size(&'a str, u64),
+    /// A file that has these bytes from an offset on.
+    Bytes(&'a str, u64, &'a [u8]),
+}
+
+fn put_file(tree: &mut MemoryTree, path: &Path, bytes: &[u8]) -> Result<(), TreeFault> {
+    tree.make_file(path)?;
+    tree.write_at(path, 0, bytes)
+}
+
+fn put_bad(tree: &mut MemoryTree, path: &Path) -> Result<(), TreeFault> {
+    tree.make_folder(path)?;
+    tree.add_bad_name(path)
+}
+
+fn put(alloc: Global, tree: &mut MemoryTree, had: Had<'_>) -> Result<(), Fail> {
+    match had {
+        Had::Folder(text) => tree.make_folder(&Path::parse(alloc, text)?)?,
+        Had::File(text, bytes) => put_file(tree, &Path::parse(alloc, text)?, bytes)?,
+        Had::Link(text) => tree.add_link(&Path::parse(alloc, text)?)?,
+        Had::BadName(text) => put_bad(tree, &Path::parse(alloc, text)?)?,
+    }
+    Ok(())
+}
+
+/// A tree with these, each below a folder before it.
+pub(crate) fn tree_with(alloc: Global, had: &[Had<'_>]) -> Result<MemoryTree, Fail> {
     let mut tree = MemoryTree::new(alloc);
-    for folder in folders {
-        tree.make_folder(&Path::parse(alloc, folder)?)?;
+    for &one in had {
+        put(alloc, &mut tree, one)?;
     }
     Ok(tree)
 }
 
-/// Makes a file of these bytes.
-pub(crate) fn put_file(
+fn has_bytes(
     alloc: Global,
     tree: &mut MemoryTree,
-    path: &str,
-    bytes: &[u8],
-) -> Result<(), Fail> {
-    let path = Path::parse(alloc, path)?;
-    tree.make_file(&path)?;
-    tree.write_at(&path, 0, bytes)?;
-    Ok(())
-}
-
-/// Whether nothing stands at a path.
-pub(crate) fn is_gone(alloc: Global, tree: &mut MemoryTree, path: &str) -> Result<bool, Fail> {
-    let path = Path::parse(alloc, path)?;
-    Ok(tree.kind(&path) == Ok(Kind::Absent))
-}
-
-/// The byte at an offset of a file.
-pub(crate) fn byte_at(
-    alloc: Global,
-    tree: &mut MemoryTree,
-    path: &str,
+    path: &Path,
     at: u64,
-) -> Result<u8, Fail> {
-    let path = Path::parse(alloc, path)?;
-    let mut byte = [0];
-    tree.read_at(&path, at, &mut byte)?;
-    Ok(byte[0])
+    bytes: &[u8],
+) -> Result<bool, Fail> {
+    let mut into = vec![in alloc; 0; bytes.len()]?;
+    tree.read_at(path, at, &mut into)?;
+    Ok(into.as_slice() == bytes)
 }
 
-/// The size of a file.
-pub(crate) fn size_of(alloc: Global, tree: &mut MemoryTree, path: &str) -> Result<u64, Fail> {
-    let path = Path::parse(alloc, path)?;
-    Ok(tree.size(&path)?)
+/// Whether a tree has this.
+pub(crate) fn is_so(alloc: Global, tree: &mut MemoryTree, what: Has<'_>) -> Result<bool, Fail> {
+    match what {
+        Has::Nothing(text) => Ok(tree.kind(&Path::parse(alloc, text)?) == Ok(Kind::Absent)),
+        Has::Size(text, size) => Ok(tree.size(&Path::parse(alloc, text)?) == Ok(size)),
+        Has::Bytes(text, at, bytes) => {
+            has_bytes(alloc, tree, &Path::parse(alloc, text)?, at, bytes)
+        }
+    }
 }

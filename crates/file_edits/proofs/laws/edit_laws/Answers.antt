@@ -1,4 +1,5 @@
 use Rattle.file_edits.proofs.LawLemmas.{edited-stands, edited-elsewhere, removed-gone, removed-elsewhere}
+use Rattle.file_edits.proofs.ClearLemmas.{tree-empty, tree-elsewhere}
 use Rattle.file_edits.proofs.laws.edit_laws.Goals as goal
 
 pub returns-clause-edited : goal.returns-clause-edited
@@ -12,3 +13,9 @@ returns-clause-removed c = removed-gone
 
 pub returns-clause-removed_elsewhere : goal.returns-clause-removed_elsewhere
 returns-clause-removed_elsewhere c = removed-elsewhere
+
+pub returns-clause-tree : goal.returns-clause-tree
+returns-clause-tree c = tree-empty
+
+pub returns-clause-tree_elsewhere : goal.returns-clause-tree_elsewhere
+returns-clause-tree_elsewhere c = tree-elsewhere
