@@ -56,6 +56,10 @@ EditedAlike = (like : List (List ℕ) → List ℕ → List ℕ → Bool) (root 
 abbrev pub RemovedAlike : Type 0
 RemovedAlike = (like : List (List ℕ) → List ℕ → List ℕ → Bool) (root other : PathValue) (parts : List (List ℕ)) (c d : Contents) → 0 < length parts → Alike like c root d other → AlikeAnswers like root other (file_removed (below root parts) c) (file_removed (below other parts) d)
 
+-- and that of a folder with all that it holds, where it is removed in both
+abbrev pub TreeAlike : Type 0
+TreeAlike = (like : List (List ℕ) → List ℕ → List ℕ → Bool) (root other : PathValue) (parts : List (List ℕ)) (c d e f : Contents) → 0 < length parts → Alike like c root d other → IsTree e → IsTree f → tree_removed (below root parts) c ≡ Ok e → tree_removed (below other parts) d ≡ Ok f → Alike like e root f other
+
 -- in alike trees a folder has the same names
 abbrev pub NamesAlike : Type 0
 NamesAlike = (like : List (List ℕ) → List ℕ → List ℕ → Bool) (root other : PathValue) (parts : List (List ℕ)) (c d : Contents) → Alike like c root d other → SameAnswers root other (names_asked c (below root parts) (entry_at c (below root parts))) (names_asked d (below other parts) (entry_at d (below other parts)))

@@ -1,5 +1,5 @@
 // What follows from the definitions, for callers: each function's contract is a law.
-ghost use Rattle.file_edits.specs.Laws.{EditedAlike, EditedElsewhere, EditedStands, NamesAlike, OwnElsewhere, OwnInTurn, OwnIsWider, ReadAlike, RemovedAlike, RemovedElsewhere, RemovedIsGone, TreeElsewhere, TreeIsGone};
+ghost use Rattle.file_edits.specs.Laws.{EditedAlike, EditedElsewhere, EditedStands, NamesAlike, OwnElsewhere, OwnInTurn, OwnIsWider, ReadAlike, RemovedAlike, RemovedElsewhere, RemovedIsGone, TreeAlike, TreeElsewhere, TreeIsGone};
 
 /// What stands at a path, and at every other, after a file was edited or removed there, or
 /// a folder with all that it holds.
@@ -23,6 +23,7 @@ pub fn own_laws()
 pub fn alike_laws()
     ensures edited { EditedAlike }
     ensures removed { RemovedAlike }
+    ensures tree { TreeAlike }
     ensures names { NamesAlike }
     ensures read { ReadAlike }
 {}

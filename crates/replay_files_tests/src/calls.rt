@@ -1,6 +1,7 @@
-// The calls of slru_replay on a cluster, and what each answers.
+// The calls of slru_replay on a cluster, and that of file_edits which they don't use; and what each answers.
 use block_refs::split_record;
 use cluster_tree::{FileFault, MemoryTree, Path, Tree};
+use file_edits::remove_tree;
 use slru_replay::{Area, add_multi, cut_before, set_status, zero_page};
 use std::alloc::Global;
 use std::test::Fail;
@@ -24,6 +25,8 @@ pub(crate) enum Call<'a> {
     Cut(Area, u32, u32),
     /// `add_multi` by a record of these main bytes, at most 255.
     Multi(&'a [u8]),
+    /// `remove_tree` of `file_edits`: the folder.
+    Clear(&'a str),
 }
 
 // A log of one record of these main bytes.
@@ -80,6 +83,15 @@ fn add<F: Tree>(alloc: Global, tree: &mut F, root: &Path, main: &[u8]) -> Result
     told(alloc, add_multi(alloc, tree, root, rec, &parts))
 }
 
+fn clear<F: Tree>(alloc: Global, tree: &mut F, folder: &str) -> Result<String, Fail> {
+    let folder = Path::parse(alloc, folder)?;
+    if folder.len() == 0 {
+        return Err("no folder to remove".into());
+    }
+    let done = remove_tree(alloc, tree, &folder);
+    told(alloc, done.map(|()| true))
+}
+
 /// What a call on the cluster at a root answers: `done`, `short`, or the text of a fault.
 pub(crate) fn answer<F: Tree>(
     alloc: Global,
@@ -96,6 +108,7 @@ pub(crate) fn answer<F: Tree>(
         Call::Zero(area, page) => zero_page(alloc, tree, &root, area, page),
         Call::Cut(area, first, last) => cut_before(alloc, tree, &root, area, first, last),
         Call::Multi(main) => return add(alloc, tree, &root, main),
+        Call::Clear(folder) => return clear(alloc, tree, folder),
     };
     told(alloc, done.map(|()| true))
 }
