@@ -107,6 +107,7 @@ line_of name (cause.Control (control.Version root n)) = line_with name (number_p
 line_of name (cause.Control (control.Catalog root n)) = line_with name (number_pieces (codes "Catalog") root n)
 line_of name (cause.Control (control.Shape root field n)) = line_with name (shape_pieces root field n)
 line_of name (cause.Rewind (rewind.SystemsDiffer target source)) = line_with name (systems_pieces target source)
+line_of name (cause.Rewind (rewind.KindsDiffer path)) = line_with name (path_pieces (codes "KindsDiffer") path)
 line_of name (cause.Log (logs.LogEnds at why)) = line_with name (end_pieces at why)
 line_of name (cause.Log (logs.BadParts at offset)) = line_with name (record_pieces (codes "BadParts") at offset)
 line_of name (cause.Log (logs.Compressed at id)) = line_with name (record_pieces (codes "Compressed") at id)

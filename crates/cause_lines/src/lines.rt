@@ -236,6 +236,9 @@ pub fn line_of(alloc: Global, name: Option<CommandName>, cause: &Cause) -> Resul
         Cause::Rewind(RewindCause::SystemsDiffer(target, source)) => {
             Line::Made(systems_line(alloc, name, *target, *source)?)
         }
+        Cause::Rewind(RewindCause::KindsDiffer(path)) => {
+            Line::Made(path_line(alloc, name, "KindsDiffer", path)?)
+        }
         Cause::Log(log) => Line::Made(log_line(alloc, name, log)?),
     })
 }

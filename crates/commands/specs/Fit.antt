@@ -1,7 +1,9 @@
--- The paths that a command's words give. Own: "Roots of at most 61 parts", "The folder of a dump".
-use Rattle.std.specs.Prelude.{◌≤◌, length}
+-- The paths that a command's words give. Own: "Roots of at most 61 parts", "The folder of a dump", "The names of an archive".
+use Rattle.std.specs.Prelude.{◌≡◌, ◌≤◌, true, is_some, length}
+use Rattle.archive_names.specs.Cleanup.{kept_of}
 use Rattle.cluster_tree.specs.Apart.{AreApart}
 use Rattle.cluster_tree.specs.PathValue.{PathValue}
+use Rattle.commands.specs.declared.archivecleanup.ArchivecleanupWords.{ArchivecleanupWords}
 use Rattle.commands.specs.declared.command.Command.{Command}
 use Rattle.commands.specs.declared.command.Command.TheVariants as command
 use Rattle.commands.specs.declared.waldump.WaldumpWords.{WaldumpWords}
@@ -17,7 +19,7 @@ pub record AreFitRoots (target source : PathValue) : Type 0 where
   pub source_depth : IsFitRoot source
   pub apart : AreApart target source
 
--- a dump's folder leaves room for pg_wal and a file in it
+-- a folder of a log leaves room for pg_wal and a file in it
 abbrev pub IsFitFolder : PathValue → Type 0
 IsFitFolder folder = length folder.parts ≤ 62
 
@@ -25,8 +27,14 @@ abbrev pub IsFitWaldump : WaldumpWords → Type 0
 IsFitWaldump waldump.Managers = Unit {0}
 IsFitWaldump (waldump.Dump words) = IsFitFolder words.folder
 
+-- an archive's folder leaves room for a file in it, and the name that is kept has one of its forms
+pub record IsFitArchivecleanup (words : ArchivecleanupWords) : Type 0 where
+  pub depth : IsFitFolder words.folder
+  pub kept : is_some (kept_of words.extension words.kept) ≡ true
+
 -- what a command may be carried out on
 abbrev pub IsFit : Command → Type 0
 IsFit (command.Rewind words) = AreFitRoots words.target words.source
 IsFit (command.Controldata words) = IsFitRoot words.root
 IsFit (command.Waldump words) = IsFitWaldump words
+IsFit (command.Archivecleanup words) = IsFitArchivecleanup words

@@ -1,6 +1,7 @@
 //! The commands: their names, and what their words ask for.
 #![tactic(auto)]
 
+mod archivecleanup;
 mod command;
 mod controldata;
 mod fault;
@@ -8,6 +9,7 @@ mod name;
 mod rewind;
 mod waldump;
 
+pub use archivecleanup::ArchivecleanupWords;
 pub use command::Command;
 pub use controldata::ControldataWords;
 pub use fault::CommandFault;

@@ -1,2 +1,3 @@
 pub mod BlameSteps
 pub mod AnswerSteps
+pub mod GrowSteps

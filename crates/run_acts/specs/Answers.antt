@@ -1,7 +1,7 @@
 -- What a command does, why it is refused after that, and how a run carries that out. Own: "A command is a script of acts".
-use Rattle.std.specs.Prelude.{◌≡◌, ℕ, ◌≤◌, ◌⊎◌, Bool, List, [], ◌∷◌, Option, None, Some}
+use Rattle.std.specs.Prelude.{◌≡◌, ℕ, ◌≤◌, ◌++◌, ◌⊎◌, Bool, IsTrue, List, [], ◌∷◌, Option, None, Some}
 use Rattle.cluster_tree.specs.Causes.{Rose}
-use Rattle.acts.specs.Acts.{Act, Look, Seen, Performs}
+use Rattle.acts.specs.Acts.{Act, Look, Seen, Sunk, Performs}
 use Rattle.run_acts.specs.Causes.{IsFree, ending_of}
 use Rattle.run_acts.specs.declared.cause.Cause.{Cause}
 use Rattle.run_acts.specs.declared.cause.Cause.TheVariants as cause
@@ -42,3 +42,8 @@ pub record Blames (ended : Cause) (reads reads' changes changes' out out' err er
   pub changes_later : changes ≤ changes'
   pub out_later : out ≤ out'
   pub err_later : err ≤ err'
+
+-- what stood on a sink stays, whatever was added
+pub record Grows (tells : Bool) (old new : Sunk) : Type 0 where
+  pub text : List ℕ
+  pub added : IsTrue tells → new.text ≡ old.text ++ text

@@ -68,11 +68,13 @@ pub enum ControlCause {
     Shape(Path, Field, u64),
 }
 
-/// Why two clusters are unfit for a rewind.
+/// Why two clusters are unfit for a rewind, or files for what is to be done with them.
 #[derive(Drop)]
 pub enum RewindCause {
     /// The target's system identifier, and the source's.
     SystemsDiffer(u64, u64),
+    /// A folder stands in the place of a file.
+    KindsDiffer(Path),
 }
 
 /// What is wrong with a log.

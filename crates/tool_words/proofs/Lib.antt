@@ -1,3 +1,4 @@
+mod CleanupLemmas
 mod DumpLemmas
 mod FrontLemmas
 mod GrammarLemmas

@@ -3,6 +3,7 @@ use Rattle.std.proofs.Common.{◌≡◌, refl, true}
 use Rattle.clap.specs.Faults.{is_simple_and_free}
 use Rattle.clap.proofs.OnLiterals.{clap_on_literals}
 use Rattle.command_words.specs.Table.{command_with}
+use Rattle.tool_words.specs.Archivecleanup.{archivecleanup_table}
 use Rattle.tool_words.specs.Controldata.{controldata_table}
 use Rattle.tool_words.specs.Rewind.{rewind_table}
 use Rattle.tool_words.specs.Waldump.{waldump_table}
@@ -18,3 +19,7 @@ rewind_is_simple = refl
 pub waldump_is_simple : is_simple_and_free (command_with waldump_table) ≡ true
 unfolding waldump_table clap_on_literals
 waldump_is_simple = refl
+
+pub archivecleanup_is_simple : is_simple_and_free (command_with archivecleanup_table) ≡ true
+unfolding archivecleanup_table clap_on_literals
+archivecleanup_is_simple = refl

@@ -1,4 +1,4 @@
--- What the program's words ask for: PostgreSQL 16 manual, reference pages of pg_rewind, pg_controldata and pg_waldump. Own: "The order of what
+-- What the program's words ask for: PostgreSQL 16 manual, reference pages of pg_rewind, pg_controldata, pg_waldump and pg_archivecleanup. Own: "The order of what
 -- is wrong with roots", "The folder of a dump".
 use Rattle.std.specs.Prelude.{ℕ, ◌==◌, ◌||◌, Bool, true, false, if◌then◌else◌, List, length, codes, Option, None, Some, unwrap_or, option_map, Result, Ok, Err}
 use Rattle.cluster_tree.specs.Apart.{overlap}
@@ -15,10 +15,12 @@ use Rattle.commands.specs.declared.fault.CommandFault.TheVariants as fault
 use Rattle.commands.specs.declared.name.CommandName.{CommandName}
 use Rattle.commands.specs.declared.name.CommandName.TheVariants as name
 use Rattle.commands.specs.declared.waldump.WaldumpWords.TheVariants as asked
+use Rattle.tool_words.specs.Archivecleanup.{archivecleanup_of}
 use Rattle.tool_words.specs.Controldata.{controldata_of}
 use Rattle.tool_words.specs.Paths.{root_named, folder_named}
 use Rattle.tool_words.specs.Rewind.{rewind_of}
 use Rattle.tool_words.specs.Waldump.{waldump_of}
+use Rattle.tool_words.specs.declared.archivecleanup.ArchivecleanupTexts.{ArchivecleanupTexts}
 use Rattle.tool_words.specs.declared.rewind.RewindTexts.{RewindTexts}
 use Rattle.tool_words.specs.declared.waldump.DumpTexts.{DumpTexts}
 use Rattle.tool_words.specs.declared.waldump.SegmentWord.{SegmentWord}
@@ -85,6 +87,20 @@ waldump_asked None = Err fault.Usage
 waldump_asked (Some texts.Managers) = Ok (command.Waldump asked.Managers)
 waldump_asked (Some (texts.Dump words)) = given (folder_named (folder_text words)) (λ folder. Ok (dump_in_folder words folder))
 
+-- pg_archivecleanup in a folder
+abbrev pub cleanup_in_folder : ArchivecleanupTexts → PathValue → Command
+cleanup_in_folder words folder = command.Archivecleanup (record {
+  folder = folder;
+  kept = words.kept;
+  extension = words.extension;
+  debug = words.debug;
+  dry_run = words.dry_run;
+})
+
+abbrev pub archivecleanup_asked : Option ArchivecleanupTexts → Result Command CommandFault
+archivecleanup_asked None = Err fault.Usage
+archivecleanup_asked (Some words) = given (folder_named words.folder) (λ folder. Ok (cleanup_in_folder words folder))
+
 -- what the words of the command of this name ask for; the others aren't built yet, whatever their words
 unfoldable pub command_named : Option CommandName → List (List ℕ) → Result Command CommandFault
 command_named None words = Err fault.Usage
@@ -92,7 +108,7 @@ command_named (Some name.PgRewind) words = rewind_asked (rewind_of words)
 command_named (Some name.PgWaldump) words = waldump_asked (waldump_of words)
 command_named (Some name.PgControldata) words = controldata_asked (controldata_of words)
 command_named (Some name.PgResetwal) words = Err fault.NotBuilt
-command_named (Some name.PgArchivecleanup) words = Err fault.NotBuilt
+command_named (Some name.PgArchivecleanup) words = archivecleanup_asked (archivecleanup_of words)
 command_named (Some name.PgWalreplay) words = Err fault.NotBuilt
 command_named (Some name.PgWalcompare) words = Err fault.NotBuilt
 command_named (Some name.Pair) words = Err fault.NotBuilt

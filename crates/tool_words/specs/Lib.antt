@@ -2,6 +2,7 @@ pub mod Paths
 pub mod Roots
 pub mod Controldata
 pub mod Rewind
+pub mod Archivecleanup
 pub mod Forms
 pub mod Waldump
 pub mod Command

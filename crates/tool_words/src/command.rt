@@ -3,19 +3,21 @@ ghost use Rattle.std.specs.Prelude.{◌≡◌, map, string_bytes, IfOk};
 ghost use Rattle.cluster_tree.specs.Causes.{Meets};
 ghost use Rattle.commands.specs.Faults.{IsFree};
 ghost use Rattle.commands.specs.Fit.{IsFit};
-ghost use Rattle.tool_words.specs.Command.{command_of, controldata_asked, rewind_asked, waldump_asked};
+ghost use Rattle.tool_words.specs.Command.{archivecleanup_asked, command_of, controldata_asked, rewind_asked, waldump_asked};
+ghost use Rattle.tool_words.specs.Archivecleanup.{archivecleanup_of};
 ghost use Rattle.tool_words.specs.Controldata.{controldata_of};
 ghost use Rattle.tool_words.specs.Rewind.{rewind_of};
 ghost use Rattle.tool_words.specs.Waldump.{waldump_of};
 
+use crate::archivecleanup::archivecleanup_words;
 use crate::controldata::controldata_words;
 use crate::dump::dump_asked;
-use crate::paths::{MOST_OF_ROOT, path_named};
+use crate::paths::{MOST_OF_FOLDER, MOST_OF_ROOT, path_named};
 use crate::rewind::rewind_words;
 use crate::roots::two_roots;
 use crate::waldump::{WaldumpTexts, waldump_words};
 use command_words::WordsFault;
-use commands::{Command, CommandFault, CommandName, ControldataWords, WaldumpWords, name_of};
+use commands::{ArchivecleanupWords, Command, CommandFault, CommandName, ControldataWords, WaldumpWords, name_of};
 use std::alloc::Global;
 
 fn controldata_asked(alloc: Global, words: &[String]) -> Result<Command, CommandFault>
@@ -59,6 +61,27 @@ fn waldump_asked(alloc: Global, words: &[String]) -> Result<Command, CommandFaul
     }
 }
 
+#[tactic(auto, using(crate::proofs::CleanupLemmas::words_steps))]
+fn archivecleanup_asked(alloc: Global, words: &[String]) -> Result<Command, CommandFault>
+    ensures answer { Meets IsFree (archivecleanup_asked (archivecleanup_of (map string_bytes words.now))) result }
+    ensures fit { IfOk result IsFit }
+{
+    match archivecleanup_words(alloc, words) {
+        Ok(texts) => {
+            let folder = path_named(alloc, MOST_OF_FOLDER, texts.folder.as_str())?;
+            Ok(Command::Archivecleanup(ArchivecleanupWords {
+                folder,
+                kept: texts.kept,
+                extension: texts.extension,
+                debug: texts.debug,
+                dry_run: texts.dry_run,
+            }))
+        }
+        Err(WordsFault::Usage) => Err(CommandFault::Usage),
+        Err(WordsFault::OutOfMemory) => Err(CommandFault::OutOfMemory),
+    }
+}
+
 /// What the words ask for, the first of them being a command's name.
 ///
 /// Answers `Usage` where they are in no command's grammar, `NotBuilt` where they name a command that
@@ -74,9 +97,9 @@ pub fn read_command(alloc: Global, words: &[String]) -> Result<Command, CommandF
         Some(CommandName::PgRewind) => rewind_asked(alloc, words),
         Some(CommandName::PgWaldump) => waldump_asked(alloc, words),
         Some(CommandName::PgControldata) => controldata_asked(alloc, words),
+        Some(CommandName::PgArchivecleanup) => archivecleanup_asked(alloc, words),
         Some(
             CommandName::PgResetwal
-            | CommandName::PgArchivecleanup
             | CommandName::PgWalreplay
             | CommandName::PgWalcompare
             | CommandName::Pair,

@@ -1,6 +1,7 @@
 //! The words of the tools: what each command's words ask for.
 #![tactic(auto)]
 
+mod archivecleanup;
 mod command;
 mod controldata;
 mod dump;

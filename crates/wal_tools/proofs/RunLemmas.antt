@@ -1,5 +1,5 @@
 -- A run, from the words to the line of the cause.
-use Rattle.std.proofs.Common.{◌≡◌, ◌≢◌, ◌⊎◌, ℕ, Bool, true, false, IsTrue, List, [], Option, None, Some, inl, inr, refl, sym, ap, ◌∙◌, subst, Result, Ok, Err}
+use Rattle.std.proofs.Common.{◌≡◌, ◌≢◌, ◌⊎◌, ℕ, Bool, true, false, not, IsTrue, List, [], Option, None, Some, inl, inr, refl, sym, ap, ◌∙◌, subst, Result, Ok, Err}
 use Rattle.cluster_tree.specs.Causes.{Meets}
 use Rattle.cluster_tree.specs.Contents.{Contents}
 use Rattle.cluster_tree.specs.declared.tree.ChangeCall.{ChangeCall}
@@ -23,23 +23,28 @@ use Rattle.run_acts.specs.Causes.{IsFree, ending_of, has_values}
 use Rattle.run_acts.specs.declared.cause.Cause.{Cause}
 use Rattle.run_acts.specs.declared.cause.Cause.TheVariants as cause
 use Rattle.run_acts.proofs.AnswerSteps.{Looks, carries_fault, carries_refused, carries_exact, carries_told}
+use Rattle.cmd_archivecleanup.specs.Archivecleanup.{IsArchivecleanup, archivecleanup_answer}
+use Rattle.cmd_archivecleanup.proofs.FormLemmas.{answer-form as cleanup-form, answer-looks as cleanup-looks}
+use Rattle.commands.specs.declared.archivecleanup.ArchivecleanupWords.{ArchivecleanupWords}
 use Rattle.cmd_controldata.proofs.FormLemmas.{answer-form as control-form, answer-looks as control-looks}
 use Rattle.cmd_rewind.proofs.FormLemmas.{answer-form as rewind-form, answer-looks as rewind-looks}
 use Rattle.cmd_waldump.proofs.FormLemmas.{answer-form as waldump-form, answer-looks as waldump-looks}
 use Rattle.wal_tools.specs.Answers.{IsAnswer, answered}
-use Rattle.wal_tools.specs.Words.{NeedsNoTree, refused_by_words, words_cause}
+use Rattle.wal_tools.specs.Words.{AreFaulty, IsSeen, MayChange, NeedsNoTree, refused_by_words, words_cause}
 
 -- what is done has the command's form, and begins with a look
 pub answered-form : (c : Contents) (asked : Result Command CommandFault) → IsAnswer asked (answered c asked)
 answered-form c (Ok (command.Rewind words)) = rewind-form words.dry_run (rewind_of c words.target words.source)
 answered-form c (Ok (command.Controldata words)) = control-form (control_at c words.root)
 answered-form c (Ok (command.Waldump words)) = waldump-form c words
+answered-form c (Ok (command.Archivecleanup words)) = cleanup-form c words
 answered-form c (Err e) = refl
 
 pub answered-looks : (c : Contents) (asked : Result Command CommandFault) → Looks ((answered c asked).acts)
 answered-looks c (Ok (command.Rewind words)) = rewind-looks words.dry_run (rewind_of c words.target words.source)
 answered-looks c (Ok (command.Controldata words)) = control-looks (control_at c words.root)
 answered-looks c (Ok (command.Waldump words)) = waldump-looks c words
+answered-looks c (Ok (command.Archivecleanup words)) = cleanup-looks c words
 answered-looks c (Err e) = tt
 
 -- what is carried out of words
@@ -70,6 +75,51 @@ of_controldata tells c {o = o} {e} {ended} {s} {u} is p =
 pub of_waldump : (tells : Bool) (c : Contents) {k : Command} {words : WaldumpWords} {o e : Bool} {ended : Cause} {s u : Seen} → k ≡ command.Waldump words
     → Carries (IsTrue tells ⊎ AskForList words) (waldump_answer c words) (IsWaldump words) o e ended s u → CarriesOut tells c o e (Ok k) ended s u
 of_waldump tells c {o = o} {e} {ended} {s} {u} is p = let P : Command → Type 0 = λ x. CarriesOut tells c o e (Ok x) ended s u in subst P (sym is) p
+
+-- pg_archivecleanup was
+pub of_archivecleanup : (tells : Bool) (c : Contents) {k : Command} {words : ArchivecleanupWords} {o e : Bool} {ended : Cause} {s u : Seen} → k ≡ command.Archivecleanup words
+    → Carries (IsTrue tells) (archivecleanup_answer c words) IsArchivecleanup o e ended s u → CarriesOut tells c o e (Ok k) ended s u
+of_archivecleanup tells c {o = o} {e} {ended} {s} {u} is p =
+    let P : Command → Type 0 = λ x. CarriesOut tells c o e (Ok x) ended s u in
+    subst P (sym is) (record { answer = p.answer; known = λ h. p.known (by_tree tells h); form = p.form; exact = p.exact; acts = p.acts })
+
+undried : (dry_run : Bool) → (IsTrue (not dry_run) → ⊥) → IsTrue dry_run
+undried true h = refl
+undried false h = absurd (h refl)
+
+seen_dry : (T : Type 0) (words : ArchivecleanupWords) → IsSeen T (Ok (command.Archivecleanup words)) → T ⊎ IsTrue words.dry_run
+seen_dry T words (inl t) = inl t
+seen_dry T words (inr none) = inr (undried words.dry_run none)
+
+-- what it does is seen where the tree tells, and of a dry run
+pub seen_cleanup : (T : Type 0) {k : Command} {words : ArchivecleanupWords} → k ≡ command.Archivecleanup words → IsSeen T (Ok k) → T ⊎ IsTrue words.dry_run
+seen_cleanup T {k} {words} is seen = seen_dry T words (let P : Command → Type 0 = λ x. IsSeen T (Ok x) in subst P is seen)
+
+-- it changes nothing in a dry run
+pub dried_cleanup : {k : Command} {words : ArchivecleanupWords} → k ≡ command.Archivecleanup words → (MayChange (Ok k) → ⊥) → IsTrue words.dry_run
+dried_cleanup {k} {words} is none = undried words.dry_run (let P : Command → Type 0 = λ x. MayChange (Ok x) → ⊥ in subst P is none)
+
+-- and may else
+wet : (dry_run : Bool) → dry_run ≡ false → IsTrue (not dry_run)
+wet dry_run is = ap not is
+
+pub wet_cleanup : {k : Command} {words : ArchivecleanupWords} → k ≡ command.Archivecleanup words → words.dry_run ≡ false → MayChange (Ok k)
+wet_cleanup {k} {words} is dry = let P : Command → Type 0 = λ x. MayChange (Ok x) in subst P (sym is) (wet words.dry_run dry)
+
+-- what needs no tree changes nothing
+needless : (asked : Result Command CommandFault) → NeedsNoTree asked → MayChange asked → ⊥
+needless (Ok (command.Rewind words)) need may = may
+needless (Ok (command.Controldata words)) need may = may
+needless (Ok (command.Waldump words)) need may = may
+needless (Ok (command.Archivecleanup words)) need may = need
+needless (Err e) need may = may
+
+pub seen_by : (T : Type 0) (asked : Result Command CommandFault) → T ⊎ NeedsNoTree asked → IsSeen T asked
+seen_by T asked (inl t) = inl t
+seen_by T asked (inr need) = inr (needless asked need)
+
+pub seen_as : (T : Type 0) {asked : Result Command CommandFault} {k : Command} → asked ≡ Ok k → IsSeen T asked → IsSeen T (Ok k)
+seen_as T is seen = let P : Result Command CommandFault → Type 0 = λ a. IsSeen T a in subst P is seen
 
 module _ (tells : Bool) (c : Contents) (asked : Result Command CommandFault) {o e : Bool} {k : List ChangeCall} {out err : Sunk} where
   -- there was no memory for the words

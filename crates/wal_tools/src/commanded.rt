@@ -1,15 +1,16 @@
 // A command, carried out.
 ghost use Rattle.std.specs.Prelude.{◌≡◌, ◌≢◌, ◌⊎◌, Err, IfErr, IsTrue, Ok, Some};
-ghost use Rattle.cluster_tree.specs.Frame.{Reads};
+ghost use Rattle.cluster_tree.specs.Frame.{Came, Reads};
 ghost use Rattle.cluster_tree.specs.PathValue.{PathValue};
 ghost use Rattle.commands.specs.Fit.{IsFit};
 ghost use Rattle.acts.specs.Acts.{seen, sunk};
-ghost use Rattle.run_acts.specs.Answers.{Blames, Carries};
+ghost use Rattle.run_acts.specs.Answers.{Blames, Carries, Grows};
 ghost use Rattle.run_acts.specs.Causes.{cause_of, is_of_files};
 ghost use Rattle.wal_tools.specs.Answers.{IsAnswer, answered};
-ghost use Rattle.wal_tools.specs.Words.{AreFaulty, NeedsNoTree, refused_by_words};
+ghost use Rattle.wal_tools.specs.Words.{AreFaulty, IsSeen, MayChange, NeedsNoTree, refused_by_words};
 
 use cluster_tree::{Sink, Tree};
+use cmd_archivecleanup::archivecleanup;
 use cmd_controldata::controldata;
 use cmd_rewind::rewind;
 use cmd_waldump::waldump;
@@ -27,7 +28,8 @@ pub(crate) fn carry_out<F: Tree, O: Sink, E: Sink>(
     now: i64,
 ) -> Result<(), Cause>
     requires { IsFit command.now }
-    ensures carries { Carries (IsTrue F.tells ⊎ NeedsNoTree (Ok command.now))
+    ensures carries { IsSeen (IsTrue F.tells) (Ok command.now) →
+        Carries (IsTrue F.tells ⊎ NeedsNoTree (Ok command.now))
         (answered (F.contents tree.old) (Ok command.now)) (IsAnswer (Ok command.now)) O.tells E.tells
         (cause_of result)
         (seen (F.contents tree.old) (F.calls tree.old)
@@ -36,21 +38,28 @@ pub(crate) fn carry_out<F: Tree, O: Sink, E: Sink>(
         (seen (F.contents tree.new) (F.calls tree.new)
         (sunk (O.written out.new) (O.failed_writes out.new))
         (sunk (E.written err.new) (E.failed_writes err.new))) }
+    ensures grows { Grows O.tells (sunk (O.written out.old) (O.failed_writes out.old))
+        (sunk (O.written out.new) (O.failed_writes out.new))
+        × Grows E.tells (sunk (E.written err.old) (E.failed_writes err.old))
+        (sunk (E.written err.new) (E.failed_writes err.new)) }
     ensures blames { Blames (cause_of result)
         (F.failed_reads tree.old) (F.failed_reads tree.new)
         (F.failed_changes tree.old) (F.failed_changes tree.new)
         (O.failed_writes out.old) (O.failed_writes out.new)
         (E.failed_writes err.old) (E.failed_writes err.new) }
     ensures only { IfErr result (λ e. IsTrue (is_of_files e) ⊎
-        ((e ≡ Cause.Usage) × AreFaulty (Ok command.now))) }
+        ((e ≡ Cause.Usage) × AreFaulty (Ok command.now)) ⊎
+        ((e ≡ Cause.WriteFault) × MayChange (Ok command.now))) }
     ensures unfit { (e : Cause) → refused_by_words (Ok command.now) ≡ Some e → result ≡ Err e }
     ensures apart { NeedsNoTree (Ok command.now) → tree.new ≡ tree.old }
     ensures changed { IsTrue F.tells → (p : PathValue) → result ≢ Err (Cause.Changed p) }
-    ensures reads { Reads F.Tree tree.old tree.new }
+    ensures reads { ¬ MayChange (Ok command.now) → Reads F.Tree tree.old tree.new }
+    ensures frame { Came F.Tree tree.old tree.new }
 {
     match command {
         Command::Rewind(words) => rewind(alloc, tree, err, words, now),
         Command::Controldata(words) => controldata(alloc, tree, out, words),
         Command::Waldump(words) => waldump(alloc, tree, out, words),
+        Command::Archivecleanup(words) => archivecleanup(alloc, tree, out, err, words),
     }
 }

@@ -1,16 +1,16 @@
 // The top call.
 ghost use Rattle.std.specs.Prelude.{◌≡◌, ◌≢◌, ◌⊎◌, Err, IsTrue, None, Some, map, string_bytes};
-ghost use Rattle.cluster_tree.specs.Frame.{Reads};
+ghost use Rattle.cluster_tree.specs.Frame.{Came, Reads};
 ghost use Rattle.cluster_tree.specs.PathValue.{PathValue};
 ghost use Rattle.commands.specs.Name.{name_of};
 ghost use Rattle.tool_words.specs.Command.{command_of};
 ghost use Rattle.acts.specs.Acts.{seen, sunk};
-ghost use Rattle.run_acts.specs.Answers.{Blames, Carries, cause_in};
+ghost use Rattle.run_acts.specs.Answers.{Blames, Carries, Grows, cause_in};
 ghost use Rattle.run_acts.specs.Causes.{IsFree, cause_of, is_of_text, status_of};
 ghost use Rattle.cause_lines.specs.Lines.{line_of};
 ghost use Rattle.wal_tools.specs.Answers.{IsAnswer, answered};
 ghost use Rattle.wal_tools.specs.Runs.{Runs};
-ghost use Rattle.wal_tools.specs.Words.{AreFaulty, MayChange, NeedsNoTree, refused_by_words};
+ghost use Rattle.wal_tools.specs.Words.{AreFaulty, IsSeen, MayChange, NeedsNoTree, refused_by_words};
 
 use crate::commanded::carry_out;
 use crate::ending::finish;
@@ -29,7 +29,7 @@ fn answer<F: Tree, O: Sink, E: Sink>(
     err: &mut E,
     now: i64,
 ) -> Result<(), Cause>
-    ensures carries { Carries
+    ensures carries { IsSeen (IsTrue F.tells) (command_of (map string_bytes words.now)) → Carries
         (IsTrue F.tells ⊎ NeedsNoTree (command_of (map string_bytes words.now)))
         (answered (F.contents tree.old) (command_of (map string_bytes words.now)))
         (IsAnswer (command_of (map string_bytes words.now))) O.tells E.tells (cause_of result)
@@ -39,6 +39,10 @@ fn answer<F: Tree, O: Sink, E: Sink>(
         (seen (F.contents tree.new) (F.calls tree.new)
         (sunk (O.written out.new) (O.failed_writes out.new))
         (sunk (E.written err.new) (E.failed_writes err.new))) }
+    ensures grows { Grows O.tells (sunk (O.written out.old) (O.failed_writes out.old))
+        (sunk (O.written out.new) (O.failed_writes out.new))
+        × Grows E.tells (sunk (E.written err.old) (E.failed_writes err.old))
+        (sunk (E.written err.new) (E.failed_writes err.new)) }
     ensures blames { Blames (cause_of result)
         (F.failed_reads tree.old) (F.failed_reads tree.new)
         (F.failed_changes tree.old) (F.failed_changes tree.new)
@@ -52,8 +56,11 @@ fn answer<F: Tree, O: Sink, E: Sink>(
         refused_by_words (command_of (map string_bytes words.now)) ≡ Some (Cause.Paths p) }
     ensures apart { NeedsNoTree (command_of (map string_bytes words.now)) → tree.new ≡ tree.old }
     ensures changed { IsTrue F.tells → (p : PathValue) → result ≢ Err (Cause.Changed p) }
-    ensures unwritten { result ≢ Err Cause.WriteFault }
-    ensures reads { Reads F.Tree tree.old tree.new }
+    ensures write_fault { result ≡ Err Cause.WriteFault →
+        MayChange (command_of (map string_bytes words.now)) }
+    ensures reads { ¬ MayChange (command_of (map string_bytes words.now)) →
+        Reads F.Tree tree.old tree.new }
+    ensures frame { Came F.Tree tree.old tree.new }
 {
     match command_of(alloc, words) {
         Ok(command) => carry_out(alloc, &command, tree, out, err, now),
@@ -90,7 +97,8 @@ pub fn run<F: Tree, O: Sink, E: Sink>(
         IsFree result.cause ⊎ (result.cause ≡ cause_in (answered (F.contents tree.old)
         (command_of (map string_bytes words.now))).refusal) }
     // the acts of the command, in order, as far as they came, and then the line of the cause
-    ensures runs { Runs (IsTrue F.tells ⊎ NeedsNoTree (command_of (map string_bytes words.now)))
+    ensures runs { Runs (IsSeen (IsTrue F.tells) (command_of (map string_bytes words.now)))
+        (IsTrue F.tells ⊎ NeedsNoTree (command_of (map string_bytes words.now)))
         (answered (F.contents tree.old) (command_of (map string_bytes words.now)))
         (IsAnswer (command_of (map string_bytes words.now))) O.tells E.tells result.cause
         (line_of (name_of (map string_bytes words.now)) result.cause)
@@ -124,6 +132,7 @@ pub fn run<F: Tree, O: Sink, E: Sink>(
     ensures apart { NeedsNoTree (command_of (map string_bytes words.now)) → tree.new ≡ tree.old }
     ensures reads { ¬ MayChange (command_of (map string_bytes words.now)) →
         Reads F.Tree tree.old tree.new }
+    ensures frame { Came F.Tree tree.old tree.new }
 {
     let name = name_of(words);
     let outcome = answer(alloc, words, tree, out, err, now);

@@ -5,6 +5,8 @@
 #[cfg(test)]
 mod bodies;
 #[cfg(test)]
+mod clean_ups;
+#[cfg(test)]
 mod control_files;
 #[cfg(test)]
 mod driver;

@@ -1,0 +1,5 @@
+pub mod PartLemmas
+pub mod GoneLemmas
+pub mod PlanLemmas
+pub mod RemovalLemmas
+pub mod FormLemmas

@@ -1,0 +1,17 @@
+use Rattle.cmd_archivecleanup.proofs.FormLemmas.{wet_answer}
+use Rattle.cmd_archivecleanup.proofs.PlanLemmas.{found_files, found_stand}
+use Rattle.cmd_archivecleanup.proofs.cleans.planned.Goals as goal
+
+pub removals-requires-clause-there : goal.removals-requires-clause-there
+removals-requires-clause-there g c told =
+    found_stand (g.F.Tree.contents c.args.tree.now) (g.F.Tree.contents c.gone.new.tree) c.args.words.now c.in-Ok.names c.gone.ensures.reads.same ((c.in-Ok.ensures.exact told).1)
+
+pub returns-in-Ok-removals-clause-exact : goal.returns-in-Ok-removals-clause-exact
+returns-in-Ok-removals-clause-exact g c told =
+    wet_answer (g.F.Tree.contents c.args.tree.now) (g.F.Tree.contents c.gone.new.tree) c.args.words.now c.in-Ok.names c.in-Ok-removals.queue.items c.gone.ensures.reads.same c.requires.wet (c.in-Ok.ensures.exact told)
+    (c.in-Ok-removals.ensures.exact told) c.in-Ok-removals.ensures.made
+
+pub returns-in-Ok-removals-clause-files : goal.returns-in-Ok-removals-clause-files
+returns-in-Ok-removals-clause-files g c told =
+    found_files (g.F.Tree.contents c.args.tree.now) (g.F.Tree.contents c.gone.new.tree) c.args.words.now c.in-Ok.names c.in-Ok-removals.queue.items c.gone.ensures.reads.same ((c.in-Ok.ensures.exact told).1)
+    (c.in-Ok-removals.ensures.exact told) c.in-Ok-removals.ensures.made

@@ -1,0 +1,2 @@
+pub mod Archivecleanup
+pub mod Steps

@@ -1,0 +1,20 @@
+-- The steps of a removal: its line, and the file. Own: "A command is a script of acts".
+use Rattle.std.specs.Prelude.{◌≡◌, ◌⊎◌, ℕ, Bool, List, Option, None, Some}
+use Rattle.cluster_tree.specs.PathValue.{PathValue}
+use Rattle.acts.specs.Acts.{Sunk, Puts, Breaks as BreaksOff}
+use Rattle.run_acts.specs.declared.cause.Cause.{Cause}
+use Rattle.run_acts.specs.declared.cause.Cause.TheVariants as cause
+
+-- a line was put, where there is one
+abbrev pub Tells : Bool → Option (List ℕ) → Sunk → Sunk → Type 0
+Tells tells None old new = new ≡ old
+Tells tells (Some line) old new = Puts tells line old new
+
+-- or its write failed
+abbrev pub Breaks : Bool → Option (List ℕ) → Sunk → Sunk → Type 0
+Breaks tells None old new = ⊥
+Breaks tells (Some line) old new = BreaksOff tells line old new
+
+-- what a removal answers that isn't done
+abbrev pub IsOfRemoval : Cause → Type 0
+IsOfRemoval e = (e ≡ cause.WriteFault) ⊎ ((p : PathValue) × (e ≡ cause.Changed p))
