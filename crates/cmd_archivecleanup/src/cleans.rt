@@ -21,11 +21,7 @@ use std::collections::VecDeque;
 use wal_base::Text;
 
 // The text of a dry run.
-fn named<F: Tree>(
-    alloc: Global,
-    tree: &mut F,
-    words: &ArchivecleanupWords,
-) -> Result<Text, Cause>
+fn named<F: Tree>(alloc: Global, tree: &mut F, words: &ArchivecleanupWords) -> Result<Text, Cause>
     requires fit { IsFitArchivecleanup words.now }
     requires dry_run { words.now.dry_run ≡ true }
     ensures exact { IsTrue F.tells → MatchResult result

@@ -16,12 +16,7 @@ use wal_base::Text;
 
 // Adds the path of a file in a folder, as a line.
 #[tactic(auto, using(crate::proofs::PartLemmas::part_steps))]
-fn add_path(
-    alloc: Global,
-    text: &mut String,
-    folder: &Path,
-    name: &str,
-) -> Result<(), OutOfMemory>
+fn add_path(alloc: Global, text: &mut String, folder: &Path, name: &str) -> Result<(), OutOfMemory>
     requires depth { length folder.now.parts ≤ 62 }
     requires part { is_part name.now ≡ true }
     ensures { OnOk result (string_bytes text.new ≡ string_bytes text.old ++ path_line folder.now name.now) }
@@ -33,11 +28,7 @@ fn add_path(
 }
 
 /// The paths of the files with these names in a folder, a line each.
-pub(crate) fn path_lines(
-    alloc: Global,
-    folder: &Path,
-    names: &Names,
-) -> Result<Text, OutOfMemory>
+pub(crate) fn path_lines(alloc: Global, folder: &Path, names: &Names) -> Result<Text, OutOfMemory>
     requires depth { length folder.now.parts ≤ 62 }
     requires parts { list_all is_part names.now ≡ true }
     ensures { IfOk result (λ text. text ≡ flat_map (path_line folder.now) names.now) }

@@ -58,9 +58,7 @@ fn copy(alloc: Global, path: &Path) -> Result<Path, Cause>
 fn removing_line(alloc: Global, path: &Path) -> Result<Text, OutOfMemory>
     ensures { IfOk result (λ line. line ≡ removing_line path.now) }
 {
-    Ok(Text::from(
-        format!(in alloc; "pg_archivecleanup: removing file \"{path}\"\n")?,
-    ))
+    Ok(Text::from(format!(in alloc; "pg_archivecleanup: removing file \"{path}\"\n")?))
 }
 
 fn line_of(alloc: Global, debug: bool, path: &Path) -> Result<Option<Text>, OutOfMemory>
@@ -75,12 +73,7 @@ fn line_of(alloc: Global, debug: bool, path: &Path) -> Result<Option<Text>, OutO
 
 // The removal of a file in a folder, by its name.
 #[tactic(auto, using(crate::proofs::PartLemmas::part_steps))]
-fn removal_of(
-    alloc: Global,
-    debug: bool,
-    folder: &Path,
-    name: &str,
-) -> Result<Removal, OutOfMemory>
+fn removal_of(alloc: Global, debug: bool, folder: &Path, name: &str) -> Result<Removal, OutOfMemory>
     requires depth { length folder.now.parts ≤ 62 }
     requires part { is_part name.now ≡ true }
     ensures { IfOk result (λ made. made ≡ removal debug folder.now name.now) }

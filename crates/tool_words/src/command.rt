@@ -17,7 +17,10 @@ use crate::rewind::rewind_words;
 use crate::roots::two_roots;
 use crate::waldump::{WaldumpTexts, waldump_words};
 use command_words::WordsFault;
-use commands::{ArchivecleanupWords, Command, CommandFault, CommandName, ControldataWords, WaldumpWords, name_of};
+use commands::{
+    ArchivecleanupWords, Command, CommandFault, CommandName, ControldataWords, WaldumpWords,
+    name_of,
+};
 use std::alloc::Global;
 
 fn controldata_asked(alloc: Global, words: &[String]) -> Result<Command, CommandFault>

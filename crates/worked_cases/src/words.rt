@@ -72,7 +72,7 @@ run pg_resetwal t
 err pg_resetwal: error: NotBuilt
 status 1
 run pg_archivecleanup
-err pg_archivecleanup: error: NotBuilt
+err pg_archivecleanup: error: Usage
 status 1
 run pg_walreplay t
 err pg_walreplay: error: NotBuilt
