@@ -63,27 +63,27 @@ fn cursor(alloc: Global) -> Result<RecordCursor, Fail> {
     Ok(cursor)
 }
 
-/// A reference of these parts.
-fn reference(
-    id: u8,
-    rel: (u32, u32, u32),
-    fork: Fork,
-    block: u32,
-    image: Option<ImageRef>,
-) -> BlockRef {
-    let (space, database, relation) = rel;
-    let rel = RelName {
-        space,
-        database,
-        relation,
-    };
-    BlockRef {
-        id,
-        name: BlockName { rel, fork, block },
-        will_init: id == 4,
-        image,
+/// The references of a record in order, each also by its id.
+fn references(alloc: Global, parts: &Parts) -> Result<String, Fail> {
+    let mut text = String::new(alloc);
+    for at in 0..parts.count() {
+        if let Some(block) = parts.get(at) {
+            let named = parts.block(block.id).is_some();
+            writeln!(text, "{block:?} {named}")?;
+        }
     }
+    let past = parts.get(parts.count());
+    let unnamed = parts.block(2);
+    let images = parts.image_total();
+    write!(text, "{past:?} {unnamed:?} {images}")?;
+    Ok(text)
 }
+
+const REFERENCES: &str = "\
+BlockRef { id: 0, name: BlockName { rel: RelName { space: 1663, database: 5, relation: 16384 }, fork: Main, block: 7 }, will_init: false, image: None } true
+BlockRef { id: 1, name: BlockName { rel: RelName { space: 1663, database: 5, relation: 16384 }, fork: FreeSpace, block: 8 }, will_init: false, image: None } true
+BlockRef { id: 4, name: BlockName { rel: RelName { space: 1664, database: 0, relation: 1262 }, fork: Visibility, block: 9 }, will_init: true, image: Some(ImageRef { apply: false, hole_at: 1, hole: 8189 }) } true
+None None 3";
 
 #[test]
 fn a_record_has_its_references(rt: HostRuntime) -> Result<(), Fail> {
@@ -91,24 +91,8 @@ fn a_record_has_its_references(rt: HostRuntime) -> Result<(), Fail> {
     let rec = cursor.current().ok_or("no record")?;
     let mut parts = Parts::new();
     split_into(rec, &mut parts)?;
-    let image = Some(ImageRef {
-        apply: false,
-        hole_at: 1,
-        hole: 8189,
-    });
-    let expected = [
-        reference(0, (1663, 5, 16384), Fork::Main, 7, None),
-        reference(1, (1663, 5, 16384), Fork::FreeSpace, 8, None),
-        reference(4, (1664, 0, 1262), Fork::Visibility, 9, image),
-    ];
-    assert_eq!(rt; parts.count(), 3);
-    assert_eq!(rt; parts.image_total(), 3);
-    for (at, block) in expected.iter().enumerate() {
-        assert_eq!(rt; parts.get(at), Some(*block));
-        assert_eq!(rt; parts.block(block.id), Some(*block));
-    }
-    assert_eq!(rt; parts.get(3), None);
-    assert_eq!(rt; parts.block(2), None);
+    let told = references(rt.alloc(), &parts)?;
+    assert_eq!(rt; told.as_str(), REFERENCES);
     Ok(())
 }
 
