@@ -8,7 +8,7 @@ use Rattle.cluster_tree.specs.Folders.{list_refusal}
 use Rattle.cluster_tree.specs.declared.tree.TreeFault.{TreeFault}
 use Rattle.commands.specs.declared.archivecleanup.ArchivecleanupWords.{ArchivecleanupWords}
 use Rattle.acts.specs.Acts.{Act, Print, Ending, Done, Seen, Performs, ends}
-use Rattle.run_acts.specs.Answers.{Answer, does, refused}
+use Rattle.run_acts.specs.Answers.{does, refused}
 use Rattle.run_acts.specs.Causes.{IsFree, cause_of}
 use Rattle.run_acts.specs.declared.cause.Cause.{Cause}
 use Rattle.run_acts.specs.declared.cause.Cause.TheVariants as causes

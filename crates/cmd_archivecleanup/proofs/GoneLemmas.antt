@@ -1,9 +1,9 @@
 -- The names of those that go, of a listing.
-use Rattle.std.proofs.Common.{◌≡◌, ◌∙◌, ℕ, ◌&&◌, Bool, true, false, cond, List, [], ◌∷◌, filter, Option, None, Some, option_map, unwrap_or, refl, sym, ap}
+use Rattle.std.proofs.Common.{◌≡◌, ◌∙◌, ℕ, ◌&&◌, Bool, true, false, cond, List, [], ◌∷◌, filter, Option, None, Some, option_map, unwrap_or, refl, ap}
 use Rattle.std.specs.List.{list_all}
 use Rattle.archive_names.specs.Cleanup.{goes, kept_of, removed_by_cleanup}
 use Rattle.cluster_tree.specs.Contents.{Contents}
-use Rattle.cluster_tree.specs.Folders.{IsListing, names_in}
+use Rattle.cluster_tree.specs.Folders.{IsListing}
 use Rattle.cluster_tree.proofs.NamesLemmas.{listing_names}
 use Rattle.commands.specs.declared.archivecleanup.ArchivecleanupWords.{ArchivecleanupWords}
 use Rattle.cmd_archivecleanup.specs.Archivecleanup.{gone, going}

@@ -1,7 +1,7 @@
 -- A name of a listing is one part of a path; and what all names meet, each one does.
-use Rattle.std.proofs.Common.{◌≡◌, ℕ, zero, suc, ◌≤◌, ◌&&◌, Bool, true, false, List, [], ◌∷◌, Option, None, Some, Ok, refl, sym, ap, ◌∙◌, arith, slice_get, true≢false}
+use Rattle.std.proofs.Common.{◌≡◌, ℕ, zero, suc, ◌≤◌, ◌&&◌, Bool, true, false, List, [], ◌∷◌, Some, Ok, refl, sym, ap, ◌∙◌, arith, slice_get, true≢false}
 use Rattle.std.specs.List.{list_all}
-use Rattle.cluster_tree.specs.PathValue.{is_part, kept_parts}
+use Rattle.cluster_tree.specs.PathValue.{is_part}
 use Rattle.cluster_tree.specs.Paths.{checked}
 use Rattle.cluster_tree.proofs.PartLemmas.{part_kept, part_admitted}
 

@@ -1,5 +1,5 @@
 -- The names of a listing, one by one, and the removals of those that go.
-use Rattle.std.proofs.Common.{◌≡◌, ◌≢◌, ◌∙◌, ◌⊎◌, inl, inr, ℕ, suc, ◌+◌, ◌<◌, ◌≤◌, ◌&&◌, ◌||◌, Bool, true, false, cond, List, [], ◌∷◌, ◌++◌, length, take, drop, map, filter, bytes_eq, is_some, Option, None, Some, option_map, unwrap_or, slice_get, get_or, if◌then◌else◌, refl, sym, ap, subst, append-nil, true≢false, arith}
+use Rattle.std.proofs.Common.{◌≡◌, ◌≢◌, ◌∙◌, ◌⊎◌, inl, inr, ℕ, suc, ◌+◌, ◌≤◌, ◌&&◌, ◌||◌, Bool, true, false, cond, List, [], ◌∷◌, ◌++◌, length, take, drop, map, filter, bytes_eq, is_some, Option, None, Some, option_map, unwrap_or, slice_get, refl, sym, ap, subst, append-nil, true≢false, arith}
 use Rattle.std.proofs.Math.ListN.{drop_of_length-le}
 use Rattle.std.proofs.Math.Seq.{drop-cons}
 use Rattle.std.proofs.lemmas.Cmp.{nat_list_cmp_total}
@@ -15,10 +15,10 @@ use Rattle.std.specs.List.Sorted.{IsStrictlySortedBy}
 use Rattle.std.specs.Ordering.{is_eq, nat_cmp, ordering_reverse}
 use Rattle.std.specs.declared.cmp.Ordering.{Ordering}
 use Rattle.std.specs.declared.cmp.Ordering.TheVariants.{Less, Equal, Greater}
-use Rattle.archive_names.specs.Cleanup.{goes, kept_of, removed_by_cleanup}
-use Rattle.cluster_tree.specs.PathValue.{PathValue, below}
+use Rattle.archive_names.specs.Cleanup.{goes, kept_of}
+use Rattle.cluster_tree.specs.PathValue.{PathValue}
 use Rattle.cluster_tree.specs.Contents.{Contents, Entry, FolderEntry, FileEntry, LinkEntry, entry_at, is_file, or_root}
-use Rattle.cluster_tree.specs.Folders.{IsListing, names_in}
+use Rattle.cluster_tree.specs.Folders.{names_in}
 use Rattle.cluster_tree.proofs.ContentsLemmas.{entry-removed_other}
 use Rattle.cluster_tree.proofs.NamesLemmas.{names_listing}
 use Rattle.commands.specs.declared.archivecleanup.ArchivecleanupWords.{ArchivecleanupWords}
@@ -26,7 +26,7 @@ use Rattle.run_acts.specs.Causes.{IsFree}
 use Rattle.run_acts.specs.declared.cause.Cause.{Cause}
 use Rattle.cmd_archivecleanup.specs.Archivecleanup.{AreFiles, entry_refusal, gone, in_folder, or_else, removal, unremoved}
 use Rattle.cmd_archivecleanup.specs.declared.plan.Removal.{Removal}
-use Rattle.cmd_archivecleanup.proofs.PartLemmas.{all_at, both_true}
+use Rattle.cmd_archivecleanup.proofs.PartLemmas.{both_true}
 
 -- ---- one name more
 

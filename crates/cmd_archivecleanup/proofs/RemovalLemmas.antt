@@ -1,5 +1,5 @@
 -- Removals that are carried out one after another, each behind its line.
-use Rattle.std.proofs.Common.{◌≡◌, ◌≢◌, ◌∙◌, ℕ, Bool, true, false, List, [], ◌∷◌, Option, None, Some, inl, inr, refl, sym, ap, subst, arith}
+use Rattle.std.proofs.Common.{◌≡◌, ◌≢◌, ℕ, Bool, true, List, [], ◌∷◌, Option, None, Some, inl, inr, refl, sym, ap, subst, arith}
 use Rattle.std.specs.FinMap.{remove}
 use Rattle.cluster_tree.specs.PathValue.{PathValue}
 use Rattle.cluster_tree.specs.Contents.{Contents}
@@ -10,7 +10,7 @@ use Rattle.cluster_tree.specs.Frame.{Came}
 use Rattle.cluster_tree.specs.declared.tree.Tree.{Ghosts}
 use Rattle.marked_runs.specs.Runs.{Runs}
 use Rattle.marked_runs.proofs.RunLemmas.{made-all, made-part}
-use Rattle.acts.specs.Acts.{Act, Do, Report, Ending, Done, SinkFailed, WriteFailed, Sunk, Seen, seen, MakesAll, Begins, IsAfterChange, Performs, ends}
+use Rattle.acts.specs.Acts.{Act, Do, Ending, Done, SinkFailed, WriteFailed, Sunk, Seen, seen, MakesAll, Begins, IsAfterChange, Performs, ends}
 use Rattle.acts.proofs.ActSteps.{do_breaks, report_breaks}
 use Rattle.acts.proofs.LeadLemmas.{Leads, leads_as, leads_do, leads_report}
 use Rattle.cmd_archivecleanup.specs.Archivecleanup.{AreFiles, removals, telling}

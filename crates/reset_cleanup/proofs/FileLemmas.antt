@@ -1,8 +1,8 @@
 -- A file is never refused to be removed.
-use Rattle.std.proofs.Common.{◌≡◌, Bool, true, false, Option, None, Some, refl, true≢false, sym, [], ◌∷◌}
+use Rattle.std.proofs.Common.{◌≡◌, Bool, true, Option, None, Some, refl, true≢false, sym, [], ◌∷◌}
 use Rattle.cluster_tree.specs.PathValue.{PathValue}
 use Rattle.cluster_tree.specs.Contents.{Contents, Entry, FolderEntry, FileEntry, LinkEntry, entry_at, is_file}
-use Rattle.cluster_tree.specs.Folders.{removal_refusal, has_child}
+use Rattle.cluster_tree.specs.Folders.{removal_refusal}
 use Rattle.cluster_tree.specs.Change.{Removes, first_refusal, or_next}
 
 removal_of_file : (in_use : Bool) (o : Option Entry) → is_file o ≡ true → or_next (removal_refusal in_use o) None ≡ None

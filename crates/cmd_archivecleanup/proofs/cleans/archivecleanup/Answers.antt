@@ -1,5 +1,5 @@
 use Rattle.acts.specs.Acts.{sunk}
-use Rattle.run_acts.proofs.GrowSteps.{grows_same, performs_grow}
+use Rattle.run_acts.proofs.GrowSteps.{performs_grow}
 use Rattle.cmd_archivecleanup.proofs.cleans.archivecleanup.Goals as goal
 
 pub returns-then-words-clause-grows : goal.returns-then-words-clause-grows

@@ -1,4 +1,4 @@
-use Rattle.std.proofs.Common.{◌≡◌, ◌∙◌, arith, ap, inl, inr, is_some, rules, drop, map, sym}
+use Rattle.std.proofs.Common.{◌∙◌, arith, ap, is_some, rules}
 use Rattle.cluster_tree.specs.PathValue.{is_part}
 use Rattle.cluster_tree.specs.Contents.{entry_at}
 use Rattle.cluster_tree.proofs.RunLemmas.{reads_on}

@@ -1,5 +1,4 @@
-use Rattle.std.proofs.Common.{◌≡◌, ap, arith, refl, rules}
-use Rattle.acts.specs.Acts.{sunk}
+use Rattle.std.proofs.Common.{ap, arith, refl, rules}
 use Rattle.run_acts.specs.Causes.{ending_of}
 use Rattle.run_acts.proofs.GrowSteps.{grows_then}
 use Rattle.cmd_archivecleanup.proofs.RemovalLemmas.{all_removed, came_on, files_from, grows_told, grows_untold, removed_from, unremoved_from, untold_from, write_failed}

@@ -1,4 +1,4 @@
-use Rattle.std.proofs.Common.{◌≡◌, ◌≤◌, Bool, IsTrue, length}
+use Rattle.std.proofs.Common.{◌≤◌, Bool, IsTrue, length}
 use Rattle.cluster_tree.specs.Frame.{Came}
 use Rattle.acts.specs.Acts.{IsAfterChange, Sunk, seen, sunk}
 use Rattle.acts.proofs.LeadLemmas.{Leads}
