@@ -4,6 +4,7 @@ ghost use Rattle.std.specs.Prelude.{◌*◌, ◌<◌, ◌^◌};
 ghost use Rattle.wal_base.specs.Segment.{bytes_of};
 
 use std::alloc::Global;
+use std::str;
 use std::test::Fail;
 use wal_base::{
     HexByte, HexWord, Lsn, OutOfMemory, SegSize, Segment, Spans, Text, decimal_u32, decimal_u64,
@@ -74,6 +75,13 @@ hex|4 31|001F
 hex|4 703710|ABCDE
 hex|0 0|0
 hex|16 18446744073709551615|FFFFFFFFFFFFFFFF
+byte|10|0A
+digit|15|F
+eight|23803720|016B3748
+text|pg_wal|pg_wal
+memory||out of memory
+span|1|2 0/3000000 0/4800000
+span|3|none
 timeline|0|1
 timeline|2|1
 timeline|3|2
@@ -158,6 +166,30 @@ fn timeline(alloc: Global, number: &str) -> Result<String, Fail> {
     Ok(format!(in alloc; "{tli}")?)
 }
 
+// The span at a place.
+fn span(alloc: Global, at: &str) -> Result<String, Fail> {
+    let spans = three_spans(alloc)?;
+    let at = decimal_u32(at.as_bytes()).ok_or("no place")? as usize;
+    if spans.len() != 3 {
+        return told(alloc, "not three spans");
+    }
+    match spans.get(at) {
+        Some(span) => Ok(format!(in alloc; "{} {} {}", span.tli, span.begin, span.end)?),
+        None => told(alloc, "none"),
+    }
+}
+
+// Digits of a number below 256.
+fn digits(alloc: Global, call: &str, number: &str) -> Result<String, Fail> {
+    let number = decimal_u32(number.as_bytes()).ok_or("no number")?;
+    match (call, u8::try_from(number)) {
+        ("byte", Ok(byte)) => Ok(HexByte(byte).to_string(alloc)?),
+        ("digit", Ok(digit)) if digit < 16 => told(alloc, hex_digit(digit)),
+        ("eight", _) => told(alloc, str::from_utf8(&eight_digits(number))?),
+        _ => Err("no digits".into()),
+    }
+}
+
 fn answer(alloc: Global, call: &str, given: &str) -> Result<String, Fail> {
     match call {
         "position" => position(alloc, given),
@@ -166,7 +198,11 @@ fn answer(alloc: Global, call: &str, given: &str) -> Result<String, Fail> {
         "u32" => decimal(alloc, decimal_u32(given.as_bytes()).map(u64::from)),
         "u64" => decimal(alloc, decimal_u64(given.as_bytes())),
         "hex" => hexadecimal(alloc, given),
+        "byte" | "digit" | "eight" => digits(alloc, call, given),
+        "text" => told(alloc, Text::new(alloc, given)?.as_str()),
+        "memory" => Ok(OutOfMemory.to_string(alloc)?),
         "timeline" => timeline(alloc, given),
+        "span" => span(alloc, given),
         _ => sized(alloc, call, given),
     }
 }
@@ -183,19 +219,6 @@ fn each_row_is_answered(rt: HostRuntime) -> Result<(), Fail> {
 }
 
 #[test]
-fn digits_and_texts_are_shown(rt: HostRuntime) -> Result<(), Fail> {
-    assert_eq!(rt; HexByte(0xA).to_string(rt.alloc())?.as_str(), "0A");
-    assert_eq!(rt; hex_digit(15), "F");
-    assert_eq!(rt; eight_digits(0x16B_3748), *b"016B3748");
-    assert_eq!(rt; Text::new(rt.alloc(), "pg_wal")?.as_str(), "pg_wal");
-    assert_eq!(rt;
-        OutOfMemory.to_string(rt.alloc())?.as_str(),
-        "out of memory"
-    );
+fn positions_compare_as_numbers(rt: HostRuntime) {
     assert!(rt; Lsn(0xFFFF_FFFF) < Lsn(0x1_0000_0000));
-    let spans = three_spans(rt.alloc())?;
-    assert_eq!(rt; spans.len(), 3);
-    assert_eq!(rt; spans.get(1).map(|span| span.end.0), Some(0x480_0000));
-    assert_eq!(rt; spans.get(3), None);
-    Ok(())
 }

@@ -15,6 +15,31 @@ const NINE: [u8; 9] = [0xC1, 0xC2, 0xC3, 0xC4, 0xC5, 0xC6, 0xC7, 0xC8, 0xC9];
 
 const THREE: [u8; 3] = [0xD1, 0xD2, 0xD3];
 
+// More than a page has room for.
+const LONG: [u8; 8168] = [0; 8168];
+
+// A call that changes a page.
+#[derive(Clone, Copy)]
+enum Call {
+    Set(u16, Line),
+    Add(&'static [u8], u16, bool),
+    Trim,
+    Pack,
+    Delete(&'static [u16]),
+    Init(u16),
+}
+
+fn make(page: &mut Page, call: Call) -> Result<(), PageRefusal> {
+    match call {
+        Call::Set(place, line) => page.set_line(place, line),
+        Call::Add(item, place, overwrite) => page.add_item(item, place, overwrite),
+        Call::Trim => page.trim(),
+        Call::Pack => page.pack(),
+        Call::Delete(places) => page.delete_items(places),
+        Call::Init(special) => page.init(special),
+    }
+}
+
 // A page with the items of 5, 16 and 9 bytes.
 fn page_of_three(alloc: Global) -> Result<Page, Fail> {
     let mut page = Page::zero(alloc)?;
@@ -37,14 +62,18 @@ fn assert_parts(rt: &impl Abort, page: &Page, name: &str, parts: &[(usize, &[u8]
     assert!(rt; same, "{name}");
 }
 
-#[test]
-fn adds_sets_and_packs(rt: HostRuntime) -> Result<(), Fail> {
-    let mut page = page_of_three(rt.alloc())?;
-    assert_parts(
-        &rt,
-        &page,
-        "three items",
-        &[
+// What the calls leave of a page of three items: parts, each at its byte, over zeros.
+struct Left {
+    name: &'static str,
+    calls: &'static [Call],
+    parts: &'static [(usize, &'static [u8])],
+}
+
+const LEFT: [Left; 9] = [
+    Left {
+        name: "three items",
+        calls: &[],
+        parts: &[
             (12, &[0x24, 0, 0xD8, 0x1F, 0, 0x20, 4, 0x20]),
             (
                 24,
@@ -54,13 +83,11 @@ fn adds_sets_and_packs(rt: HostRuntime) -> Result<(), Fail> {
             (8168, &SIXTEEN),
             (8184, &FIVE),
         ],
-    );
-    page.add_item(&THREE, 2, false)?;
-    assert_parts(
-        &rt,
-        &page,
-        "one between",
-        &[
+    },
+    Left {
+        name: "one between",
+        calls: &[Call::Add(&THREE, 2, false)],
+        parts: &[
             (12, &[0x28, 0, 0xD0, 0x1F, 0, 0x20, 4, 0x20]),
             (
                 24,
@@ -73,15 +100,11 @@ fn adds_sets_and_packs(rt: HostRuntime) -> Result<(), Fail> {
             (8168, &SIXTEEN),
             (8184, &FIVE),
         ],
-    );
-    let mut page = page_of_three(rt.alloc())?;
-    page.set_line(2, Line::Unused)?;
-    page.add_item(&THREE, 2, true)?;
-    assert_parts(
-        &rt,
-        &page,
-        "over an unused line",
-        &[
+    },
+    Left {
+        name: "over an unused line",
+        calls: &[Call::Set(2, Line::Unused), Call::Add(&THREE, 2, true)],
+        parts: &[
             (12, &[0x24, 0, 0xD0, 0x1F, 0, 0x20, 4, 0x20]),
             (
                 24,
@@ -92,48 +115,32 @@ fn adds_sets_and_packs(rt: HostRuntime) -> Result<(), Fail> {
             (8168, &SIXTEEN),
             (8184, &FIVE),
         ],
-    );
-    let mut page = page_of_three(rt.alloc())?;
-    page.set_line(2, Line::Redirect(3))?;
-    page.pack()?;
-    assert_parts(
-        &rt,
-        &page,
-        "redirected and packed",
-        &[
+    },
+    Left {
+        name: "redirected and packed",
+        calls: &[Call::Set(2, Line::Redirect(3)), Call::Pack],
+        parts: &[
             (12, &[0x24, 0, 0xE8, 0x1F, 0, 0x20, 4, 0x20]),
             (24, &[0xF8, 0x9F, 0x0A, 0, 3, 0, 1, 0, 0xE8, 0x9F, 0x12]),
             (8168, &NINE),
             (8184, &FIVE),
         ],
-    );
-    Ok(())
-}
-
-#[test]
-fn trims_and_deletes(rt: HostRuntime) -> Result<(), Fail> {
-    let mut page = page_of_three(rt.alloc())?;
-    page.set_line(3, Line::Unused)?;
-    page.trim()?;
-    assert_parts(
-        &rt,
-        &page,
-        "trimmed",
-        &[
+    },
+    Left {
+        name: "trimmed",
+        calls: &[Call::Set(3, Line::Unused), Call::Trim],
+        parts: &[
             (12, &[0x20, 0, 0xD8, 0x1F, 0, 0x20, 4, 0x20]),
             (24, &[0xF8, 0x9F, 0x0A, 0, 0xE8, 0x9F, 0x20]),
             (8152, &NINE),
             (8168, &SIXTEEN),
             (8184, &FIVE),
         ],
-    );
-    let mut page = page_of_three(rt.alloc())?;
-    page.delete_items(&[2])?;
-    assert_parts(
-        &rt,
-        &page,
-        "without the second",
-        &[
+    },
+    Left {
+        name: "without the second",
+        calls: &[Call::Delete(&[2])],
+        parts: &[
             (12, &[0x20, 0, 0xE8, 0x1F, 0, 0x20, 4, 0x20]),
             (
                 24,
@@ -143,14 +150,11 @@ fn trims_and_deletes(rt: HostRuntime) -> Result<(), Fail> {
             (8168, &NINE),
             (8184, &FIVE),
         ],
-    );
-    let mut page = page_of_three(rt.alloc())?;
-    page.delete_items(&[1, 3])?;
-    assert_parts(
-        &rt,
-        &page,
-        "without the first and third",
-        &[
+    },
+    Left {
+        name: "without the first and third",
+        calls: &[Call::Delete(&[1, 3])],
+        parts: &[
             (12, &[0x1C, 0, 0xF0, 0x1F, 0, 0x20, 4, 0x20]),
             (
                 24,
@@ -160,22 +164,28 @@ fn trims_and_deletes(rt: HostRuntime) -> Result<(), Fail> {
             (8168, &[0xB0, 0xB1, 0xB2, 0xB3, 0xB4, 0xB5, 0xB6, 0xB7]),
             (8176, &SIXTEEN),
         ],
-    );
-    let mut page = page_of_three(rt.alloc())?;
-    page.delete_items(&[1, 2, 3])?;
-    assert_parts(
-        &rt,
-        &page,
-        "without all",
-        &[(12, &[0x18, 0, 0, 0x20, 0, 0x20, 4, 0x20])],
-    );
-    page.init(13)?;
-    assert_parts(
-        &rt,
-        &page,
-        "empty",
-        &[(12, &[0x18, 0, 0xF0, 0x1F, 0xF0, 0x1F, 4, 0x20])],
-    );
+    },
+    Left {
+        name: "without all",
+        calls: &[Call::Delete(&[1, 2, 3])],
+        parts: &[(12, &[0x18, 0, 0, 0x20, 0, 0x20, 4, 0x20])],
+    },
+    Left {
+        name: "empty",
+        calls: &[Call::Delete(&[1, 2, 3]), Call::Init(13)],
+        parts: &[(12, &[0x18, 0, 0xF0, 0x1F, 0xF0, 0x1F, 4, 0x20])],
+    },
+];
+
+#[test]
+fn each_call_leaves_these_bytes(rt: HostRuntime) -> Result<(), Fail> {
+    for left in &LEFT {
+        let mut page = page_of_three(rt.alloc())?;
+        for call in left.calls {
+            make(&mut page, *call)?;
+        }
+        assert_parts(&rt, &page, left.name, left.parts);
+    }
     Ok(())
 }
 
@@ -197,39 +207,49 @@ fn holds_291_items(rt: HostRuntime) -> Result<(), Fail> {
     Ok(())
 }
 
+// Calls on a page of zeros, and on one of three items, that are refused.
+const OF_ZEROS: [(Call, PageRefusal); 6] = [
+    (Call::Set(0, Line::Unused), PageRefusal::BadPage),
+    (Call::Add(&[], 0, false), PageRefusal::BadPage),
+    (Call::Trim, PageRefusal::BadPage),
+    (Call::Pack, PageRefusal::BadPage),
+    (Call::Delete(&[0]), PageRefusal::BadPage),
+    (Call::Init(8169), PageRefusal::NoRoom),
+];
+
+const OF_THREE: [(Call, PageRefusal); 13] = [
+    (Call::Set(0, Line::Unused), PageRefusal::BadPlace),
+    (Call::Set(4, Line::Unused), PageRefusal::BadPlace),
+    (Call::Set(1, Line::Redirect(32768)), PageRefusal::BadPlace),
+    (
+        Call::Set(1, Line::Dead { at: 0, len: 40000 }),
+        PageRefusal::BadPlace,
+    ),
+    (Call::Add(&LONG, 0, false), PageRefusal::BadPlace),
+    (Call::Add(&LONG, 5, false), PageRefusal::BadPlace),
+    (Call::Add(&LONG, 5, true), PageRefusal::BadPlace),
+    (Call::Add(&LONG, 1, true), PageRefusal::BadPlace),
+    (Call::Add(&LONG, 1, false), PageRefusal::NoRoom),
+    (Call::Delete(&[0]), PageRefusal::BadPlace),
+    (Call::Delete(&[4]), PageRefusal::BadPlace),
+    (Call::Delete(&[2, 1]), PageRefusal::BadPlace),
+    (Call::Delete(&[2, 2]), PageRefusal::BadPlace),
+];
+
+fn assert_refused(rt: &impl Abort, page: &mut Page, rows: &[(Call, PageRefusal)]) {
+    for (call, refusal) in rows {
+        assert_eq!(rt; make(page, *call), Err(*refusal));
+    }
+}
+
 #[test]
 fn refuses_in_order(rt: HostRuntime) -> Result<(), Fail> {
-    let (bad_page, bad_place, no_room) = (
-        Err(PageRefusal::BadPage),
-        Err(PageRefusal::BadPlace),
-        Err(PageRefusal::NoRoom),
-    );
     let mut page = Page::zero(rt.alloc())?;
-    assert_eq!(rt; page.set_line(0, Line::Unused), bad_page);
-    assert_eq!(rt; page.add_item(&[], 0, false), bad_page);
-    assert_eq!(rt; page.trim(), bad_page);
-    assert_eq!(rt; page.pack(), bad_page);
-    assert_eq!(rt; page.delete_items(&[0]), bad_page);
+    assert_refused(&rt, &mut page, &OF_ZEROS);
     assert_eq!(rt; page.count(), None);
     assert_eq!(rt; page.line(1), None);
-    assert_eq!(rt; page.init(8169), no_room);
     let mut page = page_of_three(rt.alloc())?;
-    for (place, line) in [
-        (0, Line::Unused),
-        (4, Line::Unused),
-        (1, Line::Redirect(32768)),
-        (1, Line::Dead { at: 0, len: 40000 }),
-    ] {
-        assert_eq!(rt; page.set_line(place, line), bad_place);
-    }
-    for (place, overwrite) in [(0, false), (5, false), (5, true), (1, true)] {
-        assert_eq!(rt; page.add_item(&[0; 8168], place, overwrite), bad_place);
-    }
-    assert_eq!(rt; page.add_item(&[0; 8168], 1, false), no_room);
-    assert_eq!(rt; page.delete_items(&[0]), bad_place);
-    assert_eq!(rt; page.delete_items(&[4]), bad_place);
-    assert_eq!(rt; page.delete_items(&[2, 1]), bad_place);
-    assert_eq!(rt; page.delete_items(&[2, 2]), bad_place);
+    assert_refused(&rt, &mut page, &OF_THREE);
     Ok(())
 }
 
