@@ -1,8 +1,8 @@
 -- From where to where a log is shown, and on which timeline: PostgreSQL 16 manual, reference page of pg_waldump (STARTSEG, ENDSEG,
 -- --start, --end, --timeline); src/bin/pg_waldump/pg_waldump.c, main. Own: "The bounds of a dump".
-use Rattle.std.specs.Prelude.{ℕ, ◌+◌, ◌*◌, ◌^◌, ◌==◌, ◌&&◌, Bool, true, nat_lt, nat_le, if◌then◌else◌, List, Option, None, Some, Result, Ok, Err, unwrap_or}
+use Rattle.std.specs.Prelude.{ℕ, ◌+◌, ◌^◌, ◌==◌, ◌&&◌, Bool, true, nat_lt, nat_le, if◌then◌else◌, List, Option, None, Some, Result, Ok, Err, unwrap_or}
 use Rattle.cluster_tree.specs.Causes.{given}
-use Rattle.wal_base.specs.Segment.{bytes_of, segment_named}
+use Rattle.wal_base.specs.Segment.{bytes_of, segment_named, start_of}
 use Rattle.wal_base.specs.declared.lsn.Lsn.{Lsn}
 use Rattle.wal_base.specs.declared.seg_size.SegSize.{SegSize}
 use Rattle.wal_base.specs.declared.segment.Segment.{Segment}
@@ -22,8 +22,7 @@ end_at end = if nat_lt end (2 ^ 64) then Some (lsn_at end) else None
 -- what a segment holds of the log
 unfoldable pub stretch_of : Segment → Stretch
 stretch_of segment =
-    let start = segment.number * bytes_of segment.size in
-    record { tli = segment.tli; start = lsn_at start; end = end_at (start + bytes_of segment.size) }
+    record { tli = segment.tli; start = start_of segment; end = end_at ((start_of segment).0 + bytes_of segment.size) }
 
 abbrev pub stretch_or : Option Segment → Result Stretch FolderFault
 stretch_or None = Err fault.Usage

@@ -28,12 +28,12 @@ fn stretch_of(segment: Segment) -> Stretch
     requires { segment.number * bytes_of segment.size < 2 ^ 64 }
     ensures { result ≡ stretch_of segment }
 {
+    let start = segment.start();
     let size = u64::from(segment.size.bytes());
-    let start = segment.number * size;
     Stretch {
         tli: segment.tli,
-        start: Lsn(start),
-        end: start.checked_add(size).map(Lsn),
+        start,
+        end: start.0.checked_add(size).map(Lsn),
     }
 }
 
