@@ -3,31 +3,66 @@ use Rattle.std.proofs.Common.{◌≡◌, ◌≢◌, ◌∙◌, ◌==◌, length,
 use Rattle.std.proofs.lemmas.Bool.{eqb-true}
 use Rattle.std.proofs.lemmas.List.{nil_from_length}
 use Rattle.std.specs.List.{flat_map}
-use Rattle.cluster_tree.specs.Contents.{Contents, entry_at}
+use Rattle.cluster_tree.specs.Contents.{Contents, Entry, FolderEntry, FileEntry, LinkEntry, entry_at}
 use Rattle.cluster_tree.specs.Folders.{list_refusal}
 use Rattle.cluster_tree.specs.declared.tree.TreeFault.{TreeFault}
+use Rattle.cluster_tree.specs.declared.tree.TreeFault.TheVariants as fault
 use Rattle.commands.specs.declared.archivecleanup.ArchivecleanupWords.{ArchivecleanupWords}
 use Rattle.acts.specs.Acts.{Act, Print, Ending, Done, Seen, Performs, ends}
 use Rattle.run_acts.specs.Answers.{does, refused}
-use Rattle.run_acts.specs.Causes.{IsFree, cause_of}
+use Rattle.run_acts.specs.Causes.{IsFree, IsOfLook, cause_of}
 use Rattle.run_acts.specs.declared.cause.Cause.{Cause}
 use Rattle.run_acts.specs.declared.cause.Cause.TheVariants as causes
 use Rattle.run_acts.proofs.AnswerSteps.{Looks}
 use Rattle.cluster_tree.specs.PathValue.{PathValue}
 use Rattle.cmd_archivecleanup.specs.Steps.{IsOfRemoval}
-use Rattle.cmd_archivecleanup.specs.Archivecleanup.{IsArchivecleanup, archivecleanup_answer, folder_cause, gone, known_answer, listed_answer, path_line, printed, refused_or, removal, removals, unremoved}
+use Rattle.cmd_archivecleanup.specs.Archivecleanup.{IsArchivecleanup, archivecleanup_answer, entry_refusal, folder_cause, gone, in_folder, known_answer, listed_answer, or_else, path_line, printed, refused_or, removal, removals, unremoved}
 use Rattle.cmd_archivecleanup.specs.declared.plan.Removal.{Removal}
 
-form_or : (c : Contents) (o : Option Cause) (rs : List Removal) → IsArchivecleanup (refused_or o (removals c rs))
-form_or c (Some e) rs = inr (inl (e, refl))
-form_or c None rs = inr (inr (c, rs, refl))
+-- a refusal is of the look, if there is one
+abbrev OfLook : Option Cause → Type 0
+OfLook None = Unit {0}
+OfLook (Some e) = IsOfLook e
+
+entry_looks : (path : PathValue) (o : Option Entry) → OfLook (entry_refusal path o)
+entry_looks path None = tt
+entry_looks path (Some (FolderEntry r)) = inr (inr refl)
+entry_looks path (Some (FileEntry bytes)) = tt
+entry_looks path (Some LinkEntry) = inr (inr refl)
+
+either_looks : (a b : Option Cause) → OfLook a → OfLook b → OfLook (or_else a b)
+either_looks (Some e) b first next = first
+either_looks None b first next = next
+
+unremoved_looks : (c : Contents) (folder : PathValue) (names : List (List ℕ)) → OfLook (unremoved c folder names)
+unremoved_looks c folder [] = tt
+unremoved_looks c folder (name ∷ names) =
+    either_looks (entry_refusal (in_folder folder name) (entry_at c (in_folder folder name))) (unremoved c folder names)
+    (entry_looks (in_folder folder name) (entry_at c (in_folder folder name))) (unremoved_looks c folder names)
+
+folder_looks : (folder : PathValue) (f : TreeFault) → IsOfLook (folder_cause folder f)
+folder_looks folder fault.Link = inr (inr refl)
+folder_looks folder fault.NameNotText = inr (inr refl)
+folder_looks folder fault.Failed = inl refl
+folder_looks folder fault.OutOfMemory = inr (inl refl)
+folder_looks folder fault.Absent = inr (inr refl)
+folder_looks folder fault.NotFolder = inr (inr refl)
+folder_looks folder fault.IsFolder = inr (inr refl)
+folder_looks folder fault.Exists = inr (inr refl)
+folder_looks folder fault.NotEmpty = inr (inr refl)
+folder_looks folder fault.PastEnd = inr (inr refl)
+
+form_or : (c : Contents) (o : Option Cause) (rs : List Removal) → OfLook o → IsArchivecleanup (refused_or o (removals c rs))
+form_or c (Some e) rs look = inr (inl (e, look, refl))
+form_or c None rs look = inr (inr (c, rs, refl))
 
 form_known : (c : Contents) (words : ArchivecleanupWords) (dry_run : Bool) → IsArchivecleanup (known_answer c words dry_run)
 form_known c words true = inl (flat_map (path_line words.folder) (gone c words), refl)
-form_known c words false = form_or c (unremoved c words.folder (gone c words)) (map (removal words.debug words.folder) (gone c words))
+form_known c words false =
+    form_or c (unremoved c words.folder (gone c words)) (map (removal words.debug words.folder) (gone c words)) (unremoved_looks c words.folder (gone c words))
 
 form_listed : (c : Contents) (words : ArchivecleanupWords) (o : Option TreeFault) → IsArchivecleanup (listed_answer c words o)
-form_listed c words (Some f) = inr (inl (folder_cause words.folder f, refl))
+form_listed c words (Some f) = inr (inl (folder_cause words.folder f, folder_looks words.folder f, refl))
 form_listed c words None = form_known c words words.dry_run
 
 pub answer-form : (c : Contents) (words : ArchivecleanupWords) → IsArchivecleanup (archivecleanup_answer c words)

@@ -13,6 +13,7 @@ use Rattle.cluster_tree.specs.declared.tree.TreeFault.TheVariants as tree_fault
 use Rattle.commands.specs.declared.archivecleanup.ArchivecleanupWords.{ArchivecleanupWords}
 use Rattle.acts.specs.Acts.{Act, Print, Report, Do}
 use Rattle.run_acts.specs.Answers.{Answer, refused, does}
+use Rattle.run_acts.specs.Causes.{IsOfLook}
 use Rattle.run_acts.specs.declared.cause.Cause.{Cause}
 use Rattle.run_acts.specs.declared.cause.Cause.TheVariants as cause
 use Rattle.run_acts.specs.declared.cause.PathCause.TheVariants as paths
@@ -106,7 +107,7 @@ archivecleanup_answer c words = listed_answer c words (list_refusal (entry_at c 
 
 -- over every tree: a text, a refusal, or removals
 abbrev pub IsArchivecleanup : Answer → Type 0
-IsArchivecleanup answer = ((text : List ℕ) × (answer ≡ does (printed text))) ⊎ ((e : Cause) × (answer ≡ refused e)) ⊎ ((c : Contents) × (rs : List Removal) × (answer ≡ does (removals c rs)))
+IsArchivecleanup answer = ((text : List ℕ) × (answer ≡ does (printed text))) ⊎ ((e : Cause) × IsOfLook e × (answer ≡ refused e)) ⊎ ((c : Contents) × (rs : List Removal) × (answer ≡ does (removals c rs)))
 
 -- these are files, each still when those before it are removed
 abbrev pub AreFiles : Contents → List Removal → Type 0

@@ -5,11 +5,12 @@ use Rattle.control_file.specs.declared.control.Control.{Control}
 use Rattle.rewind_core.specs.declared.fault.RewindFault.{RewindFault}
 use Rattle.run_acts.proofs.AnswerSteps.{Looks}
 use Rattle.cluster_causes.specs.Rewind.{rewind_cause}
+use Rattle.cluster_causes.proofs.CauseLemmas.{cause_looks}
 use Rattle.cmd_controldata.specs.Controldata.{IsControldata, control_answer}
 
 pub answer-form : (r : Result Control RewindFault) → IsControldata (control_answer r)
 answer-form (Ok control) = inl (control_text_of control, refl)
-answer-form (Err fault) = inr (rewind_cause fault, refl)
+answer-form (Err fault) = inr (rewind_cause fault, cause_looks fault, refl)
 
 pub answer-looks : (r : Result Control RewindFault) → Looks ((control_answer r).acts)
 answer-looks (Ok control) = tt

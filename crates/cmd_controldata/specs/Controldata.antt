@@ -8,6 +8,7 @@ use Rattle.rewind_core.specs.declared.fault.RewindFault.{RewindFault}
 use Rattle.commands.specs.declared.controldata.ControldataWords.{ControldataWords}
 use Rattle.acts.specs.Acts.{Print}
 use Rattle.run_acts.specs.Answers.{Answer, refused, does}
+use Rattle.run_acts.specs.Causes.{IsOfLook}
 use Rattle.run_acts.specs.declared.cause.Cause.{Cause}
 use Rattle.cluster_causes.specs.Rewind.{rewind_cause}
 
@@ -22,4 +23,4 @@ controldata_answer c words = control_answer (control_at c words.root)
 
 -- over every tree: one text on standard output, or a refusal
 abbrev pub IsControldata : Answer → Type 0
-IsControldata answer = ((text : List ℕ) × (answer ≡ does (Print text ∷ []))) ⊎ ((e : Cause) × (answer ≡ refused e))
+IsControldata answer = ((text : List ℕ) × (answer ≡ does (Print text ∷ []))) ⊎ ((e : Cause) × IsOfLook e × (answer ≡ refused e))

@@ -7,6 +7,7 @@ use Rattle.rewind_core.specs.declared.outcome.RewindDone.{RewindDone}
 use Rattle.commands.specs.declared.rewind.RewindWords.{RewindWords}
 use Rattle.acts.specs.Acts.{Act, Report}
 use Rattle.run_acts.specs.Answers.{Answer, refused, does}
+use Rattle.run_acts.specs.Causes.{IsOfLook}
 use Rattle.run_acts.specs.declared.cause.Cause.{Cause}
 use Rattle.run_acts.specs.declared.cause.Cause.TheVariants as cause
 use Rattle.cluster_causes.specs.Rewind.{rewind_cause}
@@ -32,4 +33,4 @@ rewind_answer c words = if words.dry_run then refused cause.NotBuilt else report
 
 -- over every tree: the report, or a refusal
 abbrev pub IsRewind : Answer → Type 0
-IsRewind answer = (answer ≡ does same_report) ⊎ ((e : Cause) × (answer ≡ refused e))
+IsRewind answer = (answer ≡ does same_report) ⊎ ((e : Cause) × IsOfLook e × (answer ≡ refused e))

@@ -5,7 +5,8 @@ use wal_base::Text;
 /// What `pg_archivecleanup` is asked to do.
 #[derive(Drop)]
 pub struct ArchivecleanupWords {
-    /// The folder of the archive, of at most 62 parts (LOCATION).
+    /// The folder of the archive (LOCATION), of at most 62 parts where `read_command` of tool_words
+    /// made it.
     pub folder: Path,
     /// The name of the first file that is kept (KEPT): less the extension at its end, that of a
     /// segment's file, finished or not, or of a backup's history.

@@ -1,7 +1,8 @@
 // What the words of pg_rewind ask for.
 use cluster_tree::Path;
 
-/// What `pg_rewind` is asked to do. Neither root holds the other.
+/// What `pg_rewind` is asked to do. Where `read_command` of tool_words made it, neither root holds the
+/// other.
 #[derive(Drop)]
 pub struct RewindWords {
     /// The root of the cluster that is to be rewound, of at most 61 parts (`-D`).

@@ -15,8 +15,9 @@ pub enum WaldumpWords {
 /// What a dump of a log is asked for. It has a start, or a segment to begin with.
 #[derive(Drop)]
 pub struct DumpWords {
-    /// The folder that holds the log, or a cluster, of at most 62 parts: that of `-p`, else what
-    /// STARTSEG has before its last slash, else the current folder.
+    /// The folder that holds the log, or a cluster: that of `-p`, else what STARTSEG has before its
+    /// last slash, else the current folder. Where `read_command` of tool_words made it, it has at most
+    /// 62 parts.
     pub folder: Path,
     /// The name of the segment that the dump begins with, the last part of STARTSEG: 24 digits 0 to
     /// 9 and A to F.

@@ -13,5 +13,5 @@ returns-in-Ok-clause-carries g c err_tells err =
 pub returns-in-Err-clause-carries : goal.returns-in-Err-clause-carries
 returns-in-Err-clause-carries g c err_tells err =
     let contents = g.F.Tree.contents c.args.tree.now in
-    carries_look c.in-Err.e (answer-form contents c.args.words.now) (answer-looks contents c.args.words.now) (inr (inl (c.in-Err.e, refl))) c.in-Err.ensures.look c.in-Err.ensures.exact
+    carries_look c.in-Err.e (answer-form contents c.args.words.now) (answer-looks contents c.args.words.now) (inr (inl (c.in-Err.e, c.in-Err.ensures.look, refl))) c.in-Err.ensures.look c.in-Err.ensures.exact
     c.named.ensures.reads.same c.named.ensures.reads.uncalled

@@ -17,5 +17,5 @@ returns-in-Ok-clause-carries g c told o out =
 pub returns-in-Err-clause-carries : goal.returns-in-Err-clause-carries
 returns-in-Err-clause-carries g c told o out =
     let contents = g.F.Tree.contents c.args.tree.now in
-    carries_look c.in-Err.e (answer-form contents c.args.words.now) (answer-looks contents c.args.words.now) (inr (inl (c.in-Err.e, refl))) c.in-Err.ensures.look c.in-Err.ensures.exact
+    carries_look c.in-Err.e (answer-form contents c.args.words.now) (answer-looks contents c.args.words.now) (inr (inl (c.in-Err.e, c.in-Err.ensures.look, refl))) c.in-Err.ensures.look c.in-Err.ensures.exact
     c.planned.ensures.reads.same c.planned.ensures.reads.uncalled

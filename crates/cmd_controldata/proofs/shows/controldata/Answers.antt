@@ -14,5 +14,5 @@ returns-in-Ok-clause-carries g c err_tells err =
 pub returns-in-Err-clause-carries : goal.returns-in-Err-clause-carries
 returns-in-Err-clause-carries g c err_tells err =
     let read = control_at (g.F.Tree.contents c.args.tree.now) c.args.words.now.root in
-    carries_look c.in-Err.e (answer-form read) (answer-looks read) (inr (c.in-Err.e, refl)) c.in-Err.ensures.look c.in-Err.ensures.exact
+    carries_look c.in-Err.e (answer-form read) (answer-looks read) (inr (c.in-Err.e, c.in-Err.ensures.look, refl)) c.in-Err.ensures.look c.in-Err.ensures.exact
     c.text_of.ensures.reads.same c.text_of.ensures.reads.uncalled

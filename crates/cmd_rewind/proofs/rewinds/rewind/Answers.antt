@@ -15,5 +15,5 @@ pub returns-in-Err-clause-carries : goal.returns-in-Err-clause-carries
 returns-in-Err-clause-carries g c out_tells out =
     let dry_run = c.args.words.now.dry_run in
     let rewound = rewind_of (g.F.Tree.contents c.args.tree.now) c.args.words.now.target c.args.words.now.source in
-    carries_look c.in-Err.e (answer-form dry_run rewound) (answer-looks dry_run rewound) (inr (c.in-Err.e, refl)) c.in-Err.ensures.look c.in-Err.ensures.refused
+    carries_look c.in-Err.e (answer-form dry_run rewound) (answer-looks dry_run rewound) (inr (c.in-Err.e, c.in-Err.ensures.look, refl)) c.in-Err.ensures.look c.in-Err.ensures.refused
     c.check.ensures.reads.same c.check.ensures.reads.uncalled
