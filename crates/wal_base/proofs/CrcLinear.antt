@@ -5,10 +5,10 @@ use lib.Bits.{xor_assoc, xor_zero_r, xor_self}
 use Rattle.wal_base.specs.Crc.{crc_step, crc_steps, crc_byte, crc_fold}
 use Rattle.wal_base.proofs.CrcSteps.{step_even, step_odd, mod_two}
 
-xor_swap : (a b c : ℕ) → bit_xor a (bit_xor b c) ≡ bit_xor b (bit_xor a c)
+pub xor_swap : (a b c : ℕ) → bit_xor a (bit_xor b c) ≡ bit_xor b (bit_xor a c)
 xor_swap a b c = sym (xor_assoc a b c) ∙ ap (λ x. bit_xor x c) (xor_comm a b) ∙ xor_assoc b a c
 
-xor_pairs : (a b c d : ℕ) → bit_xor (bit_xor a b) (bit_xor c d) ≡ bit_xor (bit_xor a c) (bit_xor b d)
+pub xor_pairs : (a b c d : ℕ) → bit_xor (bit_xor a b) (bit_xor c d) ≡ bit_xor (bit_xor a c) (bit_xor b d)
 xor_pairs a b c d = xor_assoc a b (bit_xor c d) ∙ ap (bit_xor a) (xor_swap b c d) ∙ sym (xor_assoc a c (bit_xor b d))
 
 both_gone : (a b p : ℕ) → bit_xor (bit_xor a p) (bit_xor b p) ≡ bit_xor a b
@@ -41,7 +41,7 @@ step_xor a b =
       ]
     ]
 
-steps_xor : (k a b : ℕ) → crc_steps k (bit_xor a b) ≡ bit_xor (crc_steps k a) (crc_steps k b)
+pub steps_xor : (k a b : ℕ) → crc_steps k (bit_xor a b) ≡ bit_xor (crc_steps k a) (crc_steps k b)
 unfolding crc_steps
 steps_xor zero a b = refl
 steps_xor (suc k) a b = ap (crc_steps k) (step_xor a b) ∙ steps_xor k (crc_step a) (crc_step b)

@@ -4,6 +4,10 @@ pub mod CrcFold
 pub mod CrcLinear
 pub mod CrcWords
 pub mod CrcChunks
+pub mod CrcMixed
+pub mod CrcRelation
+pub mod FoldedLists
+pub mod CrcPieces
 pub mod CrcVectors
 pub mod HexDigits
 pub mod HexText

@@ -1,5 +1,6 @@
 pub mod Memory
 pub mod Crc
+pub mod Folding
 pub mod Decimal
 pub mod Hex
 pub mod Lsn

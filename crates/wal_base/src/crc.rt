@@ -3,7 +3,7 @@
 ghost use Rattle.std.specs.Prelude.{◌≡◌, ℕ, bit_xor, List, [], ◌++◌};
 ghost use Rattle.wal_base.specs.Crc.{crc_fold, crc_start, crc32c};
 
-use crate::slices::add_all;
+use crate::folding::add_all;
 use std::marker::Model;
 
 /// The CRC-32C of the bytes added so far; contracts see its state, a number below 2^32.

@@ -4,6 +4,7 @@
 mod crc;
 mod decimal;
 mod digits;
+mod folding;
 mod hex;
 mod laws;
 mod lsn;

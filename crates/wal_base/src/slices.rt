@@ -51,7 +51,7 @@ fn late_bytes(chunk: &[u8; 16]) -> u32
 }
 
 /// The state after sixteen bytes.
-fn add_chunk(state: u32, chunk: &[u8; 16]) -> u32
+pub fn add_chunk(state: u32, chunk: &[u8; 16]) -> u32
     ensures { result ≡ crc_fold state chunk.now }
 {
     let late = late_bytes(chunk);
@@ -86,7 +86,7 @@ fn add_words(state: u32, bytes: &[u8]) -> u32
 }
 
 /// The state after more bytes.
-pub fn add_all(state: u32, bytes: &[u8]) -> u32
+pub fn add_chunks(state: u32, bytes: &[u8]) -> u32
     ensures { result ≡ crc_fold state bytes.now }
 {
     let (chunks, rest) = bytes.as_chunks::<16>();

@@ -1,7 +1,7 @@
 use Rattle.std.proofs.Common.{◌≡◌, ℕ, ◌*◌, ◌/◌, drop, length, arith, ap, ◌∙◌, sym}
 use Rattle.wal_base.specs.Crc.{crc_fold}
 use Rattle.wal_base.proofs.CrcChunks.{chunks_fold, chunks_step, chunks_end, chunks_whole}
-use Rattle.wal_base.proofs.slices.add_all.Goals as goal
+use Rattle.wal_base.proofs.slices.add_chunks.Goals as goal
 
 pub loop-chunk-preserved : goal.loop-chunk-preserved
 loop-chunk-preserved c =
