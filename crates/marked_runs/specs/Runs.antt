@@ -18,6 +18,11 @@ pub record Runs (changes : List Change) (calls calls' : List ChangeCall) (c c' :
   pub after : done ≡ true → c' ≡ all_changed c changes
   pub elsewhere : (p : PathValue) → list_any (is_on p) changes ≡ false → entry_at c' p ≡ entry_at c p
 
+-- the write of some bytes, and none where there are none
+abbrev pub writes_at : PathValue → ℕ → List ℕ → List Change
+writes_at path at [] = []
+writes_at path at (byte ∷ bytes) = Writes path at (byte ∷ bytes) ∷ []
+
 -- a mark is made and made durable before all else
 abbrev pub begun : PathValue → List ℕ → List Change
 begun mark text = MakesFile mark ∷ Writes mark 0 text ∷ Syncs ∷ []

@@ -3,8 +3,12 @@
 
 mod faults;
 mod laws;
+mod marks;
 mod steps;
+mod zeros;
 
 pub use faults::{PerformFault, StepFault};
 pub use laws::run_laws;
-pub use steps::remove_entry;
+pub use marks::{begin, finish, write_new};
+pub use steps::{cut_file, make_folder, overwrite, remove_entry};
+pub use zeros::fill_zeros;

@@ -1,9 +1,9 @@
 // Single changes, where nothing is to refuse them. None takes memory.
-ghost use Rattle.std.specs.Prelude.{◌≡◌, ◌≢◌, [], ◌∷◌, Err, IsErrOf, IsTrue, None};
+ghost use Rattle.std.specs.Prelude.{◌≡◌, ◌≢◌, [], ◌∷◌, Err, IsErrOf};
 ghost use Rattle.cluster_tree.specs.Causes.{Rose};
-ghost use Rattle.cluster_tree.specs.Change.{Removes, first_refusal};
+ghost use Rattle.cluster_tree.specs.Change.{Cuts, MakesFile, MakesFolder, Removes, Syncs, Writes};
 ghost use Rattle.cluster_tree.specs.Frame.{Came};
-ghost use Rattle.marked_runs.specs.Runs.{Runs, is_done};
+ghost use Rattle.marked_runs.specs.Carried.{Carries};
 ghost use Rattle.marked_runs.specs.Settled.{settled};
 
 use crate::StepFault;
@@ -23,18 +23,72 @@ fn settled(done: Result<(), TreeFault>) -> Result<(), StepFault>
 /// Removes a file or an empty folder. Answers `WriteFault` where the call failed, and `Contradicted`
 /// where the tree refuses it.
 pub fn remove_entry<F: Tree>(tree: &mut F, path: &Path) -> Result<(), StepFault>
-    ensures runs { IsTrue F.tells →
-        first_refusal (F.contents tree.old) (Removes path.now ∷ []) ≡ None →
-        Runs (Removes path.now ∷ []) (F.calls tree.old) (F.calls tree.new)
-        (F.contents tree.old) (F.contents tree.new) (is_done result) }
-    ensures contradicted { IsTrue F.tells →
-        first_refusal (F.contents tree.old) (Removes path.now ∷ []) ≡ None →
-        result ≢ Err StepFault.Contradicted }
+    ensures carries { Carries F.Tree (Removes path.now ∷ []) tree.old tree.new result }
     ensures frame { Came F.Tree tree.old tree.new }
     ensures read_fault { result ≢ Err StepFault.ReadFault }
     ensures write_fault { IsErrOf result StepFault.WriteFault →
         Rose (F.failed_changes tree.old) (F.failed_changes tree.new) }
 {
     let done = tree.remove(path);
+    settled(done)
+}
+
+/// Makes an empty folder, with the answers of `remove_entry`.
+pub fn make_folder<F: Tree>(tree: &mut F, path: &Path) -> Result<(), StepFault>
+    ensures carries { Carries F.Tree (MakesFolder path.now ∷ []) tree.old tree.new result }
+    ensures frame { Came F.Tree tree.old tree.new }
+    ensures read_fault { result ≢ Err StepFault.ReadFault }
+    ensures write_fault { IsErrOf result StepFault.WriteFault →
+        Rose (F.failed_changes tree.old) (F.failed_changes tree.new) }
+{
+    let done = tree.make_folder(path);
+    settled(done)
+}
+
+/// Cuts a file to a size in bytes, with the answers of `remove_entry`.
+pub fn cut_file<F: Tree>(tree: &mut F, path: &Path, size: u64) -> Result<(), StepFault>
+    ensures carries { Carries F.Tree (Cuts path.now size ∷ []) tree.old tree.new result }
+    ensures frame { Came F.Tree tree.old tree.new }
+    ensures read_fault { result ≢ Err StepFault.ReadFault }
+    ensures write_fault { IsErrOf result StepFault.WriteFault →
+        Rose (F.failed_changes tree.old) (F.failed_changes tree.new) }
+{
+    let done = tree.cut(path, size);
+    settled(done)
+}
+
+/// Writes over the bytes of a file from the offset `at` on, with the answers of `remove_entry`.
+pub fn overwrite<F: Tree>(tree: &mut F, path: &Path, at: u64, bytes: &[u8]) -> Result<(), StepFault>
+    ensures carries { Carries F.Tree (Writes path.now at bytes.now ∷ []) tree.old tree.new result }
+    ensures frame { Came F.Tree tree.old tree.new }
+    ensures read_fault { result ≢ Err StepFault.ReadFault }
+    ensures write_fault { IsErrOf result StepFault.WriteFault →
+        Rose (F.failed_changes tree.old) (F.failed_changes tree.new) }
+{
+    let done = tree.write_at(path, at, bytes);
+    settled(done)
+}
+
+/// Makes an empty file, with the answers of `remove_entry`.
+pub(crate) fn make_file<F: Tree>(tree: &mut F, path: &Path) -> Result<(), StepFault>
+    ensures carries { Carries F.Tree (MakesFile path.now ∷ []) tree.old tree.new result }
+    ensures frame { Came F.Tree tree.old tree.new }
+    ensures read_fault { result ≢ Err StepFault.ReadFault }
+    ensures write_fault { IsErrOf result StepFault.WriteFault →
+        Rose (F.failed_changes tree.old) (F.failed_changes tree.new) }
+{
+    let done = tree.make_file(path);
+    settled(done)
+}
+
+/// Makes all that was changed durable, with the answers of `remove_entry`.
+pub(crate) fn sync<F: Tree>(tree: &mut F) -> Result<(), StepFault>
+    ensures carries { Carries F.Tree (Syncs ∷ []) tree.old tree.new result }
+    ensures frame { Came F.Tree tree.old tree.new }
+    ensures read_fault { result ≢ Err StepFault.ReadFault }
+    ensures write_fault { IsErrOf result StepFault.WriteFault →
+        Rose (F.failed_changes tree.old) (F.failed_changes tree.new) }
+{
+    let done = tree.sync();
     settled(done)
 }
