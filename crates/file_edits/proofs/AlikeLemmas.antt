@@ -4,32 +4,29 @@ use Rattle.std.proofs.lemmas.Grind.{common_steps}
 use Rattle.std.proofs.lemmas.List.{length-append, append_cancel_left}
 use Rattle.std.proofs.Math.Seq.{take-append-add}
 use Rattle.std.specs.FinMap.{get, insert, remove}
-use Rattle.cluster_tree.specs.Apart.{is_held}
 use Rattle.cluster_tree.specs.PathValue.{PathValue, below, front}
 use Rattle.cluster_tree.specs.Below.{tree_below}
-use Rattle.cluster_tree.specs.Contents.{Contents, Entry, FolderEntry, FileEntry, or_root, entry_at, IsTree}
+use Rattle.cluster_tree.specs.Contents.{Contents, Entry, FolderEntry, FileEntry, or_root, entry_at}
 use Rattle.cluster_tree.specs.Causes.{given, unless}
 use Rattle.cluster_tree.specs.Folders.{names_in}
 use Rattle.cluster_tree.specs.Tree.{bytes_in, bytes_at}
 use Rattle.cluster_tree.specs.declared.file_fault.FileFault.{FileFault}
 use Rattle.cluster_tree.specs.declared.file_fault.FileFault.TheVariants as fault
 use Rattle.cluster_tree.proofs.ContentsLemmas.{entry-put, entry-put_other, entry-removed, entry-removed_other}
-use Rattle.cluster_tree.proofs.HoldLemmas.{held-holds, holds-held}
 use Rattle.cluster_tree.proofs.NamesLemmas.{names_listing, listing_names}
 use Rattle.cluster_tree.proofs.OrderLemmas.{same_path}
 use Rattle.file_edits.specs.Alike.{AlikeEntries, Neither, Folders, Files, Links, Alike, moved_path, AlikeAnswers, SameAnswers}
-use Rattle.file_edits.specs.Asking.{file_asked, folder_asked, root_refusal, names_asked, filled_from, read_of, read_asked}
-use Rattle.file_edits.specs.Clearing.{tree_removed}
+use Rattle.file_edits.specs.Asking.{file_asked, folder_asked, root_refusal, size_asked, names_asked, filled_from, read_of, read_asked}
 use Rattle.file_edits.specs.Edits.{folder_left, folder_made, folders_made, folders_between, way_made, way_for, edited, file_edited, without, file_removed}
-use Rattle.file_edits.proofs.ClearLemmas.{tree-elsewhere, tree-empty}
 use Rattle.file_edits.proofs.EditLemmas.{same_or_other}
+use Rattle.file_edits.proofs.LawLemmas.{rootless}
 
 -- paths below a root
 
 behind : (xs ys : List (List ℕ)) → drop (length xs) (xs ++ ys) ≡ ys
 behind xs ys = grind (arith, common_steps)
 
-moved_below : (root other : PathValue) (parts : List (List ℕ)) → below other parts ≡ moved_path root other (below root parts)
+pub moved_below : (root other : PathValue) (parts : List (List ℕ)) → below other parts ≡ moved_path root other (below root parts)
 moved_below root other parts = ap (below other) (sym (behind root.parts parts))
 
 itself : (root : PathValue) → below root [] ≡ root
@@ -55,14 +52,10 @@ put_alike like c d root other parts v w alike entry q = same_or_other (below roo
     let two : tree_below (insert d (below other parts) w) other q ≡ tree_below d other q = entry-put_other d (below other parts) (below other q) w (λ e. n (ap (below root) (same_parts other q parts e))) in
     rw (one, two) (alike q))
 
-rootless : (parts : List (List ℕ)) → 0 < length parts → or_root parts None ≡ None
-rootless [] l = absurd (omega arith)
-rootless (part ∷ parts) l = refl
-
 gone : (c : Contents) (root : PathValue) (parts : List (List ℕ)) → 0 < length parts → entry_at (remove c (below root parts)) (below root parts) ≡ None
 gone c root parts some = entry-removed c (below root parts) ∙ rootless (root.parts ++ parts) (omega (arith, length-append root.parts parts))
 
-removed_alike : (like : List (List ℕ) → List ℕ → List ℕ → Bool) (c d : Contents) (root other : PathValue) (parts : List (List ℕ)) → 0 < length parts → Alike like c root d other → Alike like (remove c (below root parts)) root (remove d (below other parts)) other
+pub removed_alike : (like : List (List ℕ) → List ℕ → List ℕ → Bool) (c d : Contents) (root other : PathValue) (parts : List (List ℕ)) → 0 < length parts → Alike like c root d other → Alike like (remove c (below root parts)) root (remove d (below other parts)) other
 removed_alike like c d root other parts some alike q = same_or_other (below root q) (below root parts)
     (λ e.
     let is = same_parts root q parts e in
@@ -117,7 +110,7 @@ root_alike like root other o p r s (Folders bad) alike = alike
 root_alike like root other o p r s (Files a b is) alike = ap (λ x. fault.NotFolder x) (root_moved root other)
 root_alike like root other o p r s Links alike = ap (λ x. fault.Link x) (root_moved root other)
 
-way_alike : (like : List (List ℕ) → List ℕ → List ℕ → Bool) (root other : PathValue) (parts : List (List ℕ)) (c d : Contents) → Alike like c root d other → AlikeAnswers like root other (way_made root (below root parts) c) (way_made other (below other parts) d)
+pub way_alike : (like : List (List ℕ) → List ℕ → List ℕ → Bool) (root other : PathValue) (parts : List (List ℕ)) (c d : Contents) → Alike like c root d other → AlikeAnswers like root other (way_made root (below root parts) c) (way_made other (below other parts) d)
 unfolding way_made
 way_alike like root other parts c d alike =
     let roots : AlikeEntries (like []) (entry_at c root) (entry_at d other) =
@@ -179,6 +172,24 @@ in_folder c root parts name =
     let path : below root (parts ++ name ∷ []) ≡ below (below root parts) (name ∷ []) = same_path _ _ refl (sym (append_assoc root.parts parts (name ∷ []))) in
     ap (entry_at c) path ∙ not_root ((root.parts ++ parts) ++ name ∷ []) (get c (below (below root parts) (name ∷ []))) (omega (arith, length-append (root.parts ++ parts) (name ∷ [])))
 
+pub folder-same : (like : List (List ℕ) → List ℕ → List ℕ → Bool) (root other : PathValue) (parts : List (List ℕ)) (c d : Contents) → Alike like c root d other → SameAnswers root other (folder_asked (below root parts) (entry_at c (below root parts))) (folder_asked (below other parts) (entry_at d (below other parts)))
+folder-same like root other parts c d alike = told (entry_at c (below root parts)) (entry_at d (below other parts)) (alike parts)
+  where
+    told : (o p : Option Entry) → AlikeEntries (like parts) o p → SameAnswers root other (folder_asked (below root parts) o) (folder_asked (below other parts) p)
+    told o p Neither = refl
+    told o p (Folders bad) = refl
+    told o p (Files a b is) = ap (λ x. fault.NotFolder x) (moved_below root other parts)
+    told o p Links = ap (λ x. fault.Link x) (moved_below root other parts)
+
+pub size-same : (like : List (List ℕ) → List ℕ → List ℕ → Bool) (root other : PathValue) (parts : List (List ℕ)) (c d : Contents) → ((a b : List ℕ) → like parts a b ≡ true → length a ≡ length b) → Alike like c root d other → SameAnswers root other (size_asked (file_asked (below root parts) (entry_at c (below root parts)))) (size_asked (file_asked (below other parts) (entry_at d (below other parts))))
+size-same like root other parts c d sizes alike = told (entry_at c (below root parts)) (entry_at d (below other parts)) (alike parts)
+  where
+    told : (o p : Option Entry) → AlikeEntries (like parts) o p → SameAnswers root other (size_asked (file_asked (below root parts) o)) (size_asked (file_asked (below other parts) p))
+    told o p Neither = refl
+    told o p (Folders bad) = ap (λ x. fault.IsFolder x) (moved_below root other parts)
+    told o p (Files a b is) = ap (λ n. Some n) (sizes a b is)
+    told o p Links = ap (λ x. fault.Link x) (moved_below root other parts)
+
 names_alike : (like : List (List ℕ) → List ℕ → List ℕ → Bool) (root other : PathValue) (parts : List (List ℕ)) (c d : Contents) → Alike like c root d other → names_in c (below root parts) ≡ names_in d (below other parts)
 names_alike like root other parts c d alike =
     let one = names_listing c (below root parts) in
@@ -208,38 +219,3 @@ read_by like root other parts at n o p same Links = ap (λ x. fault.Link x) (mov
 
 pub read-alike : (like : List (List ℕ) → List ℕ → List ℕ → Bool) (root other : PathValue) (parts : List (List ℕ)) (at n : ℕ) (c d : Contents) → ((a b : List ℕ) → like parts a b ≡ true → a ≡ b) → Alike like c root d other → SameAnswers root other (read_asked c (below root parts) at n) (read_asked d (below other parts) at n)
 read-alike like root other parts at n c d same alike = read_by (like parts) root other parts at n (entry_at c (below root parts)) (entry_at d (below other parts)) same (alike parts)
-
--- a folder with all that it holds
-
-held_moved : (root other : PathValue) (parts q : List (List ℕ)) → is_held (below root parts) (below root q) ≡ true → is_held (below other parts) (below other q) ≡ true
-held_moved root other parts q held =
-    let h = held-holds (below root parts) (below root q) held in
-    let inner : take (length parts) q ≡ parts =
-    append_cancel_left root.parts (take (length parts) q) parts
-    (sym (take-append-add root.parts q (length parts)) ∙ ap (λ n. take n (root.parts ++ q)) (sym (length-append root.parts parts)) ∙ h.prefix) in
-    holds-held (below other parts) (below other q) (record {
-      mark = refl;
-      prefix = ap (λ n. take n (other.parts ++ q)) (length-append other.parts parts) ∙ take-append-add other.parts q (length parts) ∙ ap (λ x. other.parts ++ x) inner;
-    })
-
-held_same : (root other : PathValue) (parts q : List (List ℕ)) → is_held (below root parts) (below root q) ≡ false → is_held (below other parts) (below other q) ≡ false
-held_same root other parts q none = elim (is_held (below other parts) (below other q)) as (λ b. is_held (below other parts) (below other q) ≡ b → b ≡ false) [
-  | true ↦ λ held. sym (held_moved other root parts q held) ∙ none
-  | false ↦ λ held. refl
-] refl
-
-longer : (root : PathValue) (parts : List (List ℕ)) → 0 < length parts → 0 < length (below root parts).parts
-longer root parts some = omega (arith, length-append root.parts parts)
-
-pub tree-alike : (like : List (List ℕ) → List ℕ → List ℕ → Bool) (root other : PathValue) (parts : List (List ℕ)) (c d e f : Contents) → 0 < length parts → Alike like c root d other → IsTree e → IsTree f → tree_removed (below root parts) c ≡ Ok e → tree_removed (below other parts) d ≡ Ok f → Alike like e root f other
-tree-alike like root other parts c d e f some alike one two first second q =
-    elim (is_held (below root parts) (below root q)) as (λ b. is_held (below root parts) (below root q) ≡ b → AlikeEntries (like q) (tree_below e root q) (tree_below f other q)) [
-      | true ↦ λ held.
-          let none : tree_below e root q ≡ None = tree-empty (below root parts) c e (below root q) one (longer root parts some) first held in
-          let neither : tree_below f other q ≡ None = tree-empty (below other parts) d f (below other q) two (longer other parts some) second (held_moved root other parts q held) in
-          rw (none, neither) Neither
-      | false ↦ λ free.
-          let same : tree_below e root q ≡ tree_below c root q = tree-elsewhere (below root parts) c e (below root q) first free in
-          let too : tree_below f other q ≡ tree_below d other q = tree-elsewhere (below other parts) d f (below other q) second (held_same root other parts q free) in
-          rw (same, too) (alike q)
-    ] refl

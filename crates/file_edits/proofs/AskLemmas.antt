@@ -1,5 +1,5 @@
 -- What calls that ask tell of an entry.
-use Rattle.std.proofs.Common.{◌≡◌, ℕ, true, false, List, [], length, Option, None, Some, Ok, Err, refl, ap, sym}
+use Rattle.std.proofs.Common.{◌≡◌, ℕ, Bool, true, false, List, [], length, Option, None, Some, Ok, Err, refl, ap, sym}
 use Rattle.cluster_tree.specs.PathValue.{PathValue}
 use Rattle.cluster_tree.specs.Contents.{Contents, Entry, FolderEntry, FileEntry, LinkEntry}
 use Rattle.cluster_tree.specs.Tree.{kind_of, size_of, file_of}
@@ -7,6 +7,7 @@ use Rattle.cluster_tree.specs.Folders.{list_refusal, IsListing}
 use Rattle.cluster_tree.proofs.NamesLemmas.{listing_names}
 use Rattle.cluster_tree.specs.declared.tree.Kind.TheVariants as kind
 use Rattle.cluster_tree.specs.declared.tree.TreeFault.TheVariants as tree_fault
+use Rattle.cluster_tree.specs.declared.file_fault.FileFault.{FileFault}
 use Rattle.cluster_tree.specs.declared.file_fault.FileFault.TheVariants as fault
 use Rattle.file_edits.specs.Asking.{file_asked, folder_asked, size_asked, names_asked}
 
@@ -96,3 +97,32 @@ names-bad c path (Some (FileEntry bytes)) e = absurd cc
 names-bad c path (Some LinkEntry) e = absurd cc
 
 pub ruleset listed_steps = (names-listed, names-absent, names-file, names-link, names-bad)
+
+-- a refusal that tells of an entry of a wrong kind
+abbrev pub is_of_kind : FileFault → Bool
+is_of_kind (fault.Link _) = true
+is_of_kind (fault.NotFolder _) = true
+is_of_kind (fault.IsFolder _) = true
+is_of_kind (fault.NameNotText _) = true
+is_of_kind _ = false
+
+-- what is asked is refused by the entry's kind alone
+
+pub file-kind : (path : PathValue) (o : Option Entry) (e : FileFault) → file_asked path o ≡ Err e → is_of_kind e ≡ true
+file-kind path None e is = absurd cc
+file-kind path (Some (FolderEntry bad)) e is = let same : fault.IsFolder path ≡ e = cc in ap is_of_kind (sym same)
+file-kind path (Some (FileEntry bytes)) e is = absurd cc
+file-kind path (Some LinkEntry) e is = let same : fault.Link path ≡ e = cc in ap is_of_kind (sym same)
+
+pub folder-kind : (path : PathValue) (o : Option Entry) (e : FileFault) → folder_asked path o ≡ Err e → is_of_kind e ≡ true
+folder-kind path None e is = absurd cc
+folder-kind path (Some (FolderEntry bad)) e is = absurd cc
+folder-kind path (Some (FileEntry bytes)) e is = let same : fault.NotFolder path ≡ e = cc in ap is_of_kind (sym same)
+folder-kind path (Some LinkEntry) e is = let same : fault.Link path ≡ e = cc in ap is_of_kind (sym same)
+
+pub names-kind : (c : Contents) (path : PathValue) (o : Option Entry) (e : FileFault) → names_asked c path o ≡ Err e → is_of_kind e ≡ true
+names-kind c path None e is = absurd cc
+names-kind c path (Some (FolderEntry true)) e is = let same : fault.NameNotText path ≡ e = cc in ap is_of_kind (sym same)
+names-kind c path (Some (FolderEntry false)) e is = absurd cc
+names-kind c path (Some (FileEntry bytes)) e is = let same : fault.NotFolder path ≡ e = cc in ap is_of_kind (sym same)
+names-kind c path (Some LinkEntry) e is = let same : fault.Link path ≡ e = cc in ap is_of_kind (sym same)

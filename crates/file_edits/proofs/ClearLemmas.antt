@@ -26,8 +26,8 @@ use Rattle.cluster_tree.proofs.OrderLemmas.{path_eq-same, same_path}
 use Rattle.file_edits.specs.Asking.{folder_asked, names_asked}
 use Rattle.file_edits.specs.Clearing.{full_asked, in_turn, emptied, cleared_by, entry_cleared, folder_cleared, tree_removed}
 use Rattle.file_edits.specs.Edits.{file_removed}
-use Rattle.file_edits.proofs.EditLemmas.{same_or_other, removed-unchanged}
-use Rattle.file_edits.proofs.LawLemmas.{by_removed, removed-gone}
+use Rattle.file_edits.proofs.EditLemmas.{same_or_other}
+use Rattle.file_edits.proofs.LawLemmas.{by_removed, removed-gone, rootless}
 
 -- what was asked
 
@@ -100,7 +100,7 @@ not_below folder name = elim (is_held (below folder (name ∷ [])) folder) as (�
 ] refl
 
 -- what was there, or nothing at paths that a folder holds
-abbrev Fewer : PathValue → Contents → Contents → Type 0
+abbrev pub Fewer : PathValue → Contents → Contents → Type 0
 Fewer root c d = (q : PathValue) → (get d q ≡ get c q) ⊎ ((is_held root q ≡ true) × (get d q ≡ None))
 
 fewer_on : (root : PathValue) (c d e : Contents) → Fewer root c d → Fewer root d e → Fewer root c e
@@ -186,7 +186,7 @@ no_entry : {P : Type 0} (folder : PathValue) (name : List ℕ) (c d : Contents) 
 unfolding entry_cleared
 no_entry folder name c d done = absurd cc
 
-clears_entry : (deeper : ℕ) (folder : PathValue) → Clears folder (entry_cleared deeper folder)
+pub clears_entry : (deeper : ℕ) (folder : PathValue) → Clears folder (entry_cleared deeper folder)
 clears_entry zero folder name c d done q = no_entry folder name c d done
 clears_entry (suc deeper) folder name c d done q = by_entry deeper folder name c d done
     (λ full. by_cleared (entry_cleared deeper (below folder (name ∷ []))) (below folder (name ∷ [])) c d full (λ names e asked turn is.
@@ -247,7 +247,7 @@ clear-unrefused deeper folder names c d some there asked turn =
 
 -- how the steps of the definition go on
 
-next : (names : List (List ℕ)) (i : ℕ) → i < length names → drop i names ≡ get_or names i [] ∷ drop (i + 1) names
+pub next : (names : List (List ℕ)) (i : ℕ) → i < length names → drop i names ≡ get_or names i [] ∷ drop (i + 1) names
 next names i l = grind (arith, common_steps)
 
 pub turn-end : (step : List ℕ → Contents → Result Contents FileFault) (names : List (List ℕ)) (i : ℕ) (c : Contents) → length names ≤ i → in_turn step (drop i names) c ≡ Ok c
@@ -295,70 +295,6 @@ pub entry-other : (deeper : ℕ) (folder : PathValue) (name : List ℕ) (c : Con
 entry-other deeper folder name c some is =
     entry_at_depth deeper (deeper - 1) folder name c (omega arith) ∙ ap (λ r. given r (λ full. if full then folder_cleared (deeper - 1) (below folder (name ∷ [])) c else file_removed (below folder (name ∷ [])) c)) is
 
--- no refusal tells of a change
-
-turn_unchanged : (step : List ℕ → Contents → Result Contents FileFault) (names : List (List ℕ)) (c : Contents) (p : PathValue) → ((name : List ℕ) (d : Contents) → step name d ≡ Err (fault.Changed p) → ⊥) → in_turn step names c ≡ Err (fault.Changed p) → ⊥
-unfolding in_turn
-turn_unchanged step [] c p never e = absurd cc
-turn_unchanged step (name ∷ names) c p never e =
-    elim (step name c) as (λ r. step name c ≡ r → given r (in_turn step names) ≡ Err (fault.Changed p) → ⊥) [
-      | Ok d ↦ λ is rest. turn_unchanged step names d p never rest
-      | Err f ↦ λ is refused. let same : f ≡ fault.Changed p = cc in never name c (is ∙ ap (λ x. Err x) same)
-    ] refl e
-
-names_unchanged : (c : Contents) (path p : PathValue) (o : Option Entry) → names_asked c path o ≡ Err (fault.Changed p) → ⊥
-names_unchanged c path p None e = absurd cc
-names_unchanged c path p (Some (FolderEntry true)) e = absurd cc
-names_unchanged c path p (Some (FolderEntry false)) e = absurd cc
-names_unchanged c path p (Some (FileEntry bytes)) e = absurd cc
-names_unchanged c path p (Some LinkEntry) e = absurd cc
-
-full_unchanged : (path p : PathValue) (o : Option Entry) → full_asked path o ≡ Err (fault.Changed p) → ⊥
-full_unchanged path p None e = absurd cc
-full_unchanged path p (Some (FolderEntry bad)) e = absurd cc
-full_unchanged path p (Some (FileEntry bytes)) e = absurd cc
-full_unchanged path p (Some LinkEntry) e = absurd cc
-
-folder_unchanged : (path p : PathValue) (o : Option Entry) → folder_asked path o ≡ Err (fault.Changed p) → ⊥
-folder_unchanged path p None e = absurd cc
-folder_unchanged path p (Some (FolderEntry bad)) e = absurd cc
-folder_unchanged path p (Some (FileEntry bytes)) e = absurd cc
-folder_unchanged path p (Some LinkEntry) e = absurd cc
-
-cleared_unchanged : (step : List ℕ → Contents → Result Contents FileFault) (folder : PathValue) (c : Contents) (p : PathValue) → ((name : List ℕ) (d : Contents) → step name d ≡ Err (fault.Changed p) → ⊥) → cleared_by step folder c ≡ Err (fault.Changed p) → ⊥
-cleared_unchanged step folder c p never e =
-    elim (names_asked c folder (entry_at c folder)) as (λ r. names_asked c folder (entry_at c folder) ≡ r → given r (λ names. emptied step folder names c) ≡ Err (fault.Changed p) → ⊥) [
-      | Ok names ↦ λ is. elim (in_turn step names c) as (λ r. in_turn step names c ≡ r → given r (λ d. Ok (remove d folder)) ≡ Err (fault.Changed p) → ⊥) [
-        | Ok d ↦ λ turn rest. absurd cc
-        | Err f ↦ λ turn refused. let same : f ≡ fault.Changed p = cc in turn_unchanged step names c p never (turn ∙ ap (λ x. Err x) same)
-      ] refl
-      | Err f ↦ λ is refused. let same : f ≡ fault.Changed p = cc in names_unchanged c folder p (entry_at c folder) (is ∙ ap (λ x. Err x) same)
-    ] refl e
-
-entry_unchanged : (deeper : ℕ) (folder : PathValue) (p : PathValue) (name : List ℕ) (c : Contents) → entry_cleared deeper folder name c ≡ Err (fault.Changed p) → ⊥
-unfolding entry_cleared
-entry_unchanged zero folder p name c e = absurd cc
-entry_unchanged (suc deeper) folder p name c e =
-    let path : PathValue = below folder (name ∷ []) in
-    elim (full_asked path (entry_at c path)) as (λ r. full_asked path (entry_at c path) ≡ r → given r (λ full. if full then cleared_by (entry_cleared deeper path) path c else file_removed path c) ≡ Err (fault.Changed p) → ⊥) [
-      | Ok is ↦ λ told. elim is as (λ b. (if b then cleared_by (entry_cleared deeper path) path c else file_removed path c) ≡ Err (fault.Changed p) → ⊥) [
-        | true ↦ λ rest. cleared_unchanged (entry_cleared deeper path) path c p (λ n d. entry_unchanged deeper path p n d) rest
-        | false ↦ λ rest. removed-unchanged path c p rest
-      ]
-      | Err f ↦ λ told refused. let same : f ≡ fault.Changed p = cc in full_unchanged path p (entry_at c path) (told ∙ ap (λ x. Err x) same)
-    ] refl e
-
-pub tree-unchanged : (path : PathValue) (c : Contents) (p : PathValue) → tree_removed path c ≡ Err (fault.Changed p) → ⊥
-unfolding tree_removed
-tree-unchanged path c p e =
-    elim (folder_asked path (entry_at c path)) as (λ r. folder_asked path (entry_at c path) ≡ r → given r (λ there. if there then folder_cleared (64 - length path.parts) path c else Ok c) ≡ Err (fault.Changed p) → ⊥) [
-      | Ok is ↦ λ told. elim is as (λ b. (if b then folder_cleared (64 - length path.parts) path c else Ok c) ≡ Err (fault.Changed p) → ⊥) [
-        | true ↦ λ rest. cleared_unchanged (entry_cleared (64 - length path.parts) path) path c p (λ n d. entry_unchanged (64 - length path.parts) path p n d) rest
-        | false ↦ λ rest. absurd cc
-      ]
-      | Err f ↦ λ told refused. let same : f ≡ fault.Changed p = cc in folder_unchanged path p (entry_at c path) (told ∙ ap (λ x. Err x) same)
-    ] refl e
-
 -- the whole
 
 pub tree-refused : (path : PathValue) (c : Contents) (e : FileFault) → folder_asked path (entry_at c path) ≡ Err e → tree_removed path c ≡ Err e
@@ -403,10 +339,6 @@ not_there path None e = refl
 not_there path (Some (FolderEntry bad)) e = absurd cc
 not_there path (Some (FileEntry bytes)) e = absurd cc
 not_there path (Some LinkEntry) e = absurd cc
-
-rootless : (parts : List (List ℕ)) → 0 < length parts → or_root parts None ≡ None
-rootless [] l = absurd (omega arith)
-rootless (part ∷ parts) l = refl
 
 pub tree-gone : (path : PathValue) (c d : Contents) → 0 < length path.parts → tree_removed path c ≡ Ok d → entry_at d path ≡ None
 tree-gone path c d some done = by_tree path c d done

@@ -17,6 +17,7 @@ use Rattle.cluster_tree.proofs.OrderLemmas.{path_eq-own, path_eq-same}
 use Rattle.file_edits.specs.Answers.{Does}
 use Rattle.file_edits.specs.Asking.{file_asked, size_asked}
 use Rattle.file_edits.specs.Edits.{way_made, way_for, edited, file_edited, padded, laid, without, file_removed}
+use Rattle.file_edits.proofs.AskLemmas.{file-kind}
 use Rattle.file_edits.proofs.WayLemmas.{unrefused, way-ready, way-unchanged}
 
 -- what was asked of a file
@@ -219,12 +220,6 @@ laid-exact root path size at bytes c d e new r made long l wrote =
     let done = subst (λ x. write_refusal x path at ≡ None → Does (Ok (written x path at bytes)) new r) (sym is) wrote (laid-unrefused path d size at l) in
     subst (λ m. Does m new r) (sym whole) done
 
-file-unchanged : (path p : PathValue) (o : Option Entry) → file_asked path o ≡ Err (fault.Changed p) → ⊥
-file-unchanged path p None e = absurd cc
-file-unchanged path p (Some (FolderEntry bad)) e = absurd cc
-file-unchanged path p (Some (FileEntry bytes)) e = absurd cc
-file-unchanged path p (Some LinkEntry) e = absurd cc
-
 reached-unchanged : (root path p : PathValue) (c : Contents) (found : Option (List ℕ)) → way_for root path c found ≡ Err (fault.Changed p) → ⊥
 reached-unchanged root path p c None e = way-unchanged root path c p e
 reached-unchanged root path p c (Some bytes) e = absurd cc
@@ -238,7 +233,7 @@ edited-unchanged root path edit c p e =
             | Ok d ↦ λ way no. absurd cc
             | Err f ↦ λ way no. let same : f ≡ fault.Changed p = cc in reached-unchanged root path p c found (way ∙ ap (λ x. Err x) same)
           ] refl rest
-      | Err f ↦ λ is no. let same : f ≡ fault.Changed p = cc in file-unchanged path p (entry_at c path) (is ∙ ap (λ x. Err x) same)
+      | Err f ↦ λ is no. let same : f ≡ fault.Changed p = cc in true≢false (sym (file-kind path (entry_at c path) (fault.Changed p) (is ∙ ap (λ x. Err x) same)))
     ] refl e
 
 -- a file that is removed
@@ -274,5 +269,5 @@ unfolding file_removed
 removed-unchanged path c p e =
     elim (file_asked path (entry_at c path)) as (λ r. file_asked path (entry_at c path) ≡ r → given r (without path c) ≡ Err (fault.Changed p) → ⊥) [
       | Ok found ↦ λ is rest. elim found as (λ o. without path c o ≡ Err (fault.Changed p) → ⊥) [ None ↦ λ no. absurd cc | Some bytes ↦ λ no. absurd cc ] rest
-      | Err f ↦ λ is no. let same : f ≡ fault.Changed p = cc in file-unchanged path p (entry_at c path) (is ∙ ap (λ x. Err x) same)
+      | Err f ↦ λ is no. let same : f ≡ fault.Changed p = cc in true≢false (sym (file-kind path (entry_at c path) (fault.Changed p) (is ∙ ap (λ x. Err x) same)))
     ] refl e

@@ -1,5 +1,6 @@
 -- What edits leave at their path and elsewhere, and calls at own paths.
 use Rattle.std.proofs.Common.{◌≡◌, ◌≢◌, ◌⊎◌, ℕ, zero, suc, ◌+◌, ◌<◌, ◌≤◌, Bool, true, false, ◌||◌, List, [], ◌∷◌, ◌++◌, length, Option, None, Some, Ok, Err, refl, ap, sym, subst, ◌∙◌, inl, inr, ⊎_elim, arith, true≢false}
+use Rattle.std.proofs.lemmas.Bool.{or_left, or_right}
 use Rattle.std.proofs.lemmas.List.{length-append}
 use Rattle.std.specs.FinMap.{remove}
 use Rattle.cluster_tree.specs.PathValue.{PathValue, Holds, front}
@@ -30,13 +31,6 @@ one_made path c d q made = by_asked path c d made
     (λ none is. same_or_other q path
     (λ e. inr (ap (λ p. path_eq p path) e ∙ path_eq-own path, ap (entry_at c) e ∙ none_asked path (entry_at c path) none, ap (entry_at d) e ∙ ap (λ x. entry_at x path) is ∙ entry-put c path (FolderEntry false)))
     (λ n. inl (ap (λ x. entry_at x q) is ∙ entry-put_other c path q (FolderEntry false) n)))
-
-or_left : (a b : Bool) → a ≡ true → (a || b) ≡ true
-or_left a b e = ap (λ x. x || b) e
-
-or_right : (a b : Bool) → b ≡ true → (a || b) ≡ true
-or_right true b e = refl
-or_right false b e = e
 
 some_folder : (o : Option Entry) → o ≡ None → o ≡ Some (FolderEntry false) → ⊥
 some_folder o none some = absurd cc
@@ -95,7 +89,8 @@ edited-elsewhere root path edit c d q made other = by_edited root path edit c d 
 
 -- a file that is removed
 
-rootless : (parts : List (List ℕ)) → 0 < length parts → or_root parts None ≡ None
+-- below the root nothing stands where no entry is
+pub rootless : (parts : List (List ℕ)) → 0 < length parts → or_root parts None ≡ None
 rootless [] l = absurd (omega arith)
 rootless (part ∷ parts) l = refl
 

@@ -7,3 +7,5 @@ pub mod EditLemmas
 pub mod LawLemmas
 pub mod AlikeLemmas
 pub mod ClearLemmas
+pub mod ClearRefusalLemmas
+pub mod ClearAlikeLemmas

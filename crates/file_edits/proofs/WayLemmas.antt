@@ -1,6 +1,7 @@
 -- Folders that are made on the way to a path.
-use Rattle.std.proofs.Common.{◌≡◌, ◌≢◌, ℕ, zero, suc, ◌+◌, ◌-◌, ◌<◌, ◌≤◌, min, Bool, true, false, ◌||◌, cond, List, length, take, Option, None, Some, Ok, Err, is_some, refl, ap, sym, ◌∙◌, arith, true≢false}
+use Rattle.std.proofs.Common.{◌≡◌, ◌≢◌, ℕ, zero, suc, ◌+◌, ◌-◌, ◌<◌, ◌≤◌, min, true, false, cond, List, length, take, Option, None, Some, Ok, Err, is_some, refl, ap, sym, ◌∙◌, arith, true≢false}
 use Rattle.std.proofs.lemmas.Grind.{common_steps}
+use Rattle.std.proofs.lemmas.Bool.{or_left, or_right}
 use Rattle.std.proofs.lemmas.List.{length-take}
 use Rattle.std.specs.FinMap.{insert}
 use Rattle.cluster_tree.specs.PathValue.{PathValue, Holds, front}
@@ -14,6 +15,7 @@ use Rattle.cluster_tree.specs.declared.file_fault.FileFault.TheVariants as fault
 use Rattle.cluster_tree.proofs.ContentsLemmas.{entry-put, entry-put_other}
 use Rattle.cluster_tree.proofs.OrderLemmas.{same_path}
 use Rattle.file_edits.specs.Asking.{folder_asked, root_refusal}
+use Rattle.file_edits.proofs.AskLemmas.{folder-kind}
 use Rattle.file_edits.specs.Edits.{folder_left, folder_made, folders_made, folders_between, way_made, leads, on_way}
 
 -- one folder
@@ -166,19 +168,13 @@ made-above n path c d made =
     let same : (n + 1) - 1 ≡ n = omega arith in
     ap (λ k. is_folder (entry_at d (front k path))) same ∙ made-is (front n path) c d made
 
-unasked : (path p : PathValue) (o : Option Entry) → folder_asked path o ≡ Err (fault.Changed p) → ⊥
-unasked path p None e = absurd cc
-unasked path p (Some (FolderEntry bad)) e = absurd cc
-unasked path p (Some (FileEntry bytes)) e = absurd cc
-unasked path p (Some LinkEntry) e = absurd cc
-
 -- no refusal tells of a change
 pub made-unchanged : (path p : PathValue) (c : Contents) → folder_made path c ≡ Err (fault.Changed p) → ⊥
 unfolding folder_made
 made-unchanged path p c e =
     elim (folder_asked path (entry_at c path)) as (λ r. folder_asked path (entry_at c path) ≡ r → given r (λ t. Ok (folder_left c path t)) ≡ Err (fault.Changed p) → ⊥) [
       | Ok t ↦ λ is no. absurd cc
-      | Err f ↦ λ is no. let same : f ≡ fault.Changed p = cc in unasked path p (entry_at c path) (is ∙ ap (λ x. Err x) same)
+      | Err f ↦ λ is no. let same : f ≡ fault.Changed p = cc in true≢false (sym (folder-kind path (entry_at c path) (fault.Changed p) (is ∙ ap (λ x. Err x) same)))
     ] refl e
 
 folders-unchanged : (k n : ℕ) (path p : PathValue) (c : Contents) → folders_made k n path c ≡ Err (fault.Changed p) → ⊥
@@ -233,13 +229,6 @@ root-other root (Some LinkEntry) f e = let same : fault.Link root ≡ f = cc in 
 pub ruleset root_steps = (root-there, root-absent, root-other)
 
 -- where those calls go
-
-or_left : (a b : Bool) → a ≡ true → (a || b) ≡ true
-or_left a b e = ap (λ x. x || b) e
-
-or_right : (a b : Bool) → b ≡ true → (a || b) ≡ true
-or_right true b e = refl
-or_right false b e = e
 
 -- a folder among so many from the one of n parts on leads to the path
 pub leads-front : (j n : ℕ) (k : ℕ) (path q : PathValue) → j < k → path_eq q (front (n + j) path) ≡ true → leads k n path q ≡ true

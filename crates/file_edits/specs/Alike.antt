@@ -1,8 +1,9 @@
 -- Trees that are alike below two roots: what an edit answers doesn't hang on where a tree stands. Own: "Alike trees".
-use Rattle.std.specs.Prelude.{◌≡◌, Bool, true, ℕ, List, length, drop, Option, None, Some, Result, Ok, Err}
+use Rattle.std.specs.Prelude.{◌≡◌, ◌⊎◌, ◌≤◌, Bool, true, ℕ, List, length, drop, Option, None, Some, is_some, Result, Ok, Err}
+use Rattle.cluster_tree.specs.Apart.{is_held}
 use Rattle.cluster_tree.specs.PathValue.{PathValue, below}
 use Rattle.cluster_tree.specs.Below.{tree_below}
-use Rattle.cluster_tree.specs.Contents.{Contents, Entry, FolderEntry, FileEntry, LinkEntry}
+use Rattle.cluster_tree.specs.Contents.{Contents, Entry, FolderEntry, FileEntry, LinkEntry, entry_at}
 use Rattle.cluster_tree.specs.declared.file_fault.FileFault.{FileFault}
 use Rattle.cluster_tree.specs.declared.file_fault.FileFault.TheVariants as fault
 
@@ -46,3 +47,11 @@ SameAnswers root other (Ok a) (Ok b) = a ≡ b
 SameAnswers root other (Ok a) (Err f) = ⊥
 SameAnswers root other (Err e) (Ok b) = ⊥
 SameAnswers root other (Err e) (Err f) = f ≡ moved root other e
+
+-- no path that a folder holds has more parts than a path may have
+abbrev pub IsShallow : Contents → PathValue → Type 0
+IsShallow c folder = (q : PathValue) → is_held folder q ≡ true → is_some (entry_at c q) ≡ true → length q.parts ≤ 64
+
+-- two folders have as many parts, or neither holds a path of too many
+abbrev pub AsDeep : Contents → PathValue → Contents → PathValue → Type 0
+AsDeep c folder d other = (length folder.parts ≡ length other.parts) ⊎ (IsShallow c folder × IsShallow d other)

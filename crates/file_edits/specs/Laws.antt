@@ -6,10 +6,10 @@ use Rattle.cluster_tree.specs.Contents.{Contents, FileEntry, FolderEntry, IsTree
 use Rattle.cluster_tree.specs.Run.{State, Run}
 use Rattle.cluster_tree.specs.Tree.{bytes_at}
 use Rattle.cluster_tree.specs.declared.tree.ChangeCall.{ChangeCall}
-use Rattle.file_edits.specs.Alike.{Alike, AlikeAnswers, SameAnswers}
-use Rattle.file_edits.specs.Asking.{names_asked, read_asked}
+use Rattle.file_edits.specs.Alike.{Alike, AlikeAnswers, AsDeep, SameAnswers}
+use Rattle.file_edits.specs.Asking.{file_asked, folder_asked, size_asked, names_asked, read_asked}
 use Rattle.file_edits.specs.Clearing.{tree_removed}
-use Rattle.file_edits.specs.Edits.{file_edited, file_removed, on_way}
+use Rattle.file_edits.specs.Edits.{file_edited, file_removed, on_way, way_made}
 use Rattle.file_edits.specs.Own.{GoesOn}
 
 -- an edited file is what the edit makes of its bytes
@@ -52,6 +52,10 @@ OwnIsWider = (own more : PathValue → Bool) (old new : List ChangeCall) → ((q
 abbrev pub EditedAlike : Type 0
 EditedAlike = (like : List (List ℕ) → List ℕ → List ℕ → Bool) (root other : PathValue) (parts : List (List ℕ)) (edit after : List ℕ → List ℕ) (c d : Contents) → like parts [] [] ≡ true → ((a b : List ℕ) → like parts a b ≡ true → like parts (edit a) (after b) ≡ true) → Alike like c root d other → AlikeAnswers like root other (file_edited root (below root parts) edit c) (file_edited other (below other parts) after d)
 
+-- so does making the folders on the way
+abbrev pub WayAlike : Type 0
+WayAlike = (like : List (List ℕ) → List ℕ → List ℕ → Bool) (root other : PathValue) (parts : List (List ℕ)) (c d : Contents) → Alike like c root d other → AlikeAnswers like root other (way_made root (below root parts) c) (way_made other (below other parts) d)
+
 -- so does the removal of a file
 abbrev pub RemovedAlike : Type 0
 RemovedAlike = (like : List (List ℕ) → List ℕ → List ℕ → Bool) (root other : PathValue) (parts : List (List ℕ)) (c d : Contents) → 0 < length parts → Alike like c root d other → AlikeAnswers like root other (file_removed (below root parts) c) (file_removed (below other parts) d)
@@ -60,7 +64,20 @@ RemovedAlike = (like : List (List ℕ) → List ℕ → List ℕ → Bool) (root
 abbrev pub TreeAlike : Type 0
 TreeAlike = (like : List (List ℕ) → List ℕ → List ℕ → Bool) (root other : PathValue) (parts : List (List ℕ)) (c d e f : Contents) → 0 < length parts → Alike like c root d other → IsTree e → IsTree f → tree_removed (below root parts) c ≡ Ok e → tree_removed (below other parts) d ≡ Ok f → Alike like e root f other
 
--- in alike trees a folder has the same names
+-- and it is removed in both or refused in both alike. How many parts a path has hangs on its root:
+-- so the roots have as many, or no path below the folder has too many in either tree
+abbrev pub TreeAnswersAlike : Type 0
+TreeAnswersAlike = (like : List (List ℕ) → List ℕ → List ℕ → Bool) (root other : PathValue) (parts : List (List ℕ)) (c d : Contents) → 0 < length parts → Alike like c root d other → AsDeep c (below root parts) d (below other parts) → AlikeAnswers like root other (tree_removed (below root parts) c) (tree_removed (below other parts) d)
+
+-- in alike trees a folder is there in both or in neither
+abbrev pub FolderAlike : Type 0
+FolderAlike = (like : List (List ℕ) → List ℕ → List ℕ → Bool) (root other : PathValue) (parts : List (List ℕ)) (c d : Contents) → Alike like c root d other → SameAnswers root other (folder_asked (below root parts) (entry_at c (below root parts))) (folder_asked (below other parts) (entry_at d (below other parts)))
+
+-- a file of which alike bytes are as many has the same size
+abbrev pub SizeAlike : Type 0
+SizeAlike = (like : List (List ℕ) → List ℕ → List ℕ → Bool) (root other : PathValue) (parts : List (List ℕ)) (c d : Contents) → ((a b : List ℕ) → like parts a b ≡ true → length a ≡ length b) → Alike like c root d other → SameAnswers root other (size_asked (file_asked (below root parts) (entry_at c (below root parts)))) (size_asked (file_asked (below other parts) (entry_at d (below other parts))))
+
+-- a folder has the same names
 abbrev pub NamesAlike : Type 0
 NamesAlike = (like : List (List ℕ) → List ℕ → List ℕ → Bool) (root other : PathValue) (parts : List (List ℕ)) (c d : Contents) → Alike like c root d other → SameAnswers root other (names_asked c (below root parts) (entry_at c (below root parts))) (names_asked d (below other parts) (entry_at d (below other parts)))
 

@@ -1,5 +1,5 @@
 // What stands at a path.
-ghost use Rattle.std.specs.Prelude.{◌≡◌, ◌≢◌, IsTrue, IfOk, Err, true, IsErrOf};
+ghost use Rattle.std.specs.Prelude.{◌≡◌, ◌≢◌, ◌<◌, [], length, slice_index_or, IsTrue, IfOk, Err, true, IsErrOf};
 ghost use Rattle.std.specs.List.{list_all};
 ghost use Rattle.cluster_tree.specs.PathValue.{PathValue, is_part};
 ghost use Rattle.cluster_tree.specs.Contents.{entry_at};
@@ -77,5 +77,17 @@ pub fn names_of<F: Tree>(alloc: Global, tree: &mut F, path: &Path) -> Result<Nam
         Err(TreeFault::NameNotText) => Err(FileFault::NameNotText(path.copy(alloc)?)),
         Err(TreeFault::OutOfMemory) => Err(FileFault::OutOfMemory),
         Err(_) => Err(FileFault::ReadFault),
+    }
+}
+
+/// The name at a place of a list, counted from 0.
+#[tactic(auto, using(std::proofs::lemmas::Option::gets))]
+pub fn name_at(names: &Names, at: usize) -> &str
+    requires { at < length names.now }
+    ensures { result.now ≡ slice_index_or names.now at [] }
+{
+    match names.get(at) {
+        Some(name) => name,
+        None => unreachable!(),
     }
 }

@@ -1,5 +1,5 @@
 // Folders that are removed with all that they hold.
-ghost use Rattle.std.specs.Prelude.{◌≡◌, ◌≢◌, ◌⊎◌, ◌+◌, ◌<◌, ◌≤◌, ◌∷◌, [], length, slice_index_or, true, IsTrue, IfOk, IfErr, Err, IsErrOf};
+ghost use Rattle.std.specs.Prelude.{◌≡◌, ◌≢◌, ◌⊎◌, ◌+◌, ◌<◌, ◌∷◌, [], length, true, IsTrue, IfOk, IfErr, Err, IsErrOf};
 ghost use Rattle.std.specs.List.{list_all};
 ghost use Rattle.cluster_tree.specs.Apart.{is_held};
 ghost use Rattle.cluster_tree.specs.PathValue.{PathValue, below, is_part};
@@ -10,7 +10,7 @@ ghost use Rattle.file_edits.specs.Answers.{IsFree, Does};
 ghost use Rattle.file_edits.specs.Clearing.{entry_cleared, folder_cleared, full_asked, in_turn, tree_removed};
 ghost use Rattle.file_edits.specs.Own.{OnOwn};
 
-use crate::asking::{is_folder, names_of};
+use crate::asking::{is_folder, name_at, names_of};
 use crate::calls::remove;
 use crate::removing::remove_file;
 use cluster_tree::{FileFault, Kind, Names, Path, Tree, TreeFault};
@@ -51,18 +51,6 @@ fn entry_path(alloc: Global, folder: &Path, name: &str) -> Result<Path, FileFaul
     }
     let path = folder.below(alloc, name)?;
     Ok(path)
-}
-
-// The name at a place of a list.
-#[tactic(auto, using(std::proofs::lemmas::Option::gets))]
-fn name_at(names: &Names, at: usize) -> &str
-    requires { at < length names.now }
-    ensures { result.now ≡ slice_index_or names.now at [] }
-{
-    match names.get(at) {
-        Some(name) => name,
-        None => unreachable!(),
-    }
 }
 
 // Removes an entry of a folder with all that it holds. Paths below the folder may have `deeper` parts

@@ -1,5 +1,5 @@
 // What follows from the definitions, for callers: each function's contract is a law.
-ghost use Rattle.file_edits.specs.Laws.{EditedAlike, EditedElsewhere, EditedStands, NamesAlike, OwnElsewhere, OwnInTurn, OwnIsWider, ReadAlike, RemovedAlike, RemovedElsewhere, RemovedIsGone, TreeAlike, TreeElsewhere, TreeIsGone};
+ghost use Rattle.file_edits.specs.Laws.{EditedAlike, EditedElsewhere, EditedStands, FolderAlike, NamesAlike, OwnElsewhere, OwnInTurn, OwnIsWider, ReadAlike, RemovedAlike, RemovedElsewhere, RemovedIsGone, SizeAlike, TreeAlike, TreeAnswersAlike, TreeElsewhere, TreeIsGone, WayAlike};
 
 /// What stands at a path, and at every other, after a file was edited or removed there, or
 /// a folder with all that it holds.
@@ -20,10 +20,18 @@ pub fn own_laws()
 {}
 
 /// Trees that are alike below two roots stay alike, and each call answers the same of both.
+///
+/// A folder that is to go with all that it holds may be refused for its depth, which is counted with
+/// the root's parts: so of that answer the law asks for roots of as many parts, or for trees in which
+/// no path below the folder has more than 64.
 pub fn alike_laws()
     ensures edited { EditedAlike }
+    ensures way { WayAlike }
     ensures removed { RemovedAlike }
     ensures tree { TreeAlike }
+    ensures tree_answers { TreeAnswersAlike }
+    ensures folder { FolderAlike }
+    ensures size { SizeAlike }
     ensures names { NamesAlike }
     ensures read { ReadAlike }
 {}

@@ -10,7 +10,7 @@ mod reading;
 mod removing;
 mod ways;
 
-pub use asking::{file_size, is_folder, names_of};
+pub use asking::{file_size, is_folder, name_at, names_of};
 pub use clearing::remove_tree;
 pub use editing::{ensure_file, lay};
 pub use laws::{alike_laws, edit_laws, own_laws};

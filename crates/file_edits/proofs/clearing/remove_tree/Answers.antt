@@ -3,7 +3,8 @@ use Rattle.cluster_tree.specs.Contents.{entry_at}
 use Rattle.file_edits.specs.Answers.{Does}
 use Rattle.file_edits.specs.Asking.{folder_asked}
 use Rattle.file_edits.proofs.AnswerLemmas.{does-unchanged}
-use Rattle.file_edits.proofs.ClearLemmas.{there-is, tree-there, tree-unchanged}
+use Rattle.file_edits.proofs.ClearLemmas.{there-is, tree-there}
+use Rattle.file_edits.proofs.ClearRefusalLemmas.{tree-unchanged}
 use Rattle.file_edits.proofs.OwnLemmas.{own-read, own-on}
 use Rattle.file_edits.proofs.clearing.remove_tree.Goals as goal
 

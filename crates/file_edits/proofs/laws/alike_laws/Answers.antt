@@ -1,4 +1,5 @@
-use Rattle.file_edits.proofs.AlikeLemmas.{edited-alike, removed-alike, tree-alike, names-alike, read-alike}
+use Rattle.file_edits.proofs.AlikeLemmas.{way_alike, edited-alike, removed-alike, folder-same, size-same, names-alike, read-alike}
+use Rattle.file_edits.proofs.ClearAlikeLemmas.{tree-alike, tree-answers}
 use Rattle.file_edits.proofs.laws.alike_laws.Goals as goal
 
 pub returns-clause-edited : goal.returns-clause-edited
@@ -15,3 +16,15 @@ returns-clause-read c = read-alike
 
 pub returns-clause-tree : goal.returns-clause-tree
 returns-clause-tree c = tree-alike
+
+pub returns-clause-tree_answers : goal.returns-clause-tree_answers
+returns-clause-tree_answers c = tree-answers
+
+pub returns-clause-way : goal.returns-clause-way
+returns-clause-way c = way_alike
+
+pub returns-clause-folder : goal.returns-clause-folder
+returns-clause-folder c = folder-same
+
+pub returns-clause-size : goal.returns-clause-size
+returns-clause-size c = size-same
