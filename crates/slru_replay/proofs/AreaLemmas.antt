@@ -1,5 +1,6 @@
 -- Where calls on the files of an area go.
 use Rattle.std.proofs.Common.{◌≡◌, ℕ, zero, suc, ◌+◌, ◌/◌, ◌≤◌, Bool, true, false, ◌||◌, List, [], ◌∷◌, ◌++◌, length, take, replicate, Result, refl, ap, sym, subst, ◌∙◌, arith}
+use Rattle.std.proofs.lemmas.Bool.{or_right}
 use Rattle.std.proofs.lemmas.Grind.{common_steps}
 use Rattle.std.proofs.lemmas.List.{length-append}
 use Rattle.cluster_tree.specs.PathValue.{PathValue, below, front}
@@ -14,14 +15,6 @@ use Rattle.file_edits.specs.Edits.{leads, on_way, folders_between, file_edited, 
 use Rattle.slru_replay.specs.Area.{folder_of, file_name, page_file, page_start, page_zeroed, is_of_area}
 use Rattle.slru_replay.specs.declared.area.Area.{Area}
 use Rattle.slru_replay.proofs.NameLemmas.{folder-deeper}
-
-pub or_right : (a b : Bool) → b ≡ true → (a || b) ≡ true
-or_right true b e = refl
-or_right false b e = e
-
-or_assoc : (a b c : Bool) → (a || (b || c)) ≡ true → ((a || b) || c) ≡ true
-or_assoc true b c e = refl
-or_assoc false b c e = e
 
 or_after : (a b c d : Bool) → (b ≡ true → (c || d) ≡ true) → (a || b) ≡ true → ((a || c) || d) ≡ true
 or_after true b c d next e = refl

@@ -1,5 +1,6 @@
 -- Members of multixacts, set in turn.
-use Rattle.std.proofs.Common.{◌≡◌, ℕ, zero, suc, ◌+◌, ◌%◌, ◌^◌, ◌≤◌, Bool, true, ◌||◌, List, [], ◌∷◌, length, drop, slice_get, Option, None, Some, Result, Ok, Err, ap, sym, ◌∙◌, subst, arith}
+use Rattle.std.proofs.Common.{◌≡◌, ℕ, zero, suc, ◌+◌, ◌%◌, ◌^◌, ◌≤◌, true, List, [], ◌∷◌, length, drop, slice_get, Option, None, Some, Result, Ok, Err, ap, sym, ◌∙◌, subst, arith}
+use Rattle.std.proofs.lemmas.Bool.{or_left, or_right}
 use Rattle.std.proofs.lemmas.Grind.{common_steps}
 use Rattle.cluster_tree.specs.PathValue.{PathValue}
 use Rattle.cluster_tree.specs.Contents.{Contents}
@@ -15,7 +16,6 @@ use Rattle.slru_replay.specs.Area.{page_file, page_start, page_end, page_laid, i
 use Rattle.slru_replay.specs.MultiXact.{offset_set, flags_set, xid_set, member_set, members_set, multi_added, is_of_multixacts}
 use Rattle.slru_replay.specs.declared.area.Area.{Area}
 use Rattle.slru_replay.specs.declared.area.Area.TheVariants.{Offsets, Members}
-use Rattle.slru_replay.proofs.AreaLemmas.{or_right}
 
 -- bytes that are laid over a page by its file and its start
 pub laid-exact : (root path : PathValue) (area : Area) (page start at place : ℕ) (bytes : List ℕ) (c new : Contents) (r : Result (Unit {0}) FileFault) → path ≡ page_file root area page → start ≡ page_start page → place ≡ at → Does (file_edited root path (laid (start + 8192) (start + place) bytes) c) new r → Does (page_laid root area page at bytes c) new r
@@ -94,9 +94,6 @@ unfolding multi_added
 multi-unchanged root None c p is = absurd cc
 multi-unchanged root (Some create) c p is =
     given-unchanged (offset_set root create.multi create.offset c) (members_set root create.offset create.members) p (edited-unchanged root _ _ c p) (λ d. members-unchanged root create.offset create.members d p) is
-
-or_left : (a b : Bool) → a ≡ true → (a || b) ≡ true
-or_left a b e = ap (λ x. x || b) e
 
 pub of-offsets : (root q : PathValue) → is_of_area root Offsets q ≡ true → is_of_multixacts root q ≡ true
 of-offsets root q e = or_left (is_of_area root Offsets q) (is_of_area root Members q) e

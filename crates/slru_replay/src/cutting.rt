@@ -1,5 +1,5 @@
 // Files that a truncation removes.
-ghost use Rattle.std.specs.Prelude.{◌≡◌, ◌≢◌, ◌≤◌, ◌<◌, ◌^◌, [], length, slice_index_or, true, IsTrue, Err, IsErrOf};
+ghost use Rattle.std.specs.Prelude.{◌≡◌, ◌≢◌, ◌≤◌, ◌<◌, ◌^◌, length, true, IsTrue, Err, IsErrOf};
 ghost use Rattle.std.specs.List.{list_all};
 ghost use Rattle.cluster_tree.specs.PathValue.{PathValue, is_part};
 ghost use Rattle.cluster_tree.specs.Folders.{lies_in};
@@ -13,7 +13,7 @@ ghost use Rattle.slru_replay.specs.Cutting.{area_cut, file_cut, files_cut, file_
 use crate::area::Area;
 use crate::names::{FILE_PAGES, file_number, folder_of};
 use cluster_tree::{FileFault, Names, Path, Tree};
-use file_edits::{names_of, remove_file};
+use file_edits::{name_at, names_of, remove_file};
 use std::alloc::Global;
 
 // How many members a file has, and how many files of them there can be.
@@ -106,18 +106,6 @@ fn cut_file<F: Tree>(
     }
     let path = folder.below(alloc, name)?;
     remove_file(alloc, tree, &path)
-}
-
-// The name at a place of a list.
-#[tactic(auto, using(std::proofs::lemmas::Option::gets))]
-fn name_at(names: &Names, at: usize) -> &str
-    requires { at < length names.now }
-    ensures { result.now ≡ slice_index_or names.now at [] }
-{
-    match names.get(at) {
-        Some(name) => name,
-        None => unreachable!(),
-    }
 }
 
 // Removes the files of these names that go.
