@@ -1,7 +1,7 @@
-// The calls of slru_replay on a cluster, and that of file_edits which they don't use; and what each answers.
+// The calls of slru_replay and of file_edits on a cluster, and what each answers.
+use crate::edits::{Edit, answer_at, ended, refused};
 use block_refs::split_record;
 use cluster_tree::{FileFault, MemoryTree, Path, Tree};
-use file_edits::remove_tree;
 use slru_replay::{Area, add_multi, cut_before, set_status, zero_page};
 use std::alloc::Global;
 use std::test::Fail;
@@ -14,7 +14,7 @@ const SEGMENT: Lsn = Lsn(0x10_0000);
 
 const START: Lsn = Lsn(0x10_0028);
 
-/// A call on a cluster's status or multixacts.
+/// A call on a cluster's files.
 #[derive(Clone, Copy)]
 pub(crate) enum Call<'a> {
     /// `set_status`: the transaction and its status.
@@ -25,8 +25,8 @@ pub(crate) enum Call<'a> {
     Cut(Area, u32, u32),
     /// `add_multi` by a record of these main bytes, at most 255.
     Multi(&'a [u8]),
-    /// `remove_tree` of `file_edits`: the folder.
-    Clear(&'a str),
+    /// One of `file_edits`, at a path.
+    On(&'a str, Edit<'a>),
 }
 
 // A log of one record of these main bytes.
@@ -69,7 +69,7 @@ fn told(alloc: Global, done: Result<bool, FileFault>) -> Result<String, Fail> {
     match done {
         Ok(true) => Ok(String::from_str(alloc, "done")?),
         Ok(false) => Ok(String::from_str(alloc, "short")?),
-        Err(fault) => Ok(format!(in alloc; "{fault}")?),
+        Err(fault) => refused(alloc, fault),
     }
 }
 
@@ -83,16 +83,19 @@ fn add<F: Tree>(alloc: Global, tree: &mut F, root: &Path, main: &[u8]) -> Result
     told(alloc, add_multi(alloc, tree, root, rec, &parts))
 }
 
-fn clear<F: Tree>(alloc: Global, tree: &mut F, folder: &str) -> Result<String, Fail> {
-    let folder = Path::parse(alloc, folder)?;
-    if folder.len() == 0 {
-        return Err("no folder to remove".into());
-    }
-    let done = remove_tree(alloc, tree, &folder);
-    told(alloc, done.map(|()| true))
+fn edit_at<F: Tree>(
+    alloc: Global,
+    tree: &mut F,
+    root: &Path,
+    path: &str,
+    call: Edit<'_>,
+) -> Result<String, Fail> {
+    let path = Path::parse(alloc, path)?;
+    answer_at(alloc, tree, root, &path, call)
 }
 
-/// What a call on the cluster at a root answers: `done`, `short`, or the text of a fault.
+/// What a call on the cluster at a root answers: `done`, `short` or what was asked, or the text of a
+/// fault.
 pub(crate) fn answer<F: Tree>(
     alloc: Global,
     tree: &mut F,
@@ -108,7 +111,7 @@ pub(crate) fn answer<F: Tree>(
         Call::Zero(area, page) => zero_page(alloc, tree, &root, area, page),
         Call::Cut(area, first, last) => cut_before(alloc, tree, &root, area, first, last),
         Call::Multi(main) => return add(alloc, tree, &root, main),
-        Call::Clear(folder) => return clear(alloc, tree, folder),
+        Call::On(path, call) => return edit_at(alloc, tree, &root, path, call),
     };
-    told(alloc, done.map(|()| true))
+    ended(alloc, done)
 }

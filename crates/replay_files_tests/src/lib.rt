@@ -4,11 +4,17 @@
 #[cfg(test)]
 mod calls;
 #[cfg(test)]
-mod clearing;
-#[cfg(test)]
 mod cuts;
 #[cfg(test)]
+mod deep;
+#[cfg(test)]
+mod edited;
+#[cfg(test)]
+mod edits;
+#[cfg(test)]
 mod faults;
+#[cfg(test)]
+mod kinds;
 #[cfg(test)]
 mod pages;
 #[cfg(test)]
