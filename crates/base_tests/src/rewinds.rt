@@ -1,7 +1,8 @@
 // Each answer of a rewind over trees in memory. The checksums of the control files come from a
 // script of its own (tests/pg_control.py).
 use cluster_tree::{FailPlan, FailingTree, MemoryTree, Path, Tree};
-use rewind_core::{Found, read_whole, rewind};
+use clusters::{Found, read_whole};
+use rewind_core::rewind;
 use std::alloc::Global;
 use std::process::Abort;
 use std::test::Fail;

@@ -1,9 +1,27 @@
--- A fault of a rewind comes while a command looks.
+-- Faults of a cluster and of a rewind come while a command looks.
 use Rattle.std.proofs.Common.{inl, inr, refl}
+use Rattle.clusters.specs.declared.fault.ClusterFault.{ClusterFault}
+use Rattle.clusters.specs.declared.fault.ClusterFault.TheVariants as cluster
 use Rattle.rewind_core.specs.declared.fault.RewindFault.{RewindFault}
 use Rattle.rewind_core.specs.declared.fault.RewindFault.TheVariants as fault
 use Rattle.run_acts.specs.Causes.{IsOfLook}
+use Rattle.cluster_causes.specs.Clusters.{cluster_cause}
 use Rattle.cluster_causes.specs.Rewind.{rewind_cause}
+
+pub cluster_looks : (f : ClusterFault) → IsOfLook (cluster_cause f)
+cluster_looks (cluster.Unfinished path) = inr (inr refl)
+cluster_looks (cluster.ControlMissing root) = inr (inr refl)
+cluster_looks (cluster.Size root n) = inr (inr refl)
+cluster_looks (cluster.Crc root stored computed) = inr (inr refl)
+cluster_looks (cluster.Version root n) = inr (inr refl)
+cluster_looks (cluster.Catalog root n) = inr (inr refl)
+cluster_looks (cluster.Shape root field n) = inr (inr refl)
+cluster_looks (cluster.HistoryMissing root tli) = inr (inr refl)
+cluster_looks (cluster.BadLine root tli n) = inr (inr refl)
+cluster_looks (cluster.NotRising root tli n) = inr (inr refl)
+cluster_looks cluster.ReadFault = inl refl
+cluster_looks (cluster.Changed path) = inr (inr refl)
+cluster_looks cluster.OutOfMemory = inr (inl refl)
 
 pub cause_looks : (f : RewindFault) → IsOfLook (rewind_cause f)
 cause_looks (fault.Unfinished path) = inr (inr refl)
@@ -16,6 +34,9 @@ cause_looks (fault.Shape root field n) = inr (inr refl)
 cause_looks (fault.SystemsDiffer target source) = inr (inr refl)
 cause_looks (fault.NoHints root) = inr (inr refl)
 cause_looks (fault.NotClean root n) = inr (inr refl)
+cause_looks (fault.HistoryMissing root tli) = inr (inr refl)
+cause_looks (fault.BadLine root tli n) = inr (inr refl)
+cause_looks (fault.NotRising root tli n) = inr (inr refl)
 cause_looks fault.NotBuilt = inr (inr refl)
 cause_looks fault.ReadFault = inl refl
 cause_looks (fault.Changed path) = inr (inr refl)

@@ -1,6 +1,8 @@
 //! What is wrong with clusters, as causes of a run.
 #![tactic(auto)]
 
+mod of_cluster;
 mod rewind;
 
+pub use of_cluster::cluster_cause;
 pub use rewind::rewind_cause;

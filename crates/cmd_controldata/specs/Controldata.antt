@@ -3,19 +3,19 @@ use Rattle.std.specs.Prelude.{◌≡◌, ◌⊎◌, ℕ, List, [], ◌∷◌, Re
 use Rattle.cluster_tree.specs.Contents.{Contents}
 use Rattle.control_file.specs.Text.{control_text_of}
 use Rattle.control_file.specs.declared.control.Control.{Control}
-use Rattle.rewind_core.specs.RootControl.{control_at}
-use Rattle.rewind_core.specs.declared.fault.RewindFault.{RewindFault}
+use Rattle.clusters.specs.RootControl.{control_at}
+use Rattle.clusters.specs.declared.fault.ClusterFault.{ClusterFault}
 use Rattle.commands.specs.declared.controldata.ControldataWords.{ControldataWords}
 use Rattle.acts.specs.Acts.{Print}
 use Rattle.run_acts.specs.Answers.{Answer, refused, does}
 use Rattle.run_acts.specs.Causes.{IsOfLook}
 use Rattle.run_acts.specs.declared.cause.Cause.{Cause}
-use Rattle.cluster_causes.specs.Rewind.{rewind_cause}
+use Rattle.cluster_causes.specs.Clusters.{cluster_cause}
 
 -- the text of the control file on standard output, or why it is refused
-abbrev pub control_answer : Result Control RewindFault → Answer
+abbrev pub control_answer : Result Control ClusterFault → Answer
 control_answer (Ok control) = does (Print (control_text_of control) ∷ [])
-control_answer (Err fault) = refused (rewind_cause fault)
+control_answer (Err fault) = refused (cluster_cause fault)
 
 -- what is done about the cluster's control file
 abbrev pub controldata_answer : Contents → ControldataWords → Answer

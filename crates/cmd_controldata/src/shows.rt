@@ -4,18 +4,18 @@ ghost use Rattle.cluster_tree.specs.Causes.{Rose};
 ghost use Rattle.cluster_tree.specs.Frame.{Reads};
 ghost use Rattle.cluster_tree.specs.PathValue.{PathValue};
 ghost use Rattle.control_file.specs.Admission.{IsControl};
-ghost use Rattle.rewind_core.specs.RootControl.{control_at};
+ghost use Rattle.clusters.specs.RootControl.{control_at};
 ghost use Rattle.commands.specs.Fit.{IsFitRoot};
 ghost use Rattle.acts.specs.Acts.{Print, Sunk, seen, sunk};
 ghost use Rattle.run_acts.specs.Answers.{Blames, Carries, does, refused};
 ghost use Rattle.run_acts.specs.Causes.{IsFree, IsOfLook, cause_of, is_of_files};
 ghost use Rattle.cmd_controldata.specs.Controldata.{IsControldata, control_answer, controldata_answer};
 
-use cluster_causes::rewind_cause;
+use cluster_causes::cluster_cause;
 use cluster_tree::{Path, Sink, Tree};
+use clusters::control_at;
 use commands::ControldataWords;
 use control_file::{Control, control_text};
-use rewind_core::control_at;
 use run_acts::{Cause, tell};
 use std::alloc::Global;
 use wal_base::Text;
@@ -36,7 +36,7 @@ fn control_of<F: Tree>(alloc: Global, tree: &mut F, root: &Path) -> Result<Contr
 {
     match control_at(alloc, tree, root) {
         Ok(control) => Ok(control),
-        Err(fault) => Err(rewind_cause(fault)),
+        Err(fault) => Err(cluster_cause(fault)),
     }
 }
 

@@ -1,2 +1,1 @@
-pub mod ReadingLemmas
-pub mod RoomLemmas
+pub mod FaultLemmas

@@ -7,9 +7,8 @@ ghost use Rattle.cluster_tree.specs.Frame.{Reads};
 ghost use Rattle.rewind_core.specs.Faults.{IsFree};
 ghost use Rattle.rewind_core.specs.Rewind.{rewind_of};
 
-use crate::control::control_at;
 use crate::fitness::check_pair;
-use crate::marks::check_marks;
+use crate::roots::{check_marks, control_at};
 use crate::{RewindDone, RewindFault};
 use cluster_tree::{Path, Tree};
 use std::alloc::Global;

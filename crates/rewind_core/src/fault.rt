@@ -37,6 +37,15 @@ pub enum RewindFault {
     /// The root of a cluster that was not shut down, and its state.
     #[error("{0} was not shut down cleanly: its state is {1}")]
     NotClean(Path, u32),
+    /// The root, and a timeline whose history is not a file there.
+    #[error("{0} has no history of timeline {1}")]
+    HistoryMissing(Path, u32),
+    /// The root, a timeline, and the number of the line of its history that is no entry.
+    #[error("line {2} of the history of timeline {1} of {0} is no entry")]
+    BadLine(Path, u32, u64),
+    /// The root, a timeline, and the number of the line of its history that doesn't rise.
+    #[error("line {2} of the history of timeline {1} of {0} doesn't rise")]
+    NotRising(Path, u32, u64),
     /// The timelines differ, which is not built yet.
     #[error("a rewind from another timeline is not built yet")]
     NotBuilt,

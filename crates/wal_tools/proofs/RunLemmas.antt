@@ -14,7 +14,7 @@ use Rattle.commands.specs.declared.controldata.ControldataWords.{ControldataWord
 use Rattle.cmd_controldata.specs.Controldata.{IsControldata, controldata_answer}
 use Rattle.cmd_rewind.specs.Rewind.{IsRewind, rewind_answer}
 use Rattle.cmd_waldump.specs.Waldump.{AskForList, IsWaldump, waldump_answer}
-use Rattle.rewind_core.specs.RootControl.{control_at}
+use Rattle.clusters.specs.RootControl.{control_at}
 use Rattle.rewind_core.specs.Rewind.{rewind_of}
 use Rattle.log_folder.specs.Found.{found_in}
 use Rattle.acts.specs.Acts.{Refused, Seen, Sunk, seen}

@@ -1,7 +1,7 @@
 use Rattle.std.proofs.Common.{inl, inr, refl, [], ◌∷◌}
 use Rattle.acts.specs.Acts.{Print}
 use Rattle.run_acts.proofs.AnswerSteps.{carries_acts, carries_look, last_exact, last_print}
-use Rattle.rewind_core.specs.RootControl.{control_at}
+use Rattle.clusters.specs.RootControl.{control_at}
 use Rattle.cmd_controldata.proofs.FormLemmas.{answer-form, answer-looks}
 use Rattle.cmd_controldata.proofs.shows.controldata.Goals as goal
 

@@ -8,12 +8,12 @@ use Rattle.control_file.specs.declared.control.Control.{Control}
 use Rattle.control_file.specs.declared.fault.ControlFault.{ControlFault}
 use Rattle.control_file.specs.declared.fault.ControlFault.TheVariants as control
 use Rattle.control_file.specs.Admission.{control_of}
-use Rattle.rewind_core.specs.Roots.{path_in}
-use Rattle.rewind_core.specs.declared.fault.RewindFault.{RewindFault}
-use Rattle.rewind_core.specs.declared.fault.RewindFault.TheVariants as fault
+use Rattle.clusters.specs.Roots.{path_in}
+use Rattle.clusters.specs.declared.fault.ClusterFault.{ClusterFault}
+use Rattle.clusters.specs.declared.fault.ClusterFault.TheVariants as fault
 
 -- the refusals of a control file, with its root
-abbrev pub at_root : PathValue → Result Control ControlFault → Result Control RewindFault
+abbrev pub at_root : PathValue → Result Control ControlFault → Result Control ClusterFault
 at_root root (Ok c) = Ok c
 at_root root (Err (control.Size n)) = Err (fault.Size root n)
 at_root root (Err (control.Crc stored computed)) = Err (fault.Crc root stored computed)
@@ -22,10 +22,10 @@ at_root root (Err (control.Catalog n)) = Err (fault.Catalog root n)
 at_root root (Err (control.Shape field n)) = Err (fault.Shape root field n)
 
 -- what a control file of these bytes says, where there is one
-abbrev pub control_in : PathValue → Result (List ℕ) TreeFault → Result Control RewindFault
+abbrev pub control_in : PathValue → Result (List ℕ) TreeFault → Result Control ClusterFault
 control_in root (Ok bytes) = at_root root (control_of bytes)
 control_in root (Err _) = Err (fault.ControlMissing root)
 
 -- what the control file of a root says, or why it is refused
-unfoldable pub control_at : Contents → PathValue → Result Control RewindFault
+unfoldable pub control_at : Contents → PathValue → Result Control ClusterFault
 control_at c root = control_in root (file_of (entry_at c (path_in root (codes "global/pg_control"))))

@@ -5,9 +5,9 @@ ghost use Rattle.cluster_tree.specs.Contents.{entry_at};
 ghost use Rattle.cluster_tree.specs.Tree.{file_of};
 ghost use Rattle.cluster_tree.specs.Causes.{IsAmong, Rose};
 ghost use Rattle.cluster_tree.specs.Frame.{Reads};
-ghost use Rattle.rewind_core.specs.WholeFile.{found_of};
+ghost use Rattle.clusters.specs.WholeFile.{found_of};
 
-use crate::RewindFault;
+use crate::ClusterFault;
 use cluster_tree::{Path, Tree, TreeFault};
 
 /// What stands at a path where a file of a known length is looked for.
@@ -25,21 +25,21 @@ pub enum Found {
 ///
 /// Answers `ReadFault` where the device failed, and `Changed` with the path where the file had the
 /// length and then could not be read. What `into` holds is open unless the answer is `Filled`.
-pub fn read_whole<F: Tree>(tree: &mut F, path: Path, into: &mut [u8]) -> Result<Found, RewindFault>
+pub fn read_whole<F: Tree>(tree: &mut F, path: Path, into: &mut [u8]) -> Result<Found, ClusterFault>
     ensures found { IsTrue F.tells → IfOk result (λ found.
         found ≡ found_of (length into.old) (file_of (entry_at (F.contents tree.old) path))) }
     ensures filled { IsTrue F.tells → result ≡ Ok Found.Filled →
         file_of (entry_at (F.contents tree.old) path) ≡ Ok into.new }
     ensures reads { Reads F.Tree tree.old tree.new }
-    ensures read_fault { IsErrOf result RewindFault.ReadFault →
+    ensures read_fault { IsErrOf result ClusterFault.ReadFault →
         Rose (F.failed_reads tree.old) (F.failed_reads tree.new) }
-    ensures changed { IsTrue F.tells → (p : PathValue) → result ≢ Err (RewindFault.Changed p) }
+    ensures changed { IsTrue F.tells → (p : PathValue) → result ≢ Err (ClusterFault.Changed p) }
     ensures row { IfErr result (IsAmong
-        (RewindFault.ReadFault ∷ RewindFault.Changed path ∷ [])) }
+        (ClusterFault.ReadFault ∷ ClusterFault.Changed path ∷ [])) }
 {
     let size = match tree.size(&path) {
         Ok(size) => size,
-        Err(TreeFault::Failed) => return Err(RewindFault::ReadFault),
+        Err(TreeFault::Failed) => return Err(ClusterFault::ReadFault),
         Err(_) => return Ok(Found::Missing),
     };
     if size != into.len() as u64 {
@@ -47,7 +47,7 @@ pub fn read_whole<F: Tree>(tree: &mut F, path: Path, into: &mut [u8]) -> Result<
     }
     match tree.read_at(&path, 0, into) {
         Ok(()) => Ok(Found::Filled),
-        Err(TreeFault::Failed) => Err(RewindFault::ReadFault),
-        Err(_) => Err(RewindFault::Changed(path)),
+        Err(TreeFault::Failed) => Err(ClusterFault::ReadFault),
+        Err(_) => Err(ClusterFault::Changed(path)),
     }
 }

@@ -4,10 +4,10 @@ use Rattle.cluster_tree.specs.PathValue.{PathValue}
 use Rattle.cluster_tree.specs.declared.tree.TreeFault.{TreeFault}
 use Rattle.control_file.specs.declared.fault.ControlFault.TheVariants as control
 use Rattle.control_file.specs.Admission.{control_of}
-use Rattle.rewind_core.specs.declared.fault.RewindFault.TheVariants as fault
-use Rattle.rewind_core.specs.declared.whole_file.Found.TheVariants.{Missing, OtherSize, Filled}
-use Rattle.rewind_core.specs.WholeFile.{found_of}
-use Rattle.rewind_core.specs.RootControl.{control_in, at_root}
+use Rattle.clusters.specs.declared.fault.ClusterFault.TheVariants as fault
+use Rattle.clusters.specs.declared.whole_file.Found.TheVariants.{Missing, OtherSize, Filled}
+use Rattle.clusters.specs.WholeFile.{found_of}
+use Rattle.clusters.specs.RootControl.{control_in, at_root}
 
 missing_not : (b : Bool) (bytes : List ℕ) {A : Type 0} → (if b then Filled else OtherSize (length bytes)) ≡ Missing → A
 missing_not true bytes e = absurd cc

@@ -3,9 +3,9 @@ use Rattle.cluster_tree.specs.PathValue.{PathValue}
 use Rattle.cluster_tree.specs.Contents.{entry_at}
 use Rattle.cluster_tree.specs.Tree.{file_of}
 use Rattle.cluster_tree.specs.Causes.{Meets}
-use Rattle.rewind_core.specs.Faults.{IsFree}
-use Rattle.rewind_core.specs.RootControl.{control_at, control_in}
-use Rattle.rewind_core.proofs.control.control_at.Goals as goal
+use Rattle.clusters.specs.Faults.{IsFree}
+use Rattle.clusters.specs.RootControl.{control_at, control_in}
+use Rattle.clusters.proofs.control.control_at.Goals as goal
 
 pub returns-clause-exact : goal.returns-clause-exact
 unfolding control_at

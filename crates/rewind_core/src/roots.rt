@@ -1,0 +1,79 @@
+// What stands at a root, or why a rewind is refused for it.
+ghost use Rattle.std.specs.Prelude.{◌≡◌, ◌≢◌, ◌≤◌, length, IfOk, IsTrue, Err, IsErrOf, option_map};
+ghost use Rattle.cluster_tree.specs.PathValue.{PathValue};
+ghost use Rattle.cluster_tree.specs.Causes.{Meets, Passes, Rose};
+ghost use Rattle.cluster_tree.specs.Frame.{Reads};
+ghost use Rattle.control_file.specs.Admission.{IsControl};
+ghost use Rattle.clusters.specs.Marks.{unfinished};
+ghost use Rattle.clusters.specs.RootControl.{control_at};
+ghost use Rattle.rewind_core.specs.Faults.{IsFree, of_cluster, told_by};
+
+use crate::RewindFault;
+use cluster_tree::{Path, Tree};
+use clusters::ClusterFault;
+use control_file::Control;
+use std::alloc::Global;
+
+// A fault of a cluster as one of a rewind.
+fn of_cluster(fault: ClusterFault) -> RewindFault
+    ensures { result ≡ of_cluster fault }
+{
+    match fault {
+        ClusterFault::Unfinished(path) => RewindFault::Unfinished(path),
+        ClusterFault::ControlMissing(root) => RewindFault::ControlMissing(root),
+        ClusterFault::Size(root, size) => RewindFault::Size(root, size),
+        ClusterFault::Crc(root, stored, computed) => RewindFault::Crc(root, stored, computed),
+        ClusterFault::Version(root, version) => RewindFault::Version(root, version),
+        ClusterFault::Catalog(root, catalog) => RewindFault::Catalog(root, catalog),
+        ClusterFault::Shape(root, field, value) => RewindFault::Shape(root, field, value),
+        ClusterFault::HistoryMissing(root, tli) => RewindFault::HistoryMissing(root, tli),
+        ClusterFault::BadLine(root, tli, line) => RewindFault::BadLine(root, tli, line),
+        ClusterFault::NotRising(root, tli, line) => RewindFault::NotRising(root, tli, line),
+        ClusterFault::ReadFault => RewindFault::ReadFault,
+        ClusterFault::Changed(path) => RewindFault::Changed(path),
+        ClusterFault::OutOfMemory => RewindFault::OutOfMemory,
+    }
+}
+
+/// Refuses a root at which a mark stands, with the first of them.
+#[tactic(auto, using(crate::proofs::FaultLemmas::fault_steps))]
+pub(crate) fn check_marks<F: Tree>(
+    alloc: Global,
+    tree: &mut F,
+    root: &Path,
+) -> Result<(), RewindFault>
+    requires { length root.now.parts ≤ 61 }
+    ensures answer { IsTrue F.tells →
+        Passes IsFree (option_map of_cluster (unfinished (F.contents tree.old) root.now)) result }
+    ensures reads { Reads F.Tree tree.old tree.new }
+    ensures read_fault { IsErrOf result RewindFault.ReadFault →
+        Rose (F.failed_reads tree.old) (F.failed_reads tree.new) }
+    ensures changed { IsTrue F.tells → (p : PathValue) → result ≢ Err (RewindFault.Changed p) }
+{
+    match clusters::check_marks(alloc, tree, root) {
+        Ok(()) => Ok(()),
+        Err(fault) => Err(of_cluster(fault)),
+    }
+}
+
+/// What the control file of a root says.
+#[tactic(auto, using(crate::proofs::FaultLemmas::fault_steps))]
+pub(crate) fn control_at<F: Tree>(
+    alloc: Global,
+    tree: &mut F,
+    root: &Path,
+) -> Result<Control, RewindFault>
+    requires { length root.now.parts ≤ 61 }
+    ensures exact { IsTrue F.tells →
+        Meets IsFree (told_by (control_at (F.contents tree.old) root.now)) result }
+    ensures control { IfOk result IsControl }
+    ensures reads { Reads F.Tree tree.old tree.new }
+    ensures read_fault { IsErrOf result RewindFault.ReadFault →
+        Rose (F.failed_reads tree.old) (F.failed_reads tree.new) }
+    ensures changed { IsTrue F.tells → (p : PathValue) → result ≢ Err (RewindFault.Changed p) }
+{
+    match clusters::control_at(alloc, tree, root) {
+        Ok(control) => Ok(control),
+        Err(fault) => Err(of_cluster(fault)),
+    }
+}
