@@ -1,5 +1,5 @@
 -- A range that is written in several writes.
-use Rattle.std.proofs.Common.{◌≡◌, ℕ, append_assoc, drop, ◌+◌, ◌-◌, ◌<◌, ◌≤◌, Bool, true, false, ◌||◌, cond, nat_lt, IsTrue, List, [], ◌∷◌, ◌++◌, length, replicate, take, Option, None, Some, Result, Ok, Err, refl, ap, sym, ◌∙◌, subst, arith, rules}
+use Rattle.std.proofs.Common.{◌≡◌, ℕ, append_assoc, drop, ◌+◌, ◌-◌, ◌<◌, ◌≤◌, Bool, true, false, ◌||◌, cond, nat_lt, IsTrue, List, [], ◌∷◌, ◌++◌, length, replicate, take, Option, None, Some, Result, Ok, Err, refl, ap, sym, ◌∙◌, subst, arith, rules, zero-add}
 use Rattle.std.proofs.lemmas.List.{append-nil, length-append, length-replicate, length-take-le, replicate-append-replicate, take_at, drop_at, drop-drop}
 use Rattle.std.specs.List.{list_any}
 use Rattle.std.specs.FinMap.{insert}
@@ -7,21 +7,22 @@ use Rattle.layout.specs.Splice.{splice}
 use Rattle.cluster_tree.specs.PathValue.{PathValue}
 use Rattle.cluster_tree.specs.PathOrder.{path_eq}
 use Rattle.cluster_tree.specs.Contents.{Contents, Entry, FolderEntry, FileEntry, LinkEntry, entry_at}
-use Rattle.cluster_tree.specs.Change.{Writes, all_changed, first_refusal, is_on, or_next}
+use Rattle.cluster_tree.specs.Change.{Change, MakesFile, Writes, all_changed, first_refusal, is_on, or_next}
 use Rattle.cluster_tree.specs.Joined.{joined_writes}
 use Rattle.cluster_tree.specs.Run.{state_by}
 use Rattle.cluster_tree.specs.Tree.{bytes_at, file_of, bytes_in, refusal_past, write_refusal, written}
 use Rattle.cluster_tree.specs.declared.tree.ChangeCall.{ChangeCall}
-use Rattle.cluster_tree.specs.declared.tree.ChangeCall.TheVariants.{Write}
+use Rattle.cluster_tree.specs.declared.tree.ChangeCall.TheVariants.{MakeFile, Write}
 use Rattle.cluster_tree.specs.declared.tree.Tree.{Ghosts}
 use Rattle.cluster_tree.specs.declared.tree.TreeFault.{TreeFault}
 use Rattle.cluster_tree.specs.declared.tree.TreeFault.TheVariants as fault
-use Rattle.cluster_tree.proofs.ContentsLemmas.{written-put, write_refusal-put}
+use Rattle.cluster_tree.proofs.ContentsLemmas.{written-new, written-put, write_refusal-put}
 use Rattle.cluster_tree.proofs.JoinedLemmas.{joined_writes-cut}
 use Rattle.marked_runs.specs.Runs.{Runs, is_done, writes_at}
 use Rattle.marked_runs.specs.Carried.{Carried, Carries}
 use Rattle.marked_runs.specs.declared.faults.StepFault.{StepFault}
 use Rattle.marked_runs.proofs.RunLemmas.{runs-front, runs-then}
+use Rattle.marked_runs.proofs.CarriedLemmas.{carried-then, unrefused-both}
 
 -- one write and then the next, where the first one ends
 splice_twice : (old : List ℕ) (at : ℕ) (a b : List ℕ) → at ≤ length old → splice (splice old at a) (at + length a) b ≡ splice old at (a ++ b)
@@ -66,6 +67,10 @@ written_twice c path at a b fits =
 or_false : (b : Bool) → (b || false) ≡ false → b ≡ false
 or_false true e = e
 or_false false e = e
+
+off_all : (b : Bool) → (b || (b || false)) ≡ false → (b || (b || (b || false))) ≡ false
+off_all true e = e
+off_all false e = e
 
 off_both : (p path : PathValue) (at from : ℕ) (a b whole : List ℕ) → list_any (is_on p) (Writes path at whole ∷ []) ≡ false → list_any (is_on p) (Writes path at a ∷ Writes path from b ∷ []) ≡ false
 off_both p path at from a b whole off = ap (λ x. x || (x || false)) (or_false (path_eq p path) off)
@@ -176,3 +181,48 @@ zeros-broken tree path at size done n bytes a b c u e some fits is far more told
           (runs-less path at (replicate (done + n) 0) (replicate (size - (done + n)) 0) (tree.calls a) (tree.calls c) (tree.contents a) (tree.contents c) begun last.runs);
       agreed = last.agreed;
     }
+
+-- ---- a new file, and zeros behind its bytes
+
+abbrev new_with : PathValue → List ℕ → List Change
+new_with path bytes = MakesFile path ∷ Writes path 0 bytes ∷ []
+
+-- no refusal of a write depends on its bytes
+same_refusal : (c : Contents) (path : PathValue) (bytes other : List ℕ) → first_refusal c (new_with path bytes) ≡ None → first_refusal c (new_with path other) ≡ None
+same_refusal c path bytes other none = none
+
+zeros_unrefused : (c : Contents) (path : PathValue) (bytes zeros : List ℕ) → first_refusal (all_changed c (new_with path bytes)) (writes_at path (length bytes) zeros) ≡ None
+zeros_unrefused c path bytes [] = refl
+zeros_unrefused c path bytes (x ∷ zeros) =
+    let made = insert c path (FileEntry []) in
+    ap (λ o. or_next o None) (ap (λ d. write_refusal d path (length bytes)) (written-new c path bytes) ∙ write_refusal-put c path bytes (length bytes) (omega arith))
+
+new_cut : (path : PathValue) (bytes zeros : List ℕ) (k l : List ChangeCall) (c d : Contents) (done : Bool) → Runs (new_with path bytes ++ writes_at path (length bytes) zeros) k l c d done → Runs (new_with path (bytes ++ zeros)) k l c d done
+new_cut path bytes [] k l c d done ran = subst (λ b. Runs (new_with path b) k l c d done) (sym (append-nil bytes)) ran
+new_cut path bytes (x ∷ zeros) k l c d done ran =
+    let made = insert c path (FileEntry []) in
+    record {
+      made = ran.made;
+      grew = ran.grew;
+      rest = ran.rest;
+      joins = ran.joins
+          ∙ ap (λ n. joined_writes (MakeFile path ∷ Write path 0 (length bytes) ∷ Write path n (length (x ∷ zeros)) ∷ [])) (sym (zero-add (length bytes)))
+          ∙ joined_writes-cut (MakeFile path ∷ []) [] path 0 (length bytes) (length (x ∷ zeros))
+          ∙ ap (λ n. joined_writes (MakeFile path ∷ Write path 0 n ∷ [])) (sym (length-append bytes (x ∷ zeros)));
+      all = ran.all;
+      after = λ h. ran.after h
+          ∙ ap (λ n. written (written made path 0 bytes) path n (x ∷ zeros)) (sym (zero-add (length bytes)))
+          ∙ written_twice made path 0 bytes (x ∷ zeros) (omega arith);
+      elsewhere = λ p off. ran.elsewhere p (off_all (path_eq p path) off);
+    }
+
+pub padded-carried : {F : Type 0} (tree : Ghosts F) (path : PathValue) (bytes zeros : List ℕ) (a b c : F) (u : Unit {0}) (r : Result (Unit {0}) StepFault) → Carries tree (new_with path bytes) a b (Ok u) → Carries tree (writes_at path (length bytes) zeros) b c r → Carries tree (new_with path (bytes ++ zeros)) a c r
+padded-carried tree path bytes zeros a b c u r one other told none =
+    let ran = carried-then tree (new_with path bytes) (writes_at path (length bytes) zeros) a b c u r one other told
+    (unrefused-both (tree.contents a) (new_with path bytes) (writes_at path (length bytes) zeros) (same_refusal (tree.contents a) path (bytes ++ zeros) bytes none) (zeros_unrefused (tree.contents a) path bytes zeros)) in
+    record { runs = new_cut path bytes zeros (tree.calls a) (tree.calls c) (tree.contents a) (tree.contents c) (is_done r) ran.runs; agreed = ran.agreed }
+
+pub padded-front : {F : Type 0} (tree : Ghosts F) (path : PathValue) (bytes zeros : List ℕ) (a b : F) (e : StepFault) → Carries tree (new_with path bytes) a b (Err e) → Carries tree (new_with path (bytes ++ zeros)) a b (Err e)
+padded-front tree path bytes zeros a b e one told none =
+    let ran = one told (same_refusal (tree.contents a) path (bytes ++ zeros) bytes none) in
+    record { runs = new_cut path bytes zeros (tree.calls a) (tree.calls b) (tree.contents a) (tree.contents b) false (runs-front (new_with path bytes) (writes_at path (length bytes) zeros) (tree.calls a) (tree.calls b) (tree.contents a) (tree.contents b) ran.runs); agreed = ran.agreed }

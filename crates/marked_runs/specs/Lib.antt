@@ -1,4 +1,5 @@
 pub mod Runs
 pub mod Settled
 pub mod Carried
+pub mod Performed
 pub mod Laws

@@ -1,4 +1,7 @@
 // Why changes broke off.
+ghost use Rattle.std.specs.Prelude.{◌≡◌};
+ghost use Rattle.marked_runs.specs.Performed.{about};
+
 use cluster_tree::Path;
 use thiserror::Error;
 
@@ -28,4 +31,15 @@ pub enum PerformFault {
     /// The tree contradicted, about this path, what it had answered earlier in the run.
     #[error("{0} was changed meanwhile")]
     Changed(Path),
+}
+
+/// Why a step about a path broke off, with that path.
+pub fn about(fault: StepFault, path: Path) -> PerformFault
+    ensures { result ≡ about fault path }
+{
+    match fault {
+        StepFault::ReadFault => PerformFault::ReadFault,
+        StepFault::WriteFault => PerformFault::WriteFault,
+        StepFault::Contradicted => PerformFault::Changed(path),
+    }
 }
