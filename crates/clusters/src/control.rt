@@ -21,7 +21,11 @@ use std::alloc::Global;
 /// Answers `ControlMissing` where `global/pg_control` is not a file, then what `read_control`
 /// refuses, with the root.
 #[tactic(auto, using(crate::proofs::RoomLemmas::room_steps), unfolding(crate::specs::RootControl::control_at))]
-pub fn control_at<F: Tree>(alloc: Global, tree: &mut F, root: &Path) -> Result<Control, ClusterFault>
+pub fn control_at<F: Tree>(
+    alloc: Global,
+    tree: &mut F,
+    root: &Path,
+) -> Result<Control, ClusterFault>
     requires { length root.now.parts ≤ 61 }
     ensures exact { IsTrue F.tells → Meets IsFree (control_at (F.contents tree.old) root.now)
         result }

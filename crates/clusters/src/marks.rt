@@ -13,11 +13,7 @@ use std::alloc::Global;
 
 /// Refuses a root at which a mark stands, with the first of them.
 #[tactic(auto, unfolding(crate::specs::Marks::unfinished))]
-pub fn check_marks<F: Tree>(
-    alloc: Global,
-    tree: &mut F,
-    root: &Path,
-) -> Result<(), ClusterFault>
+pub fn check_marks<F: Tree>(alloc: Global, tree: &mut F, root: &Path) -> Result<(), ClusterFault>
     requires { length root.now.parts ≤ 61 }
     ensures answer { IsTrue F.tells → Passes IsFree (unfinished (F.contents tree.old) root.now)
         result }
