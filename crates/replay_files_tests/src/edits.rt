@@ -88,8 +88,10 @@ fn ensured<F: Tree>(alloc: Global, tree: &mut F, root: &Path, path: &Path) -> Re
     if !root.holds(path) || root.len() >= path.len() {
         return Err("not below the root".into());
     }
-    let size = ensure_file(alloc, tree, root, path);
-    sized(alloc, size.map(|n| Some(n)))
+    match ensure_file(alloc, tree, root, path) {
+        Ok(size) => Ok(format!(in alloc; "{size} bytes")?),
+        Err(fault) => refused(alloc, fault),
+    }
 }
 
 fn laid<F: Tree>(
