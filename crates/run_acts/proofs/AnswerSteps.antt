@@ -18,7 +18,7 @@ Looks (Report text ∷ acts) = ⊥
 Looks (Do calls after ∷ acts) = ⊥
 Looks (Within roots after ∷ acts) = ⊥
 
-unfree : (e : Cause) → ending_of e ≡ Refused → IsFree e → ⊥
+pub unfree : (e : Cause) → ending_of e ≡ Refused → IsFree e → ⊥
 unfree e is (inl f) = cc (sym is ∙ ap ending_of f)
 unfree e is (inr (inl f)) = cc (sym is ∙ ap ending_of f)
 unfree e is (inr (inr (inl f))) = cc (sym is ∙ ap ending_of f)

@@ -1,3 +1,5 @@
 pub mod BlameSteps
 pub mod AnswerSteps
 pub mod GrowSteps
+pub mod UnseenSteps
+pub mod LawLemmas

@@ -1,2 +1,4 @@
 pub mod Causes
 pub mod Answers
+pub mod Unseen
+pub mod Laws

@@ -3,8 +3,10 @@
 
 mod cause;
 mod exit;
+mod laws;
 mod tells;
 
 pub use cause::{Cause, ControlCause, LogCause, PathCause, RewindCause};
 pub use exit::Exit;
+pub use laws::sink_laws;
 pub use tells::tell;
