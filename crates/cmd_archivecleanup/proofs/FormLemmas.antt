@@ -1,44 +1,21 @@
 -- The forms of what pg_archivecleanup does.
-use Rattle.std.proofs.Common.{◌≡◌, ◌≢◌, ◌∙◌, ◌==◌, length, ℕ, ◌⊎◌, Bool, true, false, List, [], ◌∷◌, map, Option, None, Some, inl, inr, refl, sym, ap, subst, Result, Ok, Err, IfErr}
+use Rattle.std.proofs.Common.{◌≡◌, ◌∙◌, ◌==◌, length, ℕ, ◌⊎◌, Bool, true, false, IsTrue, List, [], ◌∷◌, map, Option, None, Some, inl, inr, refl, sym, ap, subst}
 use Rattle.std.proofs.lemmas.Bool.{eqb-true}
 use Rattle.std.proofs.lemmas.List.{nil_from_length}
 use Rattle.std.specs.List.{flat_map}
 use Rattle.cluster_tree.specs.Contents.{Contents, Entry, FolderEntry, FileEntry, LinkEntry, entry_at}
-use Rattle.cluster_tree.specs.Folders.{list_refusal}
+use Rattle.cluster_tree.specs.Folders.{list_refusal, names_in}
 use Rattle.cluster_tree.specs.declared.tree.TreeFault.{TreeFault}
 use Rattle.cluster_tree.specs.declared.tree.TreeFault.TheVariants as fault
 use Rattle.commands.specs.declared.archivecleanup.ArchivecleanupWords.{ArchivecleanupWords}
 use Rattle.acts.specs.Acts.{Act, Print, Ending, Done, Seen, Performs, ends}
 use Rattle.run_acts.specs.Answers.{does, refused}
-use Rattle.run_acts.specs.Causes.{IsFree, IsOfLook, cause_of}
+use Rattle.run_acts.specs.Causes.{IsFree, IsOfLook}
 use Rattle.run_acts.specs.declared.cause.Cause.{Cause}
-use Rattle.run_acts.specs.declared.cause.Cause.TheVariants as causes
 use Rattle.run_acts.proofs.AnswerSteps.{Looks}
 use Rattle.cluster_tree.specs.PathValue.{PathValue}
-use Rattle.cmd_archivecleanup.specs.Steps.{IsOfRemoval}
-use Rattle.cmd_archivecleanup.specs.Archivecleanup.{IsArchivecleanup, archivecleanup_answer, entry_refusal, folder_cause, gone, in_folder, known_answer, listed_answer, or_else, path_line, printed, refused_or, removal, removals, unremoved}
+use Rattle.cmd_archivecleanup.specs.Archivecleanup.{IsArchivecleanup, archivecleanup_answer, entry_refusal, folder_cause, going, gone, in_folder, known_answer, listed_answer, named_answer, or_else, path_line, printed, refused_or, removal, removals, unremoved}
 use Rattle.cmd_archivecleanup.specs.declared.plan.Removal.{Removal}
-
--- a refusal is of the look, if there is one
-abbrev OfLook : Option Cause → Type 0
-OfLook None = Unit {0}
-OfLook (Some e) = IsOfLook e
-
-entry_looks : (path : PathValue) (o : Option Entry) → OfLook (entry_refusal path o)
-entry_looks path None = tt
-entry_looks path (Some (FolderEntry r)) = inr (inr refl)
-entry_looks path (Some (FileEntry bytes)) = tt
-entry_looks path (Some LinkEntry) = inr (inr refl)
-
-either_looks : (a b : Option Cause) → OfLook a → OfLook b → OfLook (or_else a b)
-either_looks (Some e) b first next = first
-either_looks None b first next = next
-
-unremoved_looks : (c : Contents) (folder : PathValue) (names : List (List ℕ)) → OfLook (unremoved c folder names)
-unremoved_looks c folder [] = tt
-unremoved_looks c folder (name ∷ names) =
-    either_looks (entry_refusal (in_folder folder name) (entry_at c (in_folder folder name))) (unremoved c folder names)
-    (entry_looks (in_folder folder name) (entry_at c (in_folder folder name))) (unremoved_looks c folder names)
 
 folder_looks : (folder : PathValue) (f : TreeFault) → IsOfLook (folder_cause folder f)
 folder_looks folder fault.Link = inr (inr refl)
@@ -52,20 +29,49 @@ folder_looks folder fault.Exists = inr (inr refl)
 folder_looks folder fault.NotEmpty = inr (inr refl)
 folder_looks folder fault.PastEnd = inr (inr refl)
 
-form_or : (c : Contents) (o : Option Cause) (rs : List Removal) → OfLook o → IsArchivecleanup (refused_or o (removals c rs))
-form_or c (Some e) rs look = inr (inl (e, look, refl))
-form_or c None rs look = inr (inr (c, rs, refl))
+-- a refusal is of the look, if there is one
+abbrev OfLook : Option Cause → Type 0
+OfLook None = Unit {0}
+OfLook (Some e) = IsOfLook e
 
-form_known : (c : Contents) (words : ArchivecleanupWords) (dry_run : Bool) → IsArchivecleanup (known_answer c words dry_run)
-form_known c words true = inl (flat_map (path_line words.folder) (gone c words), refl)
-form_known c words false =
-    form_or c (unremoved c words.folder (gone c words)) (map (removal words.debug words.folder) (gone c words)) (unremoved_looks c words.folder (gone c words))
+entry_looks : (path : PathValue) (o : Option Entry) → OfLook (entry_refusal path o)
+entry_looks path None = tt
+entry_looks path (Some (FolderEntry bad)) = inr (inr refl)
+entry_looks path (Some (FileEntry bytes)) = tt
+entry_looks path (Some LinkEntry) = inr (inr refl)
 
-form_listed : (c : Contents) (words : ArchivecleanupWords) (o : Option TreeFault) → IsArchivecleanup (listed_answer c words o)
-form_listed c words (Some f) = inr (inl (folder_cause words.folder f, folder_looks words.folder f, refl))
-form_listed c words None = form_known c words words.dry_run
+either_looks : (o next : Option Cause) → OfLook o → OfLook next → OfLook (or_else o next)
+either_looks (Some e) next h g = h
+either_looks None next h g = g
 
-pub answer-form : (c : Contents) (words : ArchivecleanupWords) → IsArchivecleanup (archivecleanup_answer c words)
+unremoved_looks : (c : Contents) (folder : PathValue) (names : List (List ℕ)) → OfLook (unremoved c folder names)
+unremoved_looks c folder [] = tt
+unremoved_looks c folder (name ∷ names) =
+    either_looks (entry_refusal (in_folder folder name) (entry_at c (in_folder folder name))) (unremoved c folder names) (entry_looks (in_folder folder name) (entry_at c (in_folder folder name))) (unremoved_looks c folder names)
+
+-- ---- each answer has its form
+
+-- names that go of some that were listed
+pub dry_form : (c : Contents) (words : ArchivecleanupWords) (names : List (List ℕ)) (text : List ℕ) → words.dry_run ≡ true → text ≡ flat_map (path_line words.folder) (going names words) → IsArchivecleanup words (does (printed text))
+dry_form c words names text dry made = inl (record { names = names; contents = c; is = ap (λ t. does (printed t)) made ∙ sym (ap (named_answer c words names) dry) })
+
+pub wet_form : (words : ArchivecleanupWords) (names : List (List ℕ)) (items : List Removal) → words.dry_run ≡ false → items ≡ map (removal words.debug words.folder) (going names words) → (c : Contents) → IsArchivecleanup words (does (removals c items))
+wet_form words names items wet made c = inl (record { names = names; contents = c; is = ap (λ l. does (removals c l)) made ∙ sym (ap (named_answer c words names) wet) })
+
+form_or : (c : Contents) (words : ArchivecleanupWords) (o : Option Cause) (rs : List Removal) → OfLook o → IsArchivecleanup words (does (removals c rs)) → IsArchivecleanup words (refused_or o (removals c rs))
+form_or c words (Some e) rs looks form = inr (e, looks, refl)
+form_or c words None rs looks form = form
+
+form_known : (c : Contents) (words : ArchivecleanupWords) (dry_run : Bool) → words.dry_run ≡ dry_run → IsArchivecleanup words (known_answer c words dry_run)
+unfolding gone
+form_known c words true dry = dry_form c words (names_in c words.folder) _ dry refl
+form_known c words false wet = form_or c words (unremoved c words.folder (gone c words)) (map (removal words.debug words.folder) (gone c words)) (unremoved_looks c words.folder (gone c words)) (wet_form words (names_in c words.folder) _ wet refl c)
+
+form_listed : (c : Contents) (words : ArchivecleanupWords) (o : Option TreeFault) → IsArchivecleanup words (listed_answer c words o)
+form_listed c words (Some f) = inr (folder_cause words.folder f, folder_looks words.folder f, refl)
+form_listed c words None = form_known c words words.dry_run refl
+
+pub answer-form : (c : Contents) (words : ArchivecleanupWords) → IsArchivecleanup words (archivecleanup_answer c words)
 answer-form c words = form_listed c words (list_refusal (entry_at c words.folder))
 
 looks_or : (o : Option Cause) (acts : List Act) → Looks ((refused_or o acts).acts)
@@ -124,10 +130,7 @@ wet_refused c d words names e same wet found (inl free) = inl free
 wet_refused c d words names e same wet (none, is) (inr some) =
     inr (known c words false none wet ∙ ap (λ o. refused_or o (removals c (map (removal words.debug words.folder) (gone c words)))) (ap (unremoved c words.folder) (sym is) ∙ ap (λ x. unremoved x words.folder names) (sym same) ∙ some))
 
--- ---- the cause of removals is their own, or free
-
-pub removal_exact : (r : Result (Unit {0}) Cause) → IfErr r (λ e. (e ≡ causes.SinkFault) ⊎ IsOfRemoval e) → ((p : PathValue) → r ≢ Err (causes.Changed p)) → IsFree (cause_of r) ⊎ (cause_of r ≡ causes.Done)
-removal_exact (Ok u) only told = inr refl
-removal_exact (Err e) (inl sink) told = inl (inr (inr (inl sink)))
-removal_exact (Err e) (inr (inl write)) told = inl (inr (inl write))
-removal_exact (Err e) (inr (inr (p, changed))) told = absurd (told p (ap (λ x. Err x) changed))
+-- what is seen of a run that isn't dry
+pub told_wet : {T : Type 0} (dry_run : Bool) → dry_run ≡ false → T ⊎ IsTrue dry_run → T
+told_wet dry_run wet (inl t) = t
+told_wet dry_run wet (inr dry) = absurd (cc (wet, dry))

@@ -13,13 +13,15 @@ taken_out : (g : List (List ℕ)) (o : Option (List (List ℕ))) → Some g ≡ 
 taken_out g None e = absurd (cc e)
 taken_out g (Some h) e = cc e
 
--- the names that were found of a listing
+-- the names that were found of those that were listed
+pub gone_of : (words : ArchivecleanupWords) (names found : List (List ℕ)) (extension : Option (List ℕ)) → extension ≡ words.extension → Some found ≡ removed_by_cleanup names words.kept extension → found ≡ going names words
+gone_of words names found extension same e =
+    taken_out found (removed_by_cleanup names words.kept extension) e ∙ ap (λ x. unwrap_or (removed_by_cleanup names words.kept x) []) same
+
+-- and of a listing
 pub gone_listed : (c : Contents) (words : ArchivecleanupWords) (names found : List (List ℕ)) (extension : Option (List ℕ)) → IsListing c words.folder names → extension ≡ words.extension → Some found ≡ removed_by_cleanup names words.kept extension → found ≡ gone c words
 unfolding gone
-gone_listed c words names found extension listing same e =
-    taken_out found (removed_by_cleanup names words.kept extension) e
-    ∙ ap (λ x. unwrap_or (removed_by_cleanup names words.kept x) []) same
-    ∙ ap (λ l. going l words) (listing_names c words.folder names listing)
+gone_listed c words names found extension listing same e = gone_of words names found extension same e ∙ ap (λ l. going l words) (listing_names c words.folder names listing)
 
 kept_filter : (p q : List ℕ → Bool) (xs : List (List ℕ)) → list_all p xs ≡ true → list_all p (filter q xs) ≡ true
 kept_filter p q [] all = refl

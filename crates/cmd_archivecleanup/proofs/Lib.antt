@@ -3,3 +3,4 @@ pub mod GoneLemmas
 pub mod PlanLemmas
 pub mod RemovalLemmas
 pub mod FormLemmas
+pub mod LawLemmas

@@ -105,9 +105,20 @@ listed_answer c words None = known_answer c words words.dry_run
 abbrev pub archivecleanup_answer : Contents → ArchivecleanupWords → Answer
 archivecleanup_answer c words = listed_answer c words (list_refusal (entry_at c words.folder))
 
--- over every tree: a text, a refusal, or removals
-abbrev pub IsArchivecleanup : Answer → Type 0
-IsArchivecleanup answer = ((text : List ℕ) × (answer ≡ does (printed text))) ⊎ ((e : Cause) × IsOfLook e × (answer ≡ refused e)) ⊎ ((c : Contents) × (rs : List Removal) × (answer ≡ does (removals c rs)))
+-- what is done about names that were listed: a dry run prints the paths of those that go, and else their files are removed, those of these contents
+abbrev pub named_answer : Contents → ArchivecleanupWords → List (List ℕ) → Bool → Answer
+named_answer c words names true = does (printed (flat_map (path_line words.folder) (going names words)))
+named_answer c words names false = does (removals c (map (removal words.debug words.folder) (going names words)))
+
+-- some names were listed, and this is done about them
+pub record IsOfNames (words : ArchivecleanupWords) (answer : Answer) : Type 0 where
+  pub names : List (List ℕ)
+  pub contents : Contents
+  pub is : answer ≡ named_answer contents words names words.dry_run
+
+-- over every tree: what is done about some names, by the words alone; or a refusal while it looks
+abbrev pub IsArchivecleanup : ArchivecleanupWords → Answer → Type 0
+IsArchivecleanup words answer = IsOfNames words answer ⊎ ((e : Cause) × IsOfLook e × (answer ≡ refused e))
 
 -- these are files, each still when those before it are removed
 abbrev pub AreFiles : Contents → List Removal → Type 0

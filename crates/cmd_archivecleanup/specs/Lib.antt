@@ -1,2 +1,3 @@
 pub mod Archivecleanup
 pub mod Steps
+pub mod Laws

@@ -1,5 +1,5 @@
 // The files of an archive that go.
-ghost use Rattle.std.specs.Prelude.{◌≡◌, ◌≢◌, ◌⊎◌, None, Some, true, Err, IfErr, IfOk, IsErrOf, IsTrue, MatchResult, option_map};
+ghost use Rattle.std.specs.Prelude.{◌≡◌, ◌≢◌, ◌⊎◌, ℕ, List, None, Some, true, Err, IfErr, IfOk, IsErrOf, IsTrue, MatchResult, option_map};
 ghost use Rattle.std.specs.List.{list_all};
 ghost use Rattle.cluster_tree.specs.Causes.{Rose};
 ghost use Rattle.cluster_tree.specs.Contents.{entry_at};
@@ -10,7 +10,7 @@ ghost use Rattle.cluster_tree.specs.declared.tree.TreeFault.{TreeFault};
 ghost use Rattle.commands.specs.Fit.{IsFitArchivecleanup};
 ghost use Rattle.run_acts.specs.Answers.{refused};
 ghost use Rattle.run_acts.specs.Causes.{IsFree, IsOfLook, is_of_files};
-ghost use Rattle.cmd_archivecleanup.specs.Archivecleanup.{archivecleanup_answer, folder_cause, gone};
+ghost use Rattle.cmd_archivecleanup.specs.Archivecleanup.{archivecleanup_answer, folder_cause, going, gone};
 
 use cluster_tree::{Names, Path, Tree, TreeFault};
 use commands::ArchivecleanupWords;
@@ -60,6 +60,8 @@ pub(crate) fn gone<F: Tree>(
         (λ names. (list_refusal (entry_at (F.contents tree.old) words.now.folder) ≡ None)
         × (names ≡ gone (F.contents tree.old) words.now))
         (λ e. IsFree e ⊎ (archivecleanup_answer (F.contents tree.old) words.now ≡ refused e)) }
+    ensures listed { IfOk result (λ names. (listed : List (List ℕ)) ×
+        (names ≡ going listed words.now)) }
     ensures parts { IfOk result (λ names. list_all is_part names ≡ true) }
     ensures look { IfErr result IsOfLook }
     ensures only { IfErr result (λ e. IsTrue (is_of_files e)) }

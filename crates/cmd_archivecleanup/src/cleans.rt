@@ -1,12 +1,14 @@
 // A clean-up.
 ghost use Rattle.std.specs.Prelude.{◌≡◌, ◌≢◌, ◌⊎◌, ℕ, Bool, false, true, Err, IfErr, IfOk, IsErrOf, IsTrue, MatchResult};
 ghost use Rattle.cluster_tree.specs.Causes.{Rose};
+ghost use Rattle.cluster_tree.specs.Contents.{Contents};
 ghost use Rattle.cluster_tree.specs.Frame.{Came, Reads};
 ghost use Rattle.cluster_tree.specs.PathValue.{PathValue};
 ghost use Rattle.commands.specs.Fit.{IsFitArchivecleanup};
 ghost use Rattle.acts.specs.Acts.{Sunk, seen, sunk};
-ghost use Rattle.run_acts.specs.Answers.{Blames, Carries, Grows, does, refused};
+ghost use Rattle.run_acts.specs.Answers.{Blames, Carries, does, refused};
 ghost use Rattle.run_acts.specs.Causes.{IsFree, IsOfLook, cause_of, is_of_files};
+ghost use Rattle.run_acts.specs.Unseen.{CarriesUnseen};
 ghost use Rattle.cmd_archivecleanup.specs.Archivecleanup.{AreFiles, IsArchivecleanup, archivecleanup_answer, printed, removals};
 
 use crate::archive::gone;
@@ -27,6 +29,7 @@ fn named<F: Tree>(alloc: Global, tree: &mut F, words: &ArchivecleanupWords) -> R
     ensures exact { IsTrue F.tells → MatchResult result
         (λ text. does (printed text) ≡ archivecleanup_answer (F.contents tree.old) words.now)
         (λ e. IsFree e ⊎ (archivecleanup_answer (F.contents tree.old) words.now ≡ refused e)) }
+    ensures form { IfOk result (λ text. IsArchivecleanup words.now (does (printed text))) }
     ensures look { IfErr result IsOfLook }
     ensures only { IfErr result (λ e. IsTrue (is_of_files e)) }
     ensures reads { Reads F.Tree tree.old tree.new }
@@ -53,6 +56,8 @@ fn planned<F: Tree>(
         (λ queue. does (removals (F.contents tree.old) queue.items)
         ≡ archivecleanup_answer (F.contents tree.old) words.now)
         (λ e. IsFree e ⊎ (archivecleanup_answer (F.contents tree.old) words.now ≡ refused e)) }
+    ensures form { IfOk result (λ queue. (contents : Contents) →
+        IsArchivecleanup words.now (does (removals contents queue.items))) }
     ensures files { IsTrue F.tells → IfOk result (λ queue. AreFiles (F.contents tree.old) queue.items) }
     ensures look { IfErr result IsOfLook }
     ensures only { IfErr result (λ e. IsTrue (is_of_files e)) }
@@ -81,7 +86,8 @@ fn name_files<F: Tree, O: Sink>(
     requires fit { IsFitArchivecleanup words.now }
     requires dry_run { words.now.dry_run ≡ true }
     ensures carries { (err_tells : Bool) (err : Sunk) → Carries (IsTrue F.tells)
-        (archivecleanup_answer (F.contents tree.old) words.now) IsArchivecleanup O.tells err_tells (cause_of result)
+        (archivecleanup_answer (F.contents tree.old) words.now) (IsArchivecleanup words.now)
+        O.tells err_tells (cause_of result)
         (seen (F.contents tree.old) (F.calls tree.old)
         (sunk (O.written out.old) (O.failed_writes out.old)) err)
         (seen (F.contents tree.new) (F.calls tree.new)
@@ -109,15 +115,14 @@ fn remove_files<F: Tree, E: Sink>(
 ) -> Result<(), Cause>
     requires fit { IsFitArchivecleanup words.now }
     requires wet { words.now.dry_run ≡ false }
-    ensures carries { IsTrue F.tells → (out_tells : Bool) (out : Sunk) → Carries (IsTrue F.tells)
-        (archivecleanup_answer (F.contents tree.old) words.now) IsArchivecleanup
+    ensures carries { (out_tells : Bool) (out : Sunk) → CarriesUnseen
+        (IsTrue F.tells) (IsTrue F.tells)
+        (archivecleanup_answer (F.contents tree.old) words.now) (IsArchivecleanup words.now)
         out_tells E.tells (cause_of result)
         (seen (F.contents tree.old) (F.calls tree.old) out
         (sunk (E.written err.old) (E.failed_writes err.old)))
         (seen (F.contents tree.new) (F.calls tree.new) out
         (sunk (E.written err.new) (E.failed_writes err.new))) }
-    ensures grows { Grows E.tells (sunk (E.written err.old) (E.failed_writes err.old))
-        (sunk (E.written err.new) (E.failed_writes err.new)) }
     ensures blames { (n : ℕ) → Blames (cause_of result)
         (F.failed_reads tree.old) (F.failed_reads tree.new)
         (F.failed_changes tree.old) (F.failed_changes tree.new) n n
@@ -149,19 +154,16 @@ pub fn archivecleanup<F: Tree, O: Sink, E: Sink>(
     words: &ArchivecleanupWords,
 ) -> Result<(), Cause>
     requires { IsFitArchivecleanup words.now }
-    // the answer's acts, where the tree tells; those of a dry run over every tree
-    ensures carries { IsTrue F.tells ⊎ IsTrue words.now.dry_run → Carries (IsTrue F.tells)
-        (archivecleanup_answer (F.contents tree.old) words.now) IsArchivecleanup O.tells E.tells (cause_of result)
+    // the acts of an answer about the names that were listed, whatever the tree is taken to have
+    ensures carries { CarriesUnseen (IsTrue F.tells ⊎ IsTrue words.now.dry_run) (IsTrue F.tells)
+        (archivecleanup_answer (F.contents tree.old) words.now) (IsArchivecleanup words.now)
+        O.tells E.tells (cause_of result)
         (seen (F.contents tree.old) (F.calls tree.old)
         (sunk (O.written out.old) (O.failed_writes out.old))
         (sunk (E.written err.old) (E.failed_writes err.old)))
         (seen (F.contents tree.new) (F.calls tree.new)
         (sunk (O.written out.new) (O.failed_writes out.new))
         (sunk (E.written err.new) (E.failed_writes err.new))) }
-    ensures grows { Grows O.tells (sunk (O.written out.old) (O.failed_writes out.old))
-        (sunk (O.written out.new) (O.failed_writes out.new))
-        × Grows E.tells (sunk (E.written err.old) (E.failed_writes err.old))
-        (sunk (E.written err.new) (E.failed_writes err.new)) }
     ensures blames { Blames (cause_of result)
         (F.failed_reads tree.old) (F.failed_reads tree.new)
         (F.failed_changes tree.old) (F.failed_changes tree.new)

@@ -3,8 +3,10 @@
 
 mod archive;
 mod cleans;
+mod laws;
 mod names;
 mod plan;
 mod removing;
 
 pub use cleans::archivecleanup;
+pub use laws::cleanup_laws;

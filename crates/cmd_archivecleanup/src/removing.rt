@@ -6,9 +6,9 @@ ghost use Rattle.cluster_tree.specs.Contents.{entry_at, is_file};
 ghost use Rattle.cluster_tree.specs.Frame.{Came};
 ghost use Rattle.cluster_tree.specs.PathValue.{PathValue};
 ghost use Rattle.marked_runs.specs.Runs.{Runs, is_done};
-ghost use Rattle.acts.specs.Acts.{Performs, Sunk, seen, sunk};
-ghost use Rattle.run_acts.specs.Answers.{Grows};
-ghost use Rattle.run_acts.specs.Causes.{cause_of, ending_of};
+ghost use Rattle.acts.specs.Acts.{Sunk, seen, sunk};
+ghost use Rattle.run_acts.specs.Causes.{cause_of};
+ghost use Rattle.run_acts.specs.Unseen.{PerformsUnseen};
 ghost use Rattle.cmd_archivecleanup.specs.Archivecleanup.{AreFiles, removals};
 ghost use Rattle.cmd_archivecleanup.specs.Steps.{IsOfRemoval, Breaks, Tells};
 
@@ -64,14 +64,12 @@ pub(crate) fn remove_all<F: Tree, E: Sink>(
     mut queue: VecDeque<Removal>,
 ) -> Result<(), Cause>
     requires { IsTrue F.tells → AreFiles (F.contents tree.old) queue.items }
-    ensures performs { IsTrue F.tells → (out_tells : Bool) (out : Sunk) → Performs out_tells E.tells
-        (ending_of (cause_of result)) (removals (F.contents tree.old) queue.items)
+    ensures performs { (out_tells : Bool) (out : Sunk) → PerformsUnseen (IsTrue F.tells)
+        out_tells E.tells (cause_of result) (λ contents. removals contents queue.items)
         (seen (F.contents tree.old) (F.calls tree.old) out
         (sunk (E.written err.old) (E.failed_writes err.old)))
         (seen (F.contents tree.new) (F.calls tree.new) out
         (sunk (E.written err.new) (E.failed_writes err.new))) }
-    ensures grows { Grows E.tells (sunk (E.written err.old) (E.failed_writes err.old))
-        (sunk (E.written err.new) (E.failed_writes err.new)) }
     ensures only { IfErr result (λ e. (e ≡ Cause.SinkFault) ⊎ IsOfRemoval e) }
     ensures changed { IsTrue F.tells → (p : PathValue) → result ≢ Err (Cause.Changed p) }
     ensures frame { Came F.Tree tree.old tree.new }

@@ -1,9 +1,7 @@
 -- A run, from the words to the line of the cause.
-use Rattle.std.proofs.Common.{◌≡◌, ◌≢◌, ◌⊎◌, ℕ, Bool, true, false, not, IsTrue, List, [], Option, None, Some, inl, inr, refl, sym, ap, ◌∙◌, subst, Result, Ok, Err}
-use Rattle.cluster_tree.specs.Causes.{Meets}
+use Rattle.std.proofs.Common.{◌≡◌, ◌⊎◌, Bool, true, false, not, IsTrue, List, Some, inl, inr, refl, sym, ap, ◌∙◌, subst, Result, Ok, Err}
 use Rattle.cluster_tree.specs.Contents.{Contents}
 use Rattle.cluster_tree.specs.declared.tree.ChangeCall.{ChangeCall}
-use Rattle.commands.specs.Faults.{IsFree as IsFreeOfWords}
 use Rattle.commands.specs.declared.command.Command.{Command}
 use Rattle.commands.specs.declared.command.Command.TheVariants as command
 use Rattle.commands.specs.declared.fault.CommandFault.{CommandFault}
@@ -16,13 +14,14 @@ use Rattle.cmd_rewind.specs.Rewind.{IsRewind, rewind_answer}
 use Rattle.cmd_waldump.specs.Waldump.{AskForList, IsWaldump, waldump_answer}
 use Rattle.clusters.specs.RootControl.{control_at}
 use Rattle.rewind_core.specs.Rewind.{rewind_of}
-use Rattle.log_folder.specs.Found.{found_in}
-use Rattle.acts.specs.Acts.{Refused, Seen, Sunk, seen}
-use Rattle.run_acts.specs.Answers.{Answer, Carries, cause_in, refused}
-use Rattle.run_acts.specs.Causes.{IsFree, ending_of, has_values}
+use Rattle.acts.specs.Acts.{Seen, Sunk, seen}
+use Rattle.run_acts.specs.Answers.{Carries, cause_in}
+use Rattle.run_acts.specs.Causes.{IsFree, has_values}
 use Rattle.run_acts.specs.declared.cause.Cause.{Cause}
 use Rattle.run_acts.specs.declared.cause.Cause.TheVariants as cause
 use Rattle.run_acts.proofs.AnswerSteps.{Looks, carries_fault, carries_refused, carries_exact, carries_told}
+use Rattle.run_acts.proofs.UnseenSteps.{seen_of, unseen_by, unseen_known, unseen_seen, unseen_still, unseen_told}
+use Rattle.run_acts.specs.Unseen.{CarriesUnseen}
 use Rattle.cmd_archivecleanup.specs.Archivecleanup.{IsArchivecleanup, archivecleanup_answer}
 use Rattle.cmd_archivecleanup.proofs.FormLemmas.{answer-form as cleanup-form, answer-looks as cleanup-looks}
 use Rattle.commands.specs.declared.archivecleanup.ArchivecleanupWords.{ArchivecleanupWords}
@@ -30,7 +29,7 @@ use Rattle.cmd_controldata.proofs.FormLemmas.{answer-form as control-form, answe
 use Rattle.cmd_rewind.proofs.FormLemmas.{answer-form as rewind-form, answer-looks as rewind-looks}
 use Rattle.cmd_waldump.proofs.FormLemmas.{answer-form as waldump-form, answer-looks as waldump-looks}
 use Rattle.wal_tools.specs.Answers.{IsAnswer, answered}
-use Rattle.wal_tools.specs.Words.{AreFaulty, IsSeen, MayChange, NeedsNoTree, refused_by_words, words_cause}
+use Rattle.wal_tools.specs.Words.{IsSeen, MayChange, NeedsNoTree, refused_by_words, words_cause}
 
 -- what is done has the command's form, and begins with a look
 pub answered-form : (c : Contents) (asked : Result Command CommandFault) → IsAnswer asked (answered c asked)
@@ -49,7 +48,7 @@ answered-looks c (Err e) = tt
 
 -- what is carried out of words
 abbrev pub CarriesOut : Bool → Contents → Bool → Bool → Result Command CommandFault → Cause → Seen → Seen → Type 0
-CarriesOut tells c o e asked ended s u = Carries (IsTrue tells ⊎ NeedsNoTree asked) (answered c asked) (IsAnswer asked) o e ended s u
+CarriesOut tells c o e asked ended s u = CarriesUnseen (IsSeen (IsTrue tells) asked) (IsTrue tells ⊎ NeedsNoTree asked) (answered c asked) (IsAnswer asked) o e ended s u
 
 -- the words ask for this command
 pub of_command : (tells : Bool) (c : Contents) {asked : Result Command CommandFault} {k : Command} {o e : Bool} {ended : Cause} {s u : Seen} → asked ≡ Ok k → CarriesOut tells c o e (Ok k) ended s u → CarriesOut tells c o e asked ended s u
@@ -62,38 +61,39 @@ by_tree tells (inr none) = absurd none
 -- pg_rewind was carried out
 pub of_rewind : (tells : Bool) (c : Contents) {k : Command} {words : RewindWords} {o e : Bool} {ended : Cause} {s u : Seen} → k ≡ command.Rewind words
     → Carries (IsTrue tells ⊎ IsTrue words.dry_run) (rewind_answer c words) IsRewind o e ended s u → CarriesOut tells c o e (Ok k) ended s u
-of_rewind tells c {o = o} {e} {ended} {s} {u} is p = let P : Command → Type 0 = λ x. CarriesOut tells c o e (Ok x) ended s u in subst P (sym is) p
+of_rewind tells c {o = o} {e} {ended} {s} {u} is p = let P : Command → Type 0 = λ x. CarriesOut tells c o e (Ok x) ended s u in subst P (sym is) (unseen_seen (inr (λ may. may)) p)
 
 -- pg_controldata was, whose words never decide alone
 pub of_controldata : (tells : Bool) (c : Contents) {k : Command} {words : ControldataWords} {o e : Bool} {ended : Cause} {s u : Seen} → k ≡ command.Controldata words
     → Carries (IsTrue tells) (controldata_answer c words) IsControldata o e ended s u → CarriesOut tells c o e (Ok k) ended s u
 of_controldata tells c {o = o} {e} {ended} {s} {u} is p =
     let P : Command → Type 0 = λ x. CarriesOut tells c o e (Ok x) ended s u in
-    subst P (sym is) (record { answer = p.answer; known = λ h. p.known (by_tree tells h); form = p.form; exact = p.exact; acts = p.acts })
+    subst P (sym is) (unseen_known (by_tree tells) (unseen_seen (inr (λ may. may)) p))
 
 -- pg_waldump was
 pub of_waldump : (tells : Bool) (c : Contents) {k : Command} {words : WaldumpWords} {o e : Bool} {ended : Cause} {s u : Seen} → k ≡ command.Waldump words
     → Carries (IsTrue tells ⊎ AskForList words) (waldump_answer c words) (IsWaldump words) o e ended s u → CarriesOut tells c o e (Ok k) ended s u
-of_waldump tells c {o = o} {e} {ended} {s} {u} is p = let P : Command → Type 0 = λ x. CarriesOut tells c o e (Ok x) ended s u in subst P (sym is) p
-
--- pg_archivecleanup was
-pub of_archivecleanup : (tells : Bool) (c : Contents) {k : Command} {words : ArchivecleanupWords} {o e : Bool} {ended : Cause} {s u : Seen} → k ≡ command.Archivecleanup words
-    → Carries (IsTrue tells) (archivecleanup_answer c words) IsArchivecleanup o e ended s u → CarriesOut tells c o e (Ok k) ended s u
-of_archivecleanup tells c {o = o} {e} {ended} {s} {u} is p =
-    let P : Command → Type 0 = λ x. CarriesOut tells c o e (Ok x) ended s u in
-    subst P (sym is) (record { answer = p.answer; known = λ h. p.known (by_tree tells h); form = p.form; exact = p.exact; acts = p.acts })
+of_waldump tells c {o = o} {e} {ended} {s} {u} is p = let P : Command → Type 0 = λ x. CarriesOut tells c o e (Ok x) ended s u in subst P (sym is) (unseen_seen (inr (λ may. may)) p)
 
 undried : (dry_run : Bool) → (IsTrue (not dry_run) → ⊥) → IsTrue dry_run
 undried true h = refl
 undried false h = absurd (h refl)
 
+-- what pg_archivecleanup does is seen where the tree tells, and of a dry run
 seen_dry : (T : Type 0) (words : ArchivecleanupWords) → IsSeen T (Ok (command.Archivecleanup words)) → T ⊎ IsTrue words.dry_run
 seen_dry T words (inl t) = inl t
 seen_dry T words (inr none) = inr (undried words.dry_run none)
 
--- what it does is seen where the tree tells, and of a dry run
-pub seen_cleanup : (T : Type 0) {k : Command} {words : ArchivecleanupWords} → k ≡ command.Archivecleanup words → IsSeen T (Ok k) → T ⊎ IsTrue words.dry_run
-seen_cleanup T {k} {words} is seen = seen_dry T words (let P : Command → Type 0 = λ x. IsSeen T (Ok x) in subst P is seen)
+dry_seen : (T : Type 0) (words : ArchivecleanupWords) → T ⊎ IsTrue words.dry_run → IsSeen T (Ok (command.Archivecleanup words))
+dry_seen T words (inl t) = inl t
+dry_seen T words (inr dry) = inr (λ may. let same : true ≡ false = sym may ∙ ap not dry in cc same)
+
+-- it was carried out
+pub of_archivecleanup : (tells : Bool) (c : Contents) {k : Command} {words : ArchivecleanupWords} {o e : Bool} {ended : Cause} {s u : Seen} → k ≡ command.Archivecleanup words
+    → CarriesUnseen (IsTrue tells ⊎ IsTrue words.dry_run) (IsTrue tells) (archivecleanup_answer c words) (IsArchivecleanup words) o e ended s u → CarriesOut tells c o e (Ok k) ended s u
+of_archivecleanup tells c {words = words} {o} {e} {ended} {s} {u} is p =
+    let P : Command → Type 0 = λ x. CarriesOut tells c o e (Ok x) ended s u in
+    subst P (sym is) (unseen_by (seen_dry (IsTrue tells) words) (dry_seen (IsTrue tells) words) (unseen_known (by_tree tells) p))
 
 -- it changes nothing in a dry run
 pub dried_cleanup : {k : Command} {words : ArchivecleanupWords} → k ≡ command.Archivecleanup words → (MayChange (Ok k) → ⊥) → IsTrue words.dry_run
@@ -114,32 +114,29 @@ needless (Ok (command.Waldump words)) need may = may
 needless (Ok (command.Archivecleanup words)) need may = need
 needless (Err e) need may = may
 
-pub seen_by : (T : Type 0) (asked : Result Command CommandFault) → T ⊎ NeedsNoTree asked → IsSeen T asked
+seen_by : (T : Type 0) (asked : Result Command CommandFault) → T ⊎ NeedsNoTree asked → IsSeen T asked
 seen_by T asked (inl t) = inl t
 seen_by T asked (inr need) = inr (needless asked need)
-
-pub seen_as : (T : Type 0) {asked : Result Command CommandFault} {k : Command} → asked ≡ Ok k → IsSeen T asked → IsSeen T (Ok k)
-seen_as T is seen = let P : Result Command CommandFault → Type 0 = λ a. IsSeen T a in subst P is seen
 
 module _ (tells : Bool) (c : Contents) (asked : Result Command CommandFault) {o e : Bool} {k : List ChangeCall} {out err : Sunk} where
   -- there was no memory for the words
   pub no_words : CarriesOut tells c o e asked cause.OutOfMemory (seen c k out err) (seen c k out err)
-  no_words = carries_fault (answered-form c asked) (answered-looks c asked) (inr refl) refl refl
+  no_words = unseen_still refl refl (λ d j. carries_fault (answered-form c asked) (answered-looks c asked) (inr refl) refl refl)
 
   refuses : (f : CommandFault) → CarriesOut tells c o e (Err f) (words_cause f) (seen c k out err) (seen c k out err)
-  refuses fault.Usage = carries_refused cause.Usage refl (λ h. refl) refl refl refl
-  refuses fault.NotBuilt = carries_refused cause.NotBuilt refl (λ h. refl) refl refl refl
-  refuses fault.DotDot = carries_refused (words_cause fault.DotDot) refl (λ h. refl) refl refl refl
-  refuses (fault.TooDeep path) = carries_refused (words_cause (fault.TooDeep path)) refl (λ h. refl) refl refl refl
-  refuses fault.PathsOverlap = carries_refused (words_cause fault.PathsOverlap) refl (λ h. refl) refl refl refl
-  refuses fault.OutOfMemory = carries_fault refl tt (inr refl) refl refl
+  refuses fault.Usage = unseen_still refl refl (λ d j. carries_refused cause.Usage refl (λ h. refl) refl refl refl)
+  refuses fault.NotBuilt = unseen_still refl refl (λ d j. carries_refused cause.NotBuilt refl (λ h. refl) refl refl refl)
+  refuses fault.DotDot = unseen_still refl refl (λ d j. carries_refused (words_cause fault.DotDot) refl (λ h. refl) refl refl refl)
+  refuses (fault.TooDeep path) = unseen_still refl refl (λ d j. carries_refused (words_cause (fault.TooDeep path)) refl (λ h. refl) refl refl refl)
+  refuses fault.PathsOverlap = unseen_still refl refl (λ d j. carries_refused (words_cause fault.PathsOverlap) refl (λ h. refl) refl refl refl)
+  refuses fault.OutOfMemory = unseen_still refl refl (λ d j. carries_fault refl tt (inr refl) refl refl)
 
   -- the words are refused
   pub words_refused : (f : CommandFault) (why : Cause) → why ≡ words_cause f → (f ≡ fault.OutOfMemory) ⊎ (asked ≡ Err f) → CarriesOut tells c o e asked why (seen c k out err) (seen c k out err)
-  words_refused f why is (inl m) = carries_told (is ∙ ap words_cause m) no_words
+  words_refused f why is (inl m) = unseen_told (is ∙ ap words_cause m) no_words
   words_refused f why is (inr r) =
       let P : Result Command CommandFault → Type 0 = λ a. CarriesOut tells c o e a why (seen c k out err) (seen c k out err) in
-      subst P (sym r) (carries_told is (refuses f))
+      subst P (sym r) (unseen_told is (refuses f))
 
 -- why the words are refused is what they decide alone
 pub refused_alone : (f : CommandFault) (asked : Result Command CommandFault) → (f ≡ fault.OutOfMemory) ⊎ (asked ≡ Err f) → (e : Cause) → refused_by_words asked ≡ Some e → (words_cause f ≡ e) ⊎ (words_cause f ≡ cause.OutOfMemory)
@@ -149,7 +146,7 @@ refused_alone f asked (inr r) e is = let same : Some (words_cause f) ≡ Some e 
 -- the cause that is told is the outcome, or want of memory for its line
 pub exact_told : (tells : Bool) (c : Contents) (asked : Result Command CommandFault) {o e : Bool} {outcome own ended : Cause} {s u : Seen} → own ≡ outcome → (ended ≡ own) ⊎ (IsTrue (has_values own) × (ended ≡ cause.OutOfMemory))
     → CarriesOut tells c o e asked outcome s u → IsTrue tells ⊎ NeedsNoTree asked → IsFree ended ⊎ (ended ≡ cause_in (answered c asked).refusal)
-exact_told tells c asked {o} {e} {outcome} {own} {ended} {s} {u} same (inl is) p h = carries_exact h (carries_told (is ∙ same) p)
+exact_told tells c asked {o} {e} {outcome} {own} {ended} {s} {u} same (inl is) p h = carries_exact h (carries_told (is ∙ same) (seen_of (seen_by (IsTrue tells) asked h) p))
 exact_told tells c asked same (inr m) p h = inl (inr (inr (inr m.1)))
 
 -- a line that is made in memory, where there was none, has values

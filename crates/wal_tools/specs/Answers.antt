@@ -24,5 +24,5 @@ abbrev pub IsAnswer : Result Command CommandFault → Answer → Type 0
 IsAnswer (Ok (command.Rewind words)) answer = IsRewind answer
 IsAnswer (Ok (command.Controldata words)) answer = IsControldata answer
 IsAnswer (Ok (command.Waldump words)) answer = IsWaldump words answer
-IsAnswer (Ok (command.Archivecleanup words)) answer = IsArchivecleanup answer
+IsAnswer (Ok (command.Archivecleanup words)) answer = IsArchivecleanup words answer
 IsAnswer (Err e) answer = answer ≡ refused (words_cause e)

@@ -4,8 +4,9 @@ ghost use Rattle.cluster_tree.specs.Frame.{Came, Reads};
 ghost use Rattle.cluster_tree.specs.PathValue.{PathValue};
 ghost use Rattle.commands.specs.Fit.{IsFit};
 ghost use Rattle.acts.specs.Acts.{seen, sunk};
-ghost use Rattle.run_acts.specs.Answers.{Blames, Carries, Grows};
+ghost use Rattle.run_acts.specs.Answers.{Blames};
 ghost use Rattle.run_acts.specs.Causes.{cause_of, is_of_files};
+ghost use Rattle.run_acts.specs.Unseen.{CarriesUnseen};
 ghost use Rattle.wal_tools.specs.Answers.{IsAnswer, answered};
 ghost use Rattle.wal_tools.specs.Words.{AreFaulty, IsSeen, MayChange, NeedsNoTree, refused_by_words};
 
@@ -28,8 +29,8 @@ pub(crate) fn carry_out<F: Tree, O: Sink, E: Sink>(
     now: i64,
 ) -> Result<(), Cause>
     requires { IsFit command.now }
-    ensures carries { IsSeen (IsTrue F.tells) (Ok command.now) →
-        Carries (IsTrue F.tells ⊎ NeedsNoTree (Ok command.now))
+    ensures carries { CarriesUnseen (IsSeen (IsTrue F.tells) (Ok command.now))
+        (IsTrue F.tells ⊎ NeedsNoTree (Ok command.now))
         (answered (F.contents tree.old) (Ok command.now)) (IsAnswer (Ok command.now)) O.tells E.tells
         (cause_of result)
         (seen (F.contents tree.old) (F.calls tree.old)
@@ -38,10 +39,6 @@ pub(crate) fn carry_out<F: Tree, O: Sink, E: Sink>(
         (seen (F.contents tree.new) (F.calls tree.new)
         (sunk (O.written out.new) (O.failed_writes out.new))
         (sunk (E.written err.new) (E.failed_writes err.new))) }
-    ensures grows { Grows O.tells (sunk (O.written out.old) (O.failed_writes out.old))
-        (sunk (O.written out.new) (O.failed_writes out.new))
-        × Grows E.tells (sunk (E.written err.old) (E.failed_writes err.old))
-        (sunk (E.written err.new) (E.failed_writes err.new)) }
     ensures blames { Blames (cause_of result)
         (F.failed_reads tree.old) (F.failed_reads tree.new)
         (F.failed_changes tree.old) (F.failed_changes tree.new)

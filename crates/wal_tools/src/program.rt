@@ -5,8 +5,9 @@ ghost use Rattle.cluster_tree.specs.PathValue.{PathValue};
 ghost use Rattle.commands.specs.Name.{name_of};
 ghost use Rattle.tool_words.specs.Command.{command_of};
 ghost use Rattle.acts.specs.Acts.{seen, sunk};
-ghost use Rattle.run_acts.specs.Answers.{Blames, Carries, Grows, cause_in};
+ghost use Rattle.run_acts.specs.Answers.{Blames, cause_in};
 ghost use Rattle.run_acts.specs.Causes.{IsFree, cause_of, is_of_text, status_of};
+ghost use Rattle.run_acts.specs.Unseen.{CarriesUnseen};
 ghost use Rattle.cause_lines.specs.Lines.{line_of};
 ghost use Rattle.wal_tools.specs.Answers.{IsAnswer, answered};
 ghost use Rattle.wal_tools.specs.Runs.{Runs};
@@ -29,7 +30,8 @@ fn answer<F: Tree, O: Sink, E: Sink>(
     err: &mut E,
     now: i64,
 ) -> Result<(), Cause>
-    ensures carries { IsSeen (IsTrue F.tells) (command_of (map string_bytes words.now)) → Carries
+    ensures carries { CarriesUnseen
+        (IsSeen (IsTrue F.tells) (command_of (map string_bytes words.now)))
         (IsTrue F.tells ⊎ NeedsNoTree (command_of (map string_bytes words.now)))
         (answered (F.contents tree.old) (command_of (map string_bytes words.now)))
         (IsAnswer (command_of (map string_bytes words.now))) O.tells E.tells (cause_of result)
@@ -39,10 +41,6 @@ fn answer<F: Tree, O: Sink, E: Sink>(
         (seen (F.contents tree.new) (F.calls tree.new)
         (sunk (O.written out.new) (O.failed_writes out.new))
         (sunk (E.written err.new) (E.failed_writes err.new))) }
-    ensures grows { Grows O.tells (sunk (O.written out.old) (O.failed_writes out.old))
-        (sunk (O.written out.new) (O.failed_writes out.new))
-        × Grows E.tells (sunk (E.written err.old) (E.failed_writes err.old))
-        (sunk (E.written err.new) (E.failed_writes err.new)) }
     ensures blames { Blames (cause_of result)
         (F.failed_reads tree.old) (F.failed_reads tree.new)
         (F.failed_changes tree.old) (F.failed_changes tree.new)

@@ -1,4 +1,4 @@
-use Rattle.std.proofs.Common.{inl, inr, refl}
+use Rattle.std.proofs.Common.{inr, refl}
 use Rattle.run_acts.proofs.AnswerSteps.{carries_acts, carries_look, last_exact}
 use Rattle.cmd_archivecleanup.specs.Archivecleanup.{printed}
 use Rattle.cmd_archivecleanup.proofs.FormLemmas.{answer-form, answer-looks}
@@ -6,12 +6,12 @@ use Rattle.cmd_archivecleanup.proofs.cleans.name_files.Goals as goal
 
 pub returns-in-Ok-clause-carries : goal.returns-in-Ok-clause-carries
 returns-in-Ok-clause-carries g c err_tells err =
-    carries_acts (printed c.in-Ok.text) c.in-Ok.ensures.exact (inl (c.in-Ok.text, refl))
+    carries_acts (printed c.in-Ok.text) c.in-Ok.ensures.exact c.in-Ok.ensures.form
     (last_exact c.print_text.result c.print_text.ensures.only) c.named.ensures.reads.same c.named.ensures.reads.uncalled
     (c.print_text.ensures.performs err_tells err _ _)
 
 pub returns-in-Err-clause-carries : goal.returns-in-Err-clause-carries
 returns-in-Err-clause-carries g c err_tells err =
     let contents = g.F.Tree.contents c.args.tree.now in
-    carries_look c.in-Err.e (answer-form contents c.args.words.now) (answer-looks contents c.args.words.now) (inr (inl (c.in-Err.e, c.in-Err.ensures.look, refl))) c.in-Err.ensures.look c.in-Err.ensures.exact
+    carries_look c.in-Err.e (answer-form contents c.args.words.now) (answer-looks contents c.args.words.now) (inr (c.in-Err.e, c.in-Err.ensures.look, refl)) c.in-Err.ensures.look c.in-Err.ensures.exact
     c.named.ensures.reads.same c.named.ensures.reads.uncalled

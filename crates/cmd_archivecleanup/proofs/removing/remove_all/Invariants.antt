@@ -1,8 +1,7 @@
 use Rattle.std.proofs.Common.{◌≤◌, Bool, IsTrue, length}
 use Rattle.cluster_tree.specs.Frame.{Came}
-use Rattle.acts.specs.Acts.{IsAfterChange, Sunk, seen, sunk}
-use Rattle.acts.proofs.LeadLemmas.{Leads}
-use Rattle.run_acts.specs.Answers.{Grows}
+use Rattle.acts.specs.Acts.{Sunk, seen, sunk}
+use Rattle.run_acts.proofs.UnseenSteps.{LeadsUnseen}
 use Rattle.cmd_archivecleanup.specs.Archivecleanup.{AreFiles, removals}
 use Rattle.cmd_archivecleanup.proofs.removing.remove_all.Given as goal
 
@@ -14,9 +13,8 @@ invariant-loop-removal g l =
     let now = sunk (g.E.Sink.written l.err) (g.E.Sink.failed_writes l.err) in
     record {
       files : IsTrue g.F.Tree.tells → AreFiles (contents l.tree) l.queue.items;
-      leads : IsTrue g.F.Tree.tells → (o : Bool) (out : Sunk) → Leads IsAfterChange o g.E.Sink.tells (removals (contents l.fn.tree) l.fn.queue.items)
-          (seen (contents l.fn.tree) (calls l.fn.tree) out first) (removals (contents l.tree) l.queue.items) (seen (contents l.tree) (calls l.tree) out now);
-      grows : Grows g.E.Sink.tells first now;
+      leads : (o : Bool) (out : Sunk) → LeadsUnseen (IsTrue g.F.Tree.tells) o g.E.Sink.tells (λ c. removals c l.fn.queue.items) (seen (contents l.fn.tree) (calls l.fn.tree) out first)
+          (λ c. removals c l.queue.items) (seen (contents l.tree) (calls l.tree) out now);
       frame : Came g.F.Tree l.fn.tree l.tree;
       later : g.E.Sink.failed_writes l.fn.err ≤ g.E.Sink.failed_writes l.err;
     }

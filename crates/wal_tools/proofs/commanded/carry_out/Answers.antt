@@ -1,21 +1,19 @@
-use Rattle.std.proofs.Common.{IsTrue}
 use Rattle.acts.specs.Acts.{sunk}
-use Rattle.run_acts.proofs.GrowSteps.{performs_grow}
-use Rattle.wal_tools.proofs.RunLemmas.{dried_cleanup, of_archivecleanup, of_controldata, of_rewind, of_waldump, seen_cleanup}
+use Rattle.wal_tools.proofs.RunLemmas.{dried_cleanup, of_archivecleanup, of_controldata, of_rewind, of_waldump}
 use Rattle.wal_tools.proofs.commanded.carry_out.Goals as goal
 
 pub returns-in-Rewind-clause-carries : goal.returns-in-Rewind-clause-carries
-returns-in-Rewind-clause-carries g c seen =
+returns-in-Rewind-clause-carries g c =
     of_rewind g.F.Tree.tells (g.F.Tree.contents c.args.tree.now) c.in-Rewind.is
     (c.rewind.ensures.carries g.O.Sink.tells (sunk (g.O.Sink.written c.args.out.now) (g.O.Sink.failed_writes c.args.out.now)))
 
 pub returns-in-Controldata-clause-carries : goal.returns-in-Controldata-clause-carries
-returns-in-Controldata-clause-carries g c seen =
+returns-in-Controldata-clause-carries g c =
     of_controldata g.F.Tree.tells (g.F.Tree.contents c.args.tree.now) c.in-Controldata.is
     (c.controldata.ensures.carries g.E.Sink.tells (sunk (g.E.Sink.written c.args.err.now) (g.E.Sink.failed_writes c.args.err.now)))
 
 pub returns-in-Waldump-clause-carries : goal.returns-in-Waldump-clause-carries
-returns-in-Waldump-clause-carries g c seen =
+returns-in-Waldump-clause-carries g c =
     of_waldump g.F.Tree.tells (g.F.Tree.contents c.args.tree.now) c.in-Waldump.is
     (c.waldump.ensures.carries g.E.Sink.tells (sunk (g.E.Sink.written c.args.err.now) (g.E.Sink.failed_writes c.args.err.now)))
 
@@ -29,21 +27,9 @@ pub returns-in-Waldump-clause-blames : goal.returns-in-Waldump-clause-blames
 returns-in-Waldump-clause-blames g c = c.waldump.ensures.blames (g.E.Sink.failed_writes c.args.err.now)
 
 pub returns-in-Archivecleanup-clause-carries : goal.returns-in-Archivecleanup-clause-carries
-returns-in-Archivecleanup-clause-carries g c seen =
+returns-in-Archivecleanup-clause-carries g c =
     of_archivecleanup g.F.Tree.tells (g.F.Tree.contents c.args.tree.now) c.in-Archivecleanup.is
-    (c.archivecleanup.ensures.carries (seen_cleanup (IsTrue g.F.Tree.tells) c.in-Archivecleanup.is seen))
+    c.archivecleanup.ensures.carries
 
 pub returns-in-Archivecleanup-clause-reads : goal.returns-in-Archivecleanup-clause-reads
 returns-in-Archivecleanup-clause-reads g c none = c.archivecleanup.ensures.reads (dried_cleanup c.in-Archivecleanup.is none)
-
-pub returns-in-Rewind-clause-grows : goal.returns-in-Rewind-clause-grows
-returns-in-Rewind-clause-grows g c =
-    performs_grow g.O.Sink.tells g.E.Sink.tells _ _ _ _ (c.rewind.ensures.carries g.O.Sink.tells (sunk (g.O.Sink.written c.args.out.now) (g.O.Sink.failed_writes c.args.out.now))).acts
-
-pub returns-in-Controldata-clause-grows : goal.returns-in-Controldata-clause-grows
-returns-in-Controldata-clause-grows g c =
-    performs_grow g.O.Sink.tells g.E.Sink.tells _ _ _ _ (c.controldata.ensures.carries g.E.Sink.tells (sunk (g.E.Sink.written c.args.err.now) (g.E.Sink.failed_writes c.args.err.now))).acts
-
-pub returns-in-Waldump-clause-grows : goal.returns-in-Waldump-clause-grows
-returns-in-Waldump-clause-grows g c =
-    performs_grow g.O.Sink.tells g.E.Sink.tells _ _ _ _ (c.waldump.ensures.carries g.E.Sink.tells (sunk (g.E.Sink.written c.args.err.now) (g.E.Sink.failed_writes c.args.err.now))).acts

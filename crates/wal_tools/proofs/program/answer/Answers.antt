@@ -1,20 +1,13 @@
-use Rattle.std.proofs.Common.{IsTrue, map, refl, string_bytes}
-use Rattle.run_acts.proofs.GrowSteps.{grows_same}
+use Rattle.std.proofs.Common.{map, string_bytes}
 use Rattle.tool_words.specs.Command.{command_of}
-use Rattle.wal_tools.proofs.RunLemmas.{no_words, of_command, seen_as, words_refused}
+use Rattle.wal_tools.proofs.RunLemmas.{no_words, of_command, words_refused}
 use Rattle.wal_tools.proofs.program.answer.Goals as goal
 
 pub returns-in-Ok-clause-carries : goal.returns-in-Ok-clause-carries
-returns-in-Ok-clause-carries g c seen = of_command g.F.Tree.tells (g.F.Tree.contents c.args.tree.now) c.in-Ok.ensures.answer (c.carry_out.ensures.carries (seen_as (IsTrue g.F.Tree.tells) c.in-Ok.ensures.answer seen))
+returns-in-Ok-clause-carries g c = of_command g.F.Tree.tells (g.F.Tree.contents c.args.tree.now) c.in-Ok.ensures.answer c.carry_out.ensures.carries
 
 pub returns-in-Err-OutOfMemory-clause-carries : goal.returns-in-Err-OutOfMemory-clause-carries
-returns-in-Err-OutOfMemory-clause-carries g c seen = no_words g.F.Tree.tells (g.F.Tree.contents c.args.tree.now) (command_of (map string_bytes c.args.words.now))
+returns-in-Err-OutOfMemory-clause-carries g c = no_words g.F.Tree.tells (g.F.Tree.contents c.args.tree.now) (command_of (map string_bytes c.args.words.now))
 
 pub returns-in-Err-clause-carries : goal.returns-in-Err-clause-carries
-returns-in-Err-clause-carries g c seen = words_refused g.F.Tree.tells (g.F.Tree.contents c.args.tree.now) (command_of (map string_bytes c.args.words.now)) c.in-Err.fault c.words_cause.result c.words_cause.ensures c.in-Err.ensures.answer
-
-pub returns-in-Err-OutOfMemory-clause-grows : goal.returns-in-Err-OutOfMemory-clause-grows
-returns-in-Err-OutOfMemory-clause-grows g c = (grows_same _ _ _ refl, grows_same _ _ _ refl)
-
-pub returns-in-Err-clause-grows : goal.returns-in-Err-clause-grows
-returns-in-Err-clause-grows g c = (grows_same _ _ _ refl, grows_same _ _ _ refl)
+returns-in-Err-clause-carries g c = words_refused g.F.Tree.tells (g.F.Tree.contents c.args.tree.now) (command_of (map string_bytes c.args.words.now)) c.in-Err.fault c.words_cause.result c.words_cause.ensures c.in-Err.ensures.answer

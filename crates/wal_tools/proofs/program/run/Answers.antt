@@ -1,15 +1,15 @@
-use Rattle.std.proofs.Common.{IsTrue, map, refl, string_bytes, subst}
+use Rattle.std.proofs.Common.{map, refl, string_bytes, subst}
 use Rattle.acts.specs.Acts.{seen, sunk}
-use Rattle.run_acts.proofs.AnswerSteps.{carries_told}
+use Rattle.run_acts.proofs.UnseenSteps.{unseen_grow, unseen_told}
 use Rattle.tool_words.specs.Command.{command_of}
 use Rattle.cause_lines.specs.Lines.{line_of}
 use Rattle.wal_tools.specs.Runs.{Says}
-use Rattle.wal_tools.proofs.RunLemmas.{exact_told, seen_by}
+use Rattle.wal_tools.proofs.RunLemmas.{exact_told}
 use Rattle.wal_tools.proofs.program.run.Goals as goal
 
 pub returns-clause-exact : goal.returns-clause-exact
 returns-clause-exact g c h =
-    exact_told g.F.Tree.tells (g.F.Tree.contents c.args.tree.now) (command_of (map string_bytes c.args.words.now)) c.cause_of.ensures c.finish.ensures.cause (c.answer-outcome.ensures.carries (seen_by (IsTrue g.F.Tree.tells) (command_of (map string_bytes c.args.words.now)) h)) h
+    exact_told g.F.Tree.tells (g.F.Tree.contents c.args.tree.now) (command_of (map string_bytes c.args.words.now)) c.cause_of.ensures c.finish.ensures.cause c.answer-outcome.ensures.carries h
 
 pub returns-clause-runs : goal.returns-clause-runs
 returns-clause-runs g c = record {
@@ -17,9 +17,9 @@ returns-clause-runs g c = record {
   told = seen (g.F.Tree.contents c.answer-outcome.new.tree) (g.F.Tree.calls c.answer-outcome.new.tree)
       (sunk (g.O.Sink.written c.answer-outcome.new.out) (g.O.Sink.failed_writes c.answer-outcome.new.out))
       (sunk (g.E.Sink.written c.answer-outcome.new.err) (g.E.Sink.failed_writes c.answer-outcome.new.err));
-  acts = λ seen. carries_told c.cause_of.ensures (c.answer-outcome.ensures.carries seen);
-  out = c.answer-outcome.ensures.grows.0;
-  err = c.answer-outcome.ensures.grows.1;
+  acts = unseen_told c.cause_of.ensures c.answer-outcome.ensures.carries;
+  out = (unseen_grow c.answer-outcome.ensures.carries).0;
+  err = (unseen_grow c.answer-outcome.ensures.carries).1;
   cause = c.finish.ensures.cause;
   says = subst (λ n. Says g.E.Sink.tells (line_of n c.finish.result.cause)
       (sunk (g.E.Sink.written c.answer-outcome.new.err) (g.E.Sink.failed_writes c.answer-outcome.new.err))
