@@ -1,0 +1,11 @@
+pub mod AnswerLemmas
+pub mod BlockLemmas
+pub mod ChangeLemmas
+pub mod CutLemmas
+pub mod EditLemmas
+pub mod GrowLemmas
+pub mod LengthLemmas
+pub mod MapLemmas
+pub mod OwnLemmas
+pub mod ReadLemmas
+pub mod TwiceLemmas

@@ -1,0 +1,14 @@
+use Rattle.std.proofs.lemmas.Result.{err_from_is_err_and}
+use Rattle.storage_replay.proofs.AnswerLemmas.{handed-on}
+use Rattle.storage_replay.proofs.BlockLemmas.{block-refused, block-then}
+use Rattle.storage_replay.proofs.blocks.write_block.Goals as goal
+
+pub returns-in_err-fill_files-clause-exact : goal.returns-in_err-fill_files-clause-exact
+returns-in_err-fill_files-clause-exact g c told =
+    handed-on _ _ c.from_residual.result _ (err_from_is_err_and c.from_residual.result c.from_residual.ensures.1)
+    (block-refused c.args.at.now.root c.args.at.now.per_file c.args.name c.args.page.now (g.F.Tree.contents c.args.tree.now) _ (c.in_err-fill_files.ensures.exact told))
+
+pub returns-clause-exact : goal.returns-clause-exact
+returns-clause-exact g c told =
+    block-then c.args.at.now.root c.args.at.now.per_file c.args.name c.args.page.now (g.F.Tree.contents c.args.tree.now) (g.F.Tree.contents c.fill_files.new.tree) (g.F.Tree.contents c.put_in_file.new.tree) c.put_in_file.result
+    (c.in_ok-fill_files.ensures.exact told) (rw c.bytes.ensures.value at (c.put_in_file.ensures.exact told))

@@ -1,0 +1,21 @@
+//! Replay on the files of relations: lengths, blocks, truncations, creations and drops.
+#![tactic(auto)]
+
+mod blocks;
+mod cutting;
+mod files;
+mod found;
+mod lengths;
+mod map_edit;
+mod relations;
+mod shortening;
+mod sweep;
+mod visibility;
+
+pub use blocks::{read_block, write_block};
+pub use files::Files;
+pub use found::Found;
+pub use lengths::length;
+pub use relations::{create, drop_relation, truncate};
+pub use shortening::shorten;
+pub use visibility::map_bits;
