@@ -24,21 +24,21 @@ module _ (block n : ℕ) where
   xmin_change : (xid : ℕ) → ItemChange block n (with_xmin xid)
   xmin_change xid = low_change block n 0 (u32_bytes xid) (omega arith)
 
-  xmax_change : (xid : ℕ) → ItemChange block n (with_xmax xid)
+  pub xmax_change : (xid : ℕ) → ItemChange block n (with_xmax xid)
   xmax_change xid = low_change block n 4 (u32_bytes xid) (omega arith)
 
-  ctid_change : (b place : ℕ) → ItemChange block n (with_ctid b place)
+  pub ctid_change : (b place : ℕ) → ItemChange block n (with_ctid b place)
   ctid_change b place = address_change block n (tid_bytes b place) refl
 
-  hot_off_change : ItemChange block n with_hot_off
+  pub hot_off_change : ItemChange block n with_hot_off
   hot_off_change = infomask2_change block n hot_off
 
-  told_change : (infobits : ℕ) → ItemChange block n (with_told_bits infobits)
+  pub told_change : (infobits : ℕ) → ItemChange block n (with_told_bits infobits)
   told_change infobits =
       both_changes block n (with_infomask (told_infomask infobits)) (with_infomask2 (told_infomask2 infobits))
       (infomask_change block n (told_infomask infobits) (told_determined infobits)) (infomask2_change block n (told_infomask2 infobits))
 
-  cid_change : ItemChange block n with_first_cid
+  pub cid_change : ItemChange block n with_first_cid
   cid_change = both_changes block n (with_infomask without_combo) (with_field3 0) (infomask_change block n without_combo combo_determined) (low_change block n 8 (u32_bytes 0) (omega arith))
 
   -- DELETE
@@ -64,7 +64,7 @@ module _ (block n : ℕ) where
       both_changes block n (λ t. with_deleter op (with_first_cid (with_hot_off (with_told_bits op.infobits t)))) (with_last_ctid own op) c (last_ctid_change own op)
 
   -- LOCK and LOCK_UPDATED
-  same_change : ItemChange block n (λ t. t)
+  pub same_change : ItemChange block n (λ t. t)
   same_change = record { size = λ x long. refl; mask = λ x y long size same. same }
 
   unlinked_change : (own : ℕ) (op : HeapLock) → ItemChange block n (unlinked own op)

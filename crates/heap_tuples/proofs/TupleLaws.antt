@@ -22,7 +22,7 @@ use Rattle.heap_tuples.specs.Heap.{has_tuple, with_tuple, visible_cleared}
 use Rattle.heap_tuples.proofs.EditLemmas.{front_formed}
 
 -- both pages have a tuple at the place, or neither
-tuple_same : (block place : ℕ) (p q : List ℕ) → TrimmedHeap p → TrimmedHeap q → mask block p ≡ mask block q → has_tuple p place ≡ has_tuple q place
+pub tuple_same : (block place : ℕ) (p q : List ℕ) → TrimmedHeap p → TrimmedHeap q → mask block p ≡ mask block q → has_tuple p place ≡ has_tuple q place
 tuple_same block place p q tp tq same = by_case (is_place p place) refl
   where
     a : PagesAlike block p q
@@ -40,12 +40,12 @@ tuple_same block place p q tp tq same = by_case (is_place p place) refl
         rw (e, f) refl
 
 -- what a tuple's page gives
-record TupleOn (p : List ℕ) (place : ℕ) : Type 0 where
-  there : place - 1 < count p
-  normal : lp_flags p (place - 1) ≡ 1
-  long : 23 ≤ lp_len p (place - 1)
+pub record TupleOn (p : List ℕ) (place : ℕ) : Type 0 where
+  pub there : place - 1 < count p
+  pub normal : lp_flags p (place - 1) ≡ 1
+  pub long : 23 ≤ lp_len p (place - 1)
 
-tuple_on : (p : List ℕ) (place : ℕ) → has_tuple p place ≡ true → TupleOn p place
+pub tuple_on : (p : List ℕ) (place : ℕ) → has_tuple p place ≡ true → TupleOn p place
 tuple_on p place e = record { there = grind (arith, nat_tests); normal = grind (arith, nat_tests); long = grind (arith, nat_tests) }
 
 -- a change that only the header of a page has
@@ -53,13 +53,13 @@ abbrev pub OfHead : (List ℕ → List ℕ) → Type 0
 OfHead after = (r : List ℕ) → length r ≡ 8192 → OnlyHead r (after r)
 
 -- answers of redo
-abbrev Done : List ℕ → Redone
+abbrev pub Done : List ℕ → Redone
 Done p = Ok p
 
-abbrev NoTuple : Redone
+abbrev pub NoTuple : Redone
 NoTuple = Err Place
 
-done_same : (x y : List ℕ) → Done x ≡ Done y → x ≡ y
+pub done_same : (x y : List ℕ) → Done x ≡ Done y → x ≡ y
 done_same x y h = cc h
 
 -- a tuple changed, and then the header
@@ -101,13 +101,13 @@ module _ (block place : ℕ) (change after : List ℕ → List ℕ) (law : ItemC
       by_case false e h = cc h
 
 -- changes of the header
-only_both : (p q r : List ℕ) → OnlyHead p q → OnlyHead q r → OnlyHead p r
+pub only_both : (p q r : List ℕ) → OnlyHead p q → OnlyHead q r → OnlyHead p r
 only_both p q r a b = record { size = b.size; flags = b.flags ∙ a.flags; head = λ i le lt. b.head i le lt ∙ a.head i le lt; rest = λ i le. b.rest i le ∙ a.rest i le }
 
 pub nothing_more : OfHead (λ r. r)
 nothing_more = λ r size. record { size = size; flags = refl; head = λ i le lt. refl; rest = λ i le. refl }
 
-visible_head : (flags : ℕ) → OfHead (visible_cleared flags)
+pub visible_head : (flags : ℕ) → OfHead (visible_cleared flags)
 visible_head flags = λ r size. by_case r size (has_bit 1 flags)
   where
     ten : (b : ℕ) → (b / 8 * 8 + b % 4) / 8 * 8 ≡ b / 8 * 8

@@ -17,9 +17,13 @@ is_heap_page p = well_formed p && pd_special p == 8192
 abbrev pub trimmed_heap : List ℕ → Redone
 trimmed_heap p = if is_heap_page p then Ok (trimmed p) else Err PageShape
 
--- redo of a record on a page, or, where it says that the page is made anew, on an empty one
+-- the page on which redo of a record begins: where the record says that the page is made anew, an empty one
+abbrev pub started : Bool → List ℕ → Redone
+started init p = if init then Ok (init_bytes 0) else trimmed_heap p
+
+-- redo of a record, from there on
 abbrev pub on_heap : Bool → (List ℕ → Redone) → List ℕ → Redone
-on_heap init redo p = if init then redo (init_bytes 0) else and_then (trimmed_heap p) redo
+on_heap init redo p = and_then (started init p) redo
 
 -- the place has a normal line with an item that holds a tuple's header, 23 bytes
 abbrev pub has_tuple : List ℕ → ℕ → Bool

@@ -2,12 +2,13 @@
 
 ghost use Rattle.std.specs.Prelude.{ℕ, ◌≡◌, ◌+◌, ◌-◌, ◌≤◌, length, IsTrue, IsOk};
 ghost use Rattle.page_layout.specs.Page.{lp_off, lp_len, IsFormed};
-ghost use Rattle.page_layout.specs.Edits.{trimmed};
+ghost use Rattle.page_layout.specs.Edits.{trimmed, init_bytes};
 ghost use Rattle.redo_steps.specs.Redo.{Redoes};
-ghost use Rattle.heap_tuples.specs.Heap.{is_heap_page, trimmed_heap, has_tuple, visible_cleared};
+ghost use Rattle.heap_tuples.specs.Heap.{is_heap_page, trimmed_heap, started, has_tuple, visible_cleared};
 
 use crate::flags::{ALL_VISIBLE_CLEARED, has_bit};
 use page_layout::RedoWhy;
+use page_layout::init::put_init;
 use page_layout::line::pointer_at;
 use page_layout::shape::{bounds_of, line_count, well_formed};
 use page_layout::trim::put_trimmed;
@@ -43,6 +44,30 @@ pub fn trim_heap(page: &mut [u8]) -> Result<(), RedoWhy>
     }
     put_trimmed_heap(page);
     Ok(())
+}
+
+// Makes an empty heap page.
+fn put_empty(page: &mut [u8])
+    requires { length page.old ≡ 8192 }
+    ensures value { page.new ≡ init_bytes 0 }
+    ensures formed { IsFormed page.new }
+{
+    put_init(page, 0);
+}
+
+/// Begins redo of a record: makes an empty page where the record says so (`init`), whatever the
+/// page was, and else drops the unused lines at the end of a heap page. Answers `PageShape` where it
+/// isn't one and isn't made anew.
+pub fn start_heap(page: &mut [u8], init: bool) -> Result<(), RedoWhy>
+    requires { length page.old ≡ 8192 }
+    ensures exact { Redoes (started init page.old) page.old result page.new }
+    ensures formed { IsOk result → IsFormed page.new }
+{
+    if init {
+        put_empty(page);
+        return Ok(());
+    }
+    trim_heap(page)
 }
 
 /// Whether a tuple with its whole header stands at a place.

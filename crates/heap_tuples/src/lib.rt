@@ -12,7 +12,7 @@ pub mod put;
 
 pub use confirm::redo_confirm;
 pub use delete::redo_delete;
-pub use heap::trim_heap;
+pub use heap::{start_heap, trim_heap};
 pub use inplace::redo_inplace;
 pub use laws::{confirm_respects, delete_respects, locks_respect};
 pub use lock::{redo_lock, redo_lock_updated};

@@ -17,16 +17,16 @@ use Rattle.page_laws.proofs.BtreeAlike.{BtreeAlike, btree_masks, btree_alike}
 
 -- four numbers laid into a page of zeros
 module _ (zeros : List ℕ) (zeros_size : length zeros ≡ 8192) (end : ℕ) where
-  abbrev z1 : List ℕ
+  abbrev pub z1 : List ℕ
   z1 = with_u16 zeros 12 24
 
-  abbrev z2 : List ℕ
+  abbrev pub z2 : List ℕ
   z2 = with_u16 z1 14 end
 
-  abbrev z3 : List ℕ
+  abbrev pub z3 : List ℕ
   z3 = with_u16 z2 16 end
 
-  abbrev z : List ℕ
+  abbrev pub z : List ℕ
   z = with_u16 z3 18 8196
 
   size1 : length z1 ≡ 8192
@@ -38,20 +38,20 @@ module _ (zeros : List ℕ) (zeros_size : length zeros ≡ 8192) (end : ℕ) whe
   size3 : length z3 ≡ 8192
   size3 = length-splice z2 16 (u16_bytes end) (omega (arith, size2)) ∙ size2
 
-  empty_size : length z ≡ 8192
+  pub empty_size : length z ≡ 8192
   empty_size = length-splice z3 18 (u16_bytes 8196) (omega (arith, size3)) ∙ size3
 
-  empty_lower : u16_at z 12 ≡ 24
+  pub empty_lower : u16_at z 12 ≡ 24
   empty_lower = u16_at-with_u16_out z3 18 8196 12 (omega (arith, size3)) (inl (omega arith)) ∙ u16_at-with_u16_out z2 16 end 12 (omega (arith, size2)) (inl (omega arith))
       ∙ u16_at-with_u16_out z1 14 end 12 (omega (arith, size1)) (inl (omega arith)) ∙ u16_at-with_u16 zeros 12 24 (omega (arith, zeros_size))
 
-  empty_upper : u16_at z 14 ≡ end
+  pub empty_upper : u16_at z 14 ≡ end
   empty_upper = u16_at-with_u16_out z3 18 8196 14 (omega (arith, size3)) (inl (omega arith)) ∙ u16_at-with_u16_out z2 16 end 14 (omega (arith, size2)) (inl (omega arith)) ∙ u16_at-with_u16 z1 14 end (omega (arith, size1))
 
-  empty_special : u16_at z 16 ≡ end
+  pub empty_special : u16_at z 16 ≡ end
   empty_special = u16_at-with_u16_out z3 18 8196 16 (omega (arith, size3)) (inl (omega arith)) ∙ u16_at-with_u16 z2 16 end (omega (arith, size2))
 
-  empty_layout : u16_at z 18 ≡ 8196
+  pub empty_layout : u16_at z 18 ≡ 8196
   empty_layout = u16_at-with_u16 z3 18 8196 (omega (arith, size3))
 
   empty_rest : (i : ℕ) → 20 ≤ i → byte z i ≡ byte zeros i
@@ -66,7 +66,7 @@ record Empty (r : List ℕ) : Type 0 where
   special : u16_at r 16 ≡ 8176
   layout : u16_at r 18 ≡ 8196
 
-init_size : length (replicate {A = ℕ} 8192 0) ≡ 8192
+pub init_size : length (replicate {A = ℕ} 8192 0) ≡ 8192
 init_size = length-replicate {A = ℕ} 8192 0
 
 init_is : Empty (init_bytes 16)

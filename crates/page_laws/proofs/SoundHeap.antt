@@ -30,7 +30,7 @@ sound_apart : (p : List ℕ) → IsHeap p → IsTrue (is_sound p) → AreApart p
 unfolding is_sound
 sound_apart p h s = test_apart p (both (all_apart p (count p)) (have_good_hoffs p (count p)) (subst (λ k. IsTrue (sound_as k p)) (kind_heap p h) s))
 
-heap_shown : (block : ℕ) (p q : List ℕ) → IsHeap p → length q ≡ 8192 → mask block p ≡ mask block q → IsHeap q
+pub heap_shown : (block : ℕ) (p q : List ℕ) → IsHeap p → length q ≡ 8192 → mask block p ≡ mask block q → IsHeap q
 heap_shown block p q h size same = shape_cases q (λ k. k ≡ Heap → IsHeap q) size (λ g e. g) (λ g w e. cc e) (λ g e. cc e) (λ g e. cc e) is
   where
     is : shape_kind q ≡ Heap

@@ -66,12 +66,12 @@ empty_line_respects block k off flags p q small kind tp tq there none same =
     heap r f lt top = let g = set_formed k off flags small kind r f lt in record { size = g.size; head = g.head; lines = g.lines; heap = set_special k off flags small kind r f lt ∙ top }
 
 -- lines set, before the page is packed
-record Ready (block : ℕ) (p q : List ℕ) : Type 0 where
-  formed_p : IsFormed p
-  formed_q : IsFormed q
-  heap_p : pd_special p ≡ 8192
-  heap_q : pd_special q ≡ 8192
-  same : SameLines block p q
+pub record Ready (block : ℕ) (p q : List ℕ) : Type 0 where
+  pub formed_p : IsFormed p
+  pub formed_q : IsFormed q
+  pub heap_p : pd_special p ≡ 8192
+  pub heap_q : pd_special q ≡ 8192
+  pub same : SameLines block p q
 
 set_ready : (block : ℕ) (settings : List Setting) (p q : List ℕ) → AreSettings (count p) settings → Ready block p q → Ready block (lines_set settings p) (lines_set settings q)
 set_ready block [] p q ok r = r
@@ -91,7 +91,7 @@ set_ready block (s ∷ settings) p q ok r =
 pub pack_is : (p : List ℕ) → IsFormed p → pack p ≡ refuse_or (if has_room p then None else Some NoRoom) (packed p)
 pack_is p f = rw (well p f.head f.lines) refl
 
-packed_results : (block : ℕ) (p q : List ℕ) → Ready block p q → SameResults block (pack p) (pack q)
+pub packed_results : (block : ℕ) (p q : List ℕ) → Ready block p q → SameResults block (pack p) (pack q)
 packed_results block p q r = rw (pack_is p r.formed_p, pack_is q r.formed_q) (pick (has_room p) (has_room q) refl refl)
   where
     swapped : SameLines block q p

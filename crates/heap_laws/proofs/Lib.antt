@@ -1,0 +1,14 @@
+pub mod Steps
+pub mod ItemsAlike
+pub mod Door
+pub mod Heads
+pub mod Carried
+pub mod PutLaw
+pub mod Adding
+pub mod Named
+pub mod Updating
+pub mod Freezing
+pub mod Freed
+pub mod Pruned
+pub mod Replayed
+pub mod Fresh

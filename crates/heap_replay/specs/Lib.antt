@@ -1,0 +1,5 @@
+pub mod Given
+pub mod Tuples
+pub mod Added
+pub mod Lines
+pub mod Operation
