@@ -1,0 +1,6 @@
+pub mod Named
+pub mod Fields
+pub mod FieldNames
+pub mod Touched
+pub mod Set
+pub mod Chunk
