@@ -7,6 +7,7 @@ mod blocks;
 mod calls;
 #[cfg(test)]
 mod changes;
+mod databases;
 #[cfg(test)]
 mod faults;
 #[cfg(test)]
