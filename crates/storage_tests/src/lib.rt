@@ -7,6 +7,7 @@ mod blocks;
 mod calls;
 #[cfg(test)]
 mod changes;
+#[cfg(test)]
 mod databases;
 #[cfg(test)]
 mod faults;
