@@ -26,7 +26,7 @@ use Rattle.heap_tuples.proofs.HeapLemmas.{both, heap_of, trimmed_formed, init_fo
 use Rattle.heap_tuples.proofs.TupleLaws.{Done}
 use Rattle.heap_laws.specs.GoodHeap.{GoodHeap}
 use Rattle.heap_laws.proofs.Steps.{CantTell, IsStep}
-use Rattle.heap_laws.proofs.ItemsAlike.{items_alike}
+use Rattle.page_laws.proofs.HeapShown.{items_alike}
 
 -- the mask tells heap pages from others
 heap_test : (p : List ℕ) → IsHeap p → is_heap_page p ≡ true

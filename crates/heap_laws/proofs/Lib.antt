@@ -1,5 +1,4 @@
 pub mod Steps
-pub mod ItemsAlike
 pub mod Door
 pub mod Heads
 pub mod Carried
@@ -7,6 +6,7 @@ pub mod PutLaw
 pub mod Adding
 pub mod Named
 pub mod Updating
+pub mod Edited
 pub mod Freezing
 pub mod Freed
 pub mod Pruned

@@ -32,7 +32,7 @@ use Rattle.heap_laws.proofs.Steps.{CantTell, IsStep, of_head, of_tuple}
 use Rattle.heap_laws.proofs.Heads.{set_head}
 use Rattle.heap_laws.proofs.Carried.{masks_where, tests_same}
 use Rattle.heap_laws.proofs.Door.{KeepsSize}
-use Rattle.heap_laws.proofs.ItemsAlike.{items_alike}
+use Rattle.page_laws.proofs.HeapShown.{items_alike}
 
 module _ (b : ℕ) where
   pub delete_step : (xid block : ℕ) (op : HeapDelete) → IsStep b (delete_page xid block op)

@@ -1,14 +1,13 @@
 -- PRUNE: lines lose their items, one after another, and the page is packed.
-use Rattle.std.proofs.Common.{◌≡◌, ℕ, ◌+◌, ◌-◌, ◌<◌, ◌≤◌, ◌&&◌, List, [], ◌∷◌, Bool, true, false, Some, None, Result, Ok, Err, length, refl, sym, ◌∙◌, ap, subst, arith}
+use Rattle.std.proofs.Common.{◌≡◌, ℕ, ◌+◌, ◌-◌, ◌<◌, ◌≤◌, ◌&&◌, List, [], ◌∷◌, Bool, true, false, Result, Ok, Err, length, refl, sym, ◌∙◌, ap, subst, arith}
 use Rattle.std.specs.Prelude.{if◌then◌else◌, nat_lt, nat_le}
 use Rattle.std.proofs.lemmas.Bool.Decides.{nat_tests}
 use Rattle.block_layouts.specs.declared.prune.PrunePlaces.{PrunePlaces}
 use Rattle.block_layouts.specs.declared.redirects.Redirect.{Redirect}
-use Rattle.page_layout.specs.Page.{pd_lower, pd_special, count, is_place, IsFormed}
-use Rattle.page_layout.specs.Edits.{with_pointer, refuse_or}
-use Rattle.page_layout.specs.Pack.{total, has_room, packed, pack}
+use Rattle.page_layout.specs.Page.{count, is_place, IsFormed}
+use Rattle.page_layout.specs.Edits.{with_pointer}
+use Rattle.page_layout.specs.Pack.{room_refusal, packed, pack}
 use Rattle.page_layout.specs.declared.refusal.PageRefusal.{PageRefusal}
-use Rattle.page_layout.specs.declared.refusal.PageRefusal.TheVariants.{NoRoom}
 use Rattle.page_layout.specs.declared.refusal.RedoWhy.TheVariants.{Place}
 use Rattle.page_masks.specs.Law.{Redone, view, SameMasks, and_then}
 use Rattle.page_laws.specs.Results.{SameResults}
@@ -16,7 +15,8 @@ use Rattle.page_laws.proofs.AddResult.{formed}
 use Rattle.page_laws.proofs.PackLaw.{packed_formed}
 use Rattle.page_laws.proofs.PagesAlike.{counts_same}
 use Rattle.page_laws.proofs.SetLineLaw.{set_formed, set_special, set_same}
-use Rattle.page_laws.proofs.StepLaws.{Ready, packed_results, pack_is, alike}
+use Rattle.page_laws.proofs.Refused.{OkPage, accepted, pack_is, room_of}
+use Rattle.page_laws.proofs.StepLaws.{Ready, packed_results, alike}
 use Rattle.redo_steps.specs.Redo.{why_of, on_page}
 use Rattle.heap_tuples.proofs.HeapLemmas.{both}
 use Rattle.heap_tuples.proofs.TupleLaws.{Done, NoTuple, done_same}
@@ -87,14 +87,14 @@ places_carried b flags (place ∷ places) kind p q r =
 
 -- the page packed
 pack_size : (p r : List ℕ) → IsFormed p → on_page (pack p) ≡ Done r → length r ≡ 8192
-pack_size p r f e = kept (has_room p) refl (sym (ap on_page (pack_is p f)) ∙ e)
+pack_size p r f e =
+    let a = accepted (room_refusal p) (packed p) r (sym (pack_is p f) ∙ on_ok (pack p) r e) in
+    let g = packed_formed p f (room_of p a.0) in
+    subst (λ x. length x ≡ 8192) a.1 g.size
   where
-    kept : (x : Bool) → has_room p ≡ x → on_page (refuse_or (if x then None else Some NoRoom) (packed p)) ≡ Done r → length r ≡ 8192
-    kept true t h =
-        let room : pd_lower p + total p (count p) ≤ pd_special p = grind (arith, nat_tests, t) in
-        let g = packed_formed p f room in
-        subst (λ x. length x ≡ 8192) (done_same (packed p) r h) g.size
-    kept false t h = cc h
+    on_ok : (x : Result (List ℕ) PageRefusal) (r : List ℕ) → on_page x ≡ Done r → x ≡ OkPage r
+    on_ok (Ok p) r e = ap OkPage (done_same p r e)
+    on_ok (Err why) r e = cc e
 
 told : (b : ℕ) (x y : Result (List ℕ) PageRefusal) → SameResults b x y → SameMasks (view b) (on_page x) (on_page y)
 told b (Ok p) (Ok q) same = same

@@ -11,18 +11,19 @@ use Rattle.page_layout.specs.declared.refusal.RedoWhy.TheVariants.{Place, Room}
 use Rattle.page_masks.specs.Law.{view, SameMasks}
 use Rattle.page_masks.specs.Mask.{mask, holds, holder}
 use Rattle.page_masks.specs.Shapes.{IsHeap}
-use Rattle.page_masks.proofs.Alike.{none_not}
+use Rattle.page_masks.proofs.Holders.{none_not}
 use Rattle.page_masks.proofs.HeapLaid.{open_holds}
 use Rattle.page_masks.proofs.Unshown.{is_heap}
 use Rattle.page_laws.specs.Results.{TrimmedHeap}
 use Rattle.page_laws.proofs.AddLaw.{holder_none, added_apart}
-use Rattle.page_laws.proofs.AddResult.{formed, allowed, add_masks}
+use Rattle.page_laws.proofs.AddResult.{formed, adds_at, add_masks}
+use Rattle.page_laws.proofs.Refused.{OkPage, open_alike}
 use Rattle.page_laws.proofs.AddViews.{Adds, added_formed, lays}
 use Rattle.page_laws.proofs.AddedBytes.{Lays, added_special, added_lower, added_flags}
 use Rattle.page_laws.proofs.HeapSteps.{all_shown, add_keeps_heap}
 use Rattle.page_laws.proofs.PagesAlike.{PagesAlike, counts_same, len_alike, flags_alike, upper_alike}
 use Rattle.page_laws.proofs.StepLaws.{alike}
-use Rattle.heap_tuples.specs.Put.{is_open, has_room_at, extended, filled, put_refusal, unless, put_tuple}
+use Rattle.heap_tuples.specs.Put.{is_open, has_room_at, extended, filled, put_refusal, put_tuple}
 use Rattle.heap_tuples.proofs.TupleLaws.{Done, done_same}
 use Rattle.heap_tuples.proofs.FilledLemmas.{Extends, ext_byte, ext_zero, ext_lower, ext_upper, ext_special, ext_count, ext_off, ext_len, ext_flags, ext_some, ext_item, ext_formed, ext_apart}
 use Rattle.heap_tuples.proofs.PutLemmas.{PutsOn, opens, extends, puts_on, put_allows, put_formed}
@@ -97,15 +98,7 @@ module _ (block place : ℕ) (bytes : List ℕ) (p q : List ℕ) (tp : TrimmedHe
   free_same k lt = rw (flags_alike block p q a.same tp.page.head.low tp.page.head.by4 k lt, len_alike block p q a.same tp.page.head.low tp.page.head.by4 k lt) refl
 
   pub open_same : is_open p place ≡ is_open q place
-  open_same = rw (← lines_same) (pick (nat_lt 0 place) (nat_lt (count p) place) refl refl)
-    where
-      pick : (z n : Bool) → nat_lt 0 place ≡ z → nat_lt (count p) place ≡ n → (z && nat_le place 291 && (n || is_free p (place - 1))) ≡ (z && nat_le place 291 && (n || is_free q (place - 1)))
-      pick false n ez en = refl
-      pick true true ez en = refl
-      pick true false ez en =
-          let some : 0 < place = grind (arith, nat_tests, ez) in
-          let here : place ≤ count p = grind (arith, nat_tests, en) in
-          rw (free_same (place - 1) (omega (arith, some, here))) refl
+  open_same = open_alike p q place (nat_le place 291) lines_same free_same
 
   room_same : has_room_at p place (length bytes) ≡ has_room_at q place (length bytes)
   room_same = λ t. nat_le ((if nat_lt (lines_same t) place then 24 + 4 * place else a.same.lowers t) + up8 (length bytes)) (uppers t)
@@ -126,15 +119,14 @@ module _ (block place : ℕ) (bytes : List ℕ) (p q : List ℕ) (tp : TrimmedHe
 
   put_masks : put_refusal p place (length bytes) ≡ NotRefused → mask block (added (filled p (place - 1)) bytes place true) ≡ mask block (added (filled q (place - 1)) bytes place true)
   put_masks e =
-      let s = puts_on p place (length bytes) (formed p tp.page) e in
       let b = pair e in
-      add_masks block (filled p (place - 1)) (filled q (place - 1)) b.heap_p b.heap_q b.alike bytes place s.there s.room
+      add_masks block (filled p (place - 1)) (filled q (place - 1)) b.heap_p b.heap_q b.alike bytes place (put_allows p place (length bytes) (formed p tp.page) e)
 
   pub put_respects : SameMasks (view block) (put_tuple place bytes p) (put_tuple place bytes q)
-  put_respects = subst (λ r. SameMasks (view block) (put_tuple place bytes p) (unless r (Ok (added (filled q (place - 1)) bytes place true)))) refusal_same (pick (put_refusal p place (length bytes)) refl)
+  put_respects = subst (λ r. SameMasks (view block) (put_tuple place bytes p) (refuse_or r (Ok (added (filled q (place - 1)) bytes place true)))) refusal_same (pick (put_refusal p place (length bytes)) refl)
     where
       pick : (r : Option RedoWhy) → put_refusal p place (length bytes) ≡ r
-          → SameMasks (view block) (unless r (Ok (added (filled p (place - 1)) bytes place true))) (unless r (Ok (added (filled q (place - 1)) bytes place true)))
+          → SameMasks (view block) (refuse_or r (Ok (added (filled p (place - 1)) bytes place true))) (refuse_or r (Ok (added (filled q (place - 1)) bytes place true)))
       pick None e = put_masks e
       pick (Some why) e = refl
 
@@ -180,12 +172,12 @@ put_keeps place bytes p r tp is = pick (put_refusal p place (length bytes)) refl
             let g = extended p (place - 1) in
             let n = ext_count p (place - 1) x in
             let last : nat_lt (count g) place ≡ true = grind (arith, nat_tests, n, o.above) in
-            let al = allowed g bytes place s.formed s.there s.room in
+            let al = adds_at g bytes place s.formed none in
             subst TrimmedHeap (sym al.is) (last_keeps g bytes (place - 1) (lower_after g place true) (pd_upper g - up8 (length bytes))
             (ext_heap p (place - 1) x tp.page.heap) (ext_apart p (place - 1) x tp.apart) al.adds (sym n) (λ t. if last t then pd_lower g + 4 else pd_lower g))
-        by_case false t none s = add_keeps_heap place p bytes (added p bytes place true) tp (ap (λ x. refuse_or x (added p bytes place true)) none)
+        by_case false t none s = add_keeps_heap place p bytes (added p bytes place true) tp (ap (λ x. refuse_or x (OkPage (added p bytes place true))) none)
 
-    pick : (x : Option RedoWhy) → put_refusal p place (length bytes) ≡ x → unless x (Done (added (filled p (place - 1)) bytes place true)) ≡ Done r → TrimmedHeap r
+    pick : (x : Option RedoWhy) → put_refusal p place (length bytes) ≡ x → refuse_or x (Done (added (filled p (place - 1)) bytes place true)) ≡ Done r → TrimmedHeap r
     pick None e h = subst TrimmedHeap (done_same (added (filled p (place - 1)) bytes place true) r h) (made e)
     pick (Some why) e h = cc h
 
@@ -197,6 +189,6 @@ put_step block place bytes = record {
   same = put_respects block place bytes;
 }
   where
-    kept : (p r : List ℕ) → IsFormed p → (x : Option RedoWhy) → put_refusal p place (length bytes) ≡ x → unless x (Done (added (filled p (place - 1)) bytes place true)) ≡ Done r → IsFormed r
+    kept : (p r : List ℕ) → IsFormed p → (x : Option RedoWhy) → put_refusal p place (length bytes) ≡ x → refuse_or x (Done (added (filled p (place - 1)) bytes place true)) ≡ Done r → IsFormed r
     kept p r f None e h = subst IsFormed (done_same (added (filled p (place - 1)) bytes place true) r h) (put_formed p bytes place f e)
     kept p r f (Some why) e h = cc h

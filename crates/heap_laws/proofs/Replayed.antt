@@ -46,7 +46,7 @@ use Rattle.heap_laws.proofs.Named.{delete_step, confirm_step, lock_step, version
 use Rattle.heap_laws.proofs.Adding.{insert_step, multi_insert_step, update_old_step, update_new_step}
 use Rattle.heap_laws.proofs.Updating.{update_size, update_same}
 use Rattle.heap_laws.proofs.Freezing.{freeze_step}
-use Rattle.heap_laws.proofs.Freed.{vacuum_size, vacuum_same}
+use Rattle.heap_laws.proofs.Freed.{vacuum_size, vacuum_alike}
 use Rattle.heap_laws.proofs.Pruned.{prune_size, prune_same}
 
 module _ (b : ℕ) where
@@ -156,7 +156,7 @@ module _ (b : ℕ) where
     vacuum_law =
         laid (heap_vacuum_of main) (λ op p. laid_out (bytes_for rec parts id) (λ bytes. laid_out (first_places_of op.nunused bytes) (λ places. on_heap false (vacuum_page places) p)))
         (λ op. with_bytes (λ bytes p. laid_out (first_places_of op.nunused bytes) (λ places. on_heap false (vacuum_page places) p))
-        (λ bytes. laid (first_places_of op.nunused bytes) (λ places. on_heap false (vacuum_page places)) (λ places. trimmed_operation b (vacuum_page places) (vacuum_size places) (vacuum_same b places))))
+        (λ bytes. laid (first_places_of op.nunused bytes) (λ places. on_heap false (vacuum_page places)) (λ places. trimmed_operation b (vacuum_page places) (vacuum_size places) (λ p q gp gq same. vacuum_alike b places p q gp.heap gq.heap same))))
 
     freeze_law : Is (freeze_operation rec parts id)
     freeze_law =

@@ -24,7 +24,7 @@ use Rattle.heap_laws.proofs.Steps.{CantTell}
 use Rattle.heap_laws.proofs.Adding.{update_old_step, update_new_step}
 use Rattle.heap_laws.proofs.Carried.{masks_where, both_done, tests_same}
 use Rattle.heap_laws.proofs.Door.{KeepsSize}
-use Rattle.heap_laws.proofs.ItemsAlike.{items_alike}
+use Rattle.page_laws.proofs.HeapShown.{items_alike}
 
 cut_same : (x y : List ℕ) (at n : ℕ) → 22 ≤ at → at + n ≤ length x → length x ≡ length y → ((o : ℕ) → 22 ≤ o → byte x o ≡ byte y o) → cut x at n ≡ cut y at n
 cut_same x y at n from fits size same = ext_get_or 0 (cut x at n) (cut y at n) (length-cut x at n fits ∙ sym (length-cut y at n (omega (arith, fits, size))))

@@ -11,7 +11,9 @@ ghost use Rattle.page_masks.specs.Sound.{is_sound};
 ghost use Rattle.page_laws.specs.Results.{TrimmedHeap};
 ghost use Rattle.heap_tuples.specs.Heap.{on_heap};
 ghost use Rattle.heap_tuples.specs.Put.{put_tuple};
+ghost use Rattle.heap_pages.specs.Vacuum.{vacuum_page};
 ghost use Rattle.heap_replay.specs.Operation.{heap_fresh, heap_operation};
+ghost use Rattle.heap_laws.specs.Edits.{TupleEdit, AreEdits, tuples_edited};
 ghost use Rattle.heap_laws.specs.GoodHeap.{GoodHeap};
 
 /// A sound heap page, and every page with its mask: once trimmed, the steps' laws speak of them.
@@ -28,6 +30,26 @@ pub fn put_respects()
         SameMasks (view block) (put_tuple place bytes p) (put_tuple place bytes q) }
     ensures page { (place : ℕ) (bytes p r : List ℕ) → TrimmedHeap p →
         put_tuple place bytes p ≡ Ok r → TrimmedHeap r }
+{}
+
+/// Tuples changed one after another, each by a change that its mask determines, respect the mask and
+/// leave a trimmed heap page.
+pub fn edits_respect()
+    ensures mask { (block : ℕ) (edits : List TupleEdit) (p q : List ℕ) → AreEdits block edits →
+        TrimmedHeap p → TrimmedHeap q → mask block p ≡ mask block q →
+        SameMasks (view block) (tuples_edited edits p) (tuples_edited edits q) }
+    ensures page { (block : ℕ) (edits : List TupleEdit) (p r : List ℕ) → AreEdits block edits →
+        TrimmedHeap p → tuples_edited edits p ≡ Ok r → TrimmedHeap r }
+{}
+
+/// Lines without an item that become unused, one after another, respect the mask and leave a heap
+/// page that is a trimmed one once it is trimmed.
+pub fn empty_lines_respect()
+    ensures mask { (block : ℕ) (places p q : List ℕ) → TrimmedHeap p → TrimmedHeap q →
+        mask block p ≡ mask block q →
+        SameMasks (view block) (vacuum_page places p) (vacuum_page places q) }
+    ensures page { (places p r : List ℕ) → TrimmedHeap p → vacuum_page places p ≡ Ok r →
+        IsHeap r × TrimmedHeap (trimmed r) }
 {}
 
 /// What is done to the trimmed page, where the page is a heap page, is an operation of the mask's

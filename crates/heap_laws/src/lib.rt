@@ -3,4 +3,7 @@
 
 mod laws;
 
-pub use laws::{heap_mask_law, put_respects, sound_heaps_are_shown, trimmed_operations};
+pub use laws::{
+    edits_respect, empty_lines_respect, heap_mask_law, put_respects, sound_heaps_are_shown,
+    trimmed_operations,
+};

@@ -64,7 +64,7 @@ fn set_places(page: &mut [u8], mut places: Places<'_>, flags: usize) -> Result<(
 }
 
 // Lays the items anew.
-#[tactic(auto, using(page_laws::proofs::StepLaws::pack_is))]
+#[tactic(auto, using(page_laws::proofs::Refused::pack_is))]
 fn pack_page(page: &mut [u8]) -> Result<(), RedoWhy>
     requires { IsFormed page.old }
     ensures exact { Makes (on_page (pack page.old)) result page.new }

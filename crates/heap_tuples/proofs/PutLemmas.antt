@@ -7,7 +7,8 @@ use Rattle.page_layout.specs.Page.{pd_lower, pd_upper, count, IsFormed}
 use Rattle.page_layout.specs.Edits.{is_free, lower_after, add_refusal, added}
 use Rattle.page_layout.specs.declared.refusal.RedoWhy.{RedoWhy}
 use Rattle.page_layout.specs.declared.refusal.RedoWhy.TheVariants.{Place, Room}
-use Rattle.page_laws.proofs.AddResult.{place_test, room_test, refusal_by, refusal_is, allowed}
+use Rattle.page_masks.proofs.Unshown.{well}
+use Rattle.page_laws.proofs.AddResult.{adds_at}
 use Rattle.page_laws.proofs.AddViews.{added_formed}
 use Rattle.heap_tuples.specs.Put.{is_open, lower_with, has_room_at, extended, filled, put_refusal}
 use Rattle.heap_tuples.proofs.HeapLemmas.{both}
@@ -48,8 +49,8 @@ extends p place len f o lt =
 -- add_item takes the tuple then
 pub record PutsOn (g : List ℕ) (place len : ℕ) : Type 0 where
   pub formed : IsFormed g
-  pub there : place_test g place ≡ true
-  pub room : room_test g len place ≡ true
+  pub there : (nat_lt 0 place && nat_le place (count g + 1) && (nat_lt (count g) place || is_free g (place - 1))) ≡ true
+  pub room : nat_le (lower_after g place true + up8 len) (pd_upper g) ≡ true
 
 pub puts_on : (p : List ℕ) (place len : ℕ) → IsFormed p → put_refusal p place len ≡ NotRefused → PutsOn (filled p (place - 1)) place len
 puts_on p place len f e = by_case (nat_lt (count p) (place - 1)) refl
@@ -94,11 +95,11 @@ puts_on p place len f e = by_case (nat_lt (count p) (place - 1)) refl
 pub put_allows : (p : List ℕ) (place len : ℕ) → IsFormed p → put_refusal p place len ≡ NotRefused → add_refusal (filled p (place - 1)) len place true ≡ None
 put_allows p place len f e =
     let s = puts_on p place len f e in
-    refusal_is (filled p (place - 1)) len place s.formed ∙ (λ t. refusal_by (s.there t) (s.room t))
+    rw (well (filled p (place - 1)) s.formed.head s.formed.lines, s.there, s.room) refl
 
 pub put_formed : (p bytes : List ℕ) (place : ℕ) → IsFormed p → put_refusal p place (length bytes) ≡ NotRefused → IsFormed (added (filled p (place - 1)) bytes place true)
 put_formed p bytes place f e =
     let g = filled p (place - 1) in
     let s = puts_on p place (length bytes) f e in
-    let a = allowed g bytes place s.formed s.there s.room in
+    let a = adds_at g bytes place s.formed (put_allows p place (length bytes) f e) in
     subst IsFormed (sym a.is) (added_formed g bytes (place - 1) (lower_after g place true) (pd_upper g - up8 (length bytes)) a.adds)

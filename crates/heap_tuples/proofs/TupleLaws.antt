@@ -10,9 +10,9 @@ use Rattle.page_layout.specs.Page.{count, is_place, lp_flags, lp_len, IsFormed}
 use Rattle.page_layout.specs.declared.refusal.RedoWhy.TheVariants.{Place}
 use Rattle.page_masks.specs.Law.{Redone, view, SameMasks}
 use Rattle.page_masks.specs.Mask.{mask}
+use Rattle.page_masks.specs.Shapes.{OnlyHead}
 use Rattle.page_laws.specs.Change.{ItemChange}
 use Rattle.page_laws.specs.Results.{TrimmedHeap}
-use Rattle.page_laws.specs.Steps.{OnlyHead}
 use Rattle.page_laws.proofs.HeapSteps.{head_keeps, edit_keeps}
 use Rattle.page_laws.proofs.PagesAlike.{PagesAlike, counts_same, len_alike, flags_alike}
 use Rattle.page_laws.proofs.StepLaws.{alike, edit_respects, head_unshown}

@@ -1,9 +1,9 @@
 -- A new tuple on a heap page: PostgreSQL 16, src/include/access/htup_details.h, MaxHeapTuplesPerPage. Own: "Redo of heap pages".
-use Rattle.std.specs.Prelude.{ℕ, ◌+◌, ◌-◌, ◌*◌, ◌&&◌, ◌||◌, List, Bool, nat_le, nat_lt, true, length, replicate, Option, Some, None, Ok, Err, if◌then◌else◌}
+use Rattle.std.specs.Prelude.{ℕ, ◌+◌, ◌-◌, ◌*◌, ◌&&◌, ◌||◌, List, Bool, nat_le, nat_lt, true, length, replicate, Option, Some, None, Ok, if◌then◌else◌}
 use Rattle.layout.specs.Splice.{splice}
 use Rattle.page_layout.specs.Bytes.{with_u16, up8}
 use Rattle.page_layout.specs.Page.{pd_lower, pd_upper, count}
-use Rattle.page_layout.specs.Edits.{is_free, added}
+use Rattle.page_layout.specs.Edits.{is_free, added, refuse_or}
 use Rattle.page_layout.specs.declared.refusal.RedoWhy.{RedoWhy}
 use Rattle.page_layout.specs.declared.refusal.RedoWhy.TheVariants.{Place, Room}
 use Rattle.page_masks.specs.Law.{Redone}
@@ -33,12 +33,7 @@ abbrev pub put_refusal : List ℕ → ℕ → ℕ → Option RedoWhy
 put_refusal p place len =
     if is_open p place then (if has_room_at p place len then None else Some Room) else Some Place
 
--- refused for this reason, or tried
-abbrev pub unless : Option RedoWhy → Redone → Redone
-unless None redone = redone
-unless (Some why) redone = Err why
-
 -- a tuple added at a place
 abbrev pub put_tuple : ℕ → List ℕ → List ℕ → Redone
 put_tuple place tuple p =
-    unless (put_refusal p place (length tuple)) (Ok (added (filled p (place - 1)) tuple place true))
+    refuse_or (put_refusal p place (length tuple)) (Ok (added (filled p (place - 1)) tuple place true))

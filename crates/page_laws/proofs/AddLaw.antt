@@ -8,12 +8,12 @@ use Rattle.page_layout.specs.Apart.{Apart, AreApart}
 use Rattle.page_layout.specs.Edits.{added_at}
 use Rattle.page_layout.proofs.ShapeLemmas.{held_in}
 use Rattle.page_masks.specs.Mask.{masked_item, holds, holder}
-use Rattle.page_masks.proofs.Alike.{none_not, holds_in}
+use Rattle.page_masks.proofs.Holders.{none_not, holds_in}
 use Rattle.page_masks.proofs.HeapLaid.{open_holds, holds_none}
+use Rattle.page_masks.proofs.Lines.{Outside, pointer_alike}
 use Rattle.page_laws.proofs.PagesAlike.{PagesAlike, counts_same, len_alike}
-use Rattle.page_laws.proofs.SetLineLaw.{pointer_byte}
 use Rattle.page_laws.proofs.AddViews.{Adds, added_back, old_or_new, kept_off, kept_len, kept_flags, kept_item, lays}
-use Rattle.page_laws.proofs.AddedBytes.{Lays, fits, added_head, added_line, added_other_line, added_upper_byte, added_lower, added_upper, added_off, added_len, added_flags, added_item}
+use Rattle.page_laws.proofs.AddedBytes.{Lays, fits, small, added_head, added_line, added_upper_byte, added_lower, added_upper, added_off, added_len, added_flags, added_item}
 
 pub holder_none : (p : List ℕ) (n i : ℕ) → ((j : ℕ) → j < n → holds p j i ≡ false) → holder p n i ≡ None
 holder_none p zero i each = refl
@@ -36,24 +36,16 @@ module _ (block : ℕ) (p q bytes : List ℕ) (k lower upper : ℕ) (ap_p : Adds
   counts = counts_same block p q s.same ap_p.formed.head.low ap_p.formed.head.by4
 
   line : (i : ℕ) → 24 ≤ i → i < lower → byte new_p i ≡ byte new_q i
-  line i le lt = ⊎_elim
-      (λ (a : (nat_le (24 + 4 * k) i ≡ true) × (24 + 4 * k ≤ i)). ⊎_elim
-      (λ (b : (nat_le (28 + 4 * k) i ≡ true) × (28 + 4 * k ≤ i)). outside (inr b.1))
-      (λ (c : (nat_le (28 + 4 * k) i ≡ false) × (i < 28 + 4 * k)).
-      added_line p bytes k lower upper lay_p i le high ∙ pointer_byte p q k upper 1 (length bytes) i (fits p bytes k lower upper lay_p) (fits q bytes k lower upper lay_q) a.1 c.1 ∙ sym (added_line q bytes k lower upper lay_q i le high))
-      (leb_tells (28 + 4 * k) i))
-      (λ (b : (nat_le (24 + 4 * k) i ≡ false) × (i < 24 + 4 * k)). outside (inl b.1))
-      (leb_tells (24 + 4 * k) i)
+  line i le lt = added_line p bytes k lower upper lay_p i le high
+      ∙ pointer_alike false lower p q k upper 1 1 (length bytes) (λ j from to out. s.same.lines j from (in_old j to out)) (fits p bytes k lower upper lay_p) (fits q bytes k lower upper lay_q) (small p bytes k lower upper lay_p) (omega arith) (omega arith) (λ e. refl) i le lt
+      ∙ sym (added_line q bytes k lower upper lay_q i le high)
     where
       high : i < upper
       high = omega (arith, lt, ap_p.room)
 
-      in_old : (i < 24 + 4 * k) ⊎ (28 + 4 * k ≤ i) → i < pd_lower p
-      in_old out = ⊎_elim (λ (o : (k < count p) × (lower ≡ pd_lower p) × (lp_len p k ≡ 0)). omega (arith, lt, o.1))
-          (λ (n : (k ≡ count p) × (lower ≡ pd_lower p + 4)). ⊎_elim (λ (l : i < 24 + 4 * k). omega (arith, l, n.0, ap_p.formed.head.low, ap_p.formed.head.by4)) (λ (r : 28 + 4 * k ≤ i). omega (arith, r, lt, n.0, n.1, ap_p.formed.head.low, ap_p.formed.head.by4)) out) ap_p.line
-
-      outside : (i < 24 + 4 * k) ⊎ (28 + 4 * k ≤ i) → byte new_p i ≡ byte new_q i
-      outside out = added_other_line p bytes k lower upper lay_p i le high out ∙ s.same.lines i le (in_old out) ∙ sym (added_other_line q bytes k lower upper lay_q i le high out)
+      in_old : (j : ℕ) → j < lower → Outside k j → j < pd_lower p
+      in_old j to out = ⊎_elim (λ (o : (k < count p) × (lower ≡ pd_lower p) × (lp_len p k ≡ 0)). omega (arith, to, o.1))
+          (λ (n : (k ≡ count p) × (lower ≡ pd_lower p + 4)). ⊎_elim (λ (l : j < 24 + 4 * k). omega (arith, l, n.0, ap_p.formed.head.low, ap_p.formed.head.by4)) (λ (r : 28 + 4 * k ≤ j). omega (arith, r, to, n.0, n.1, ap_p.formed.head.low, ap_p.formed.head.by4)) out) ap_p.line
 
   some_old : (j : ℕ) → j < count new_p → j ≢ k → 0 < lp_len new_p j → 0 < lp_len p j
   some_old j lt ne some = omega (arith, some, kept_len p bytes k lower upper ap_p j ne (old_or_new p bytes k lower upper ap_p j lt ne))

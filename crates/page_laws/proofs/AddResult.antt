@@ -1,18 +1,17 @@
 -- add_item with overwrite on trimmed heap pages: the same refusal, or pages with equal masks.
-use Rattle.std.proofs.Common.{◌≡◌, ℕ, ◌+◌, ◌-◌, ◌*◌, ◌<◌, ◌≤◌, ◌&&◌, ◌||◌, inl, inr, ⊎_elim, List, Bool, true, false, Option, Some, None, length, refl, sym, ◌∙◌, ap, subst, arith}
+use Rattle.std.proofs.Common.{◌≡◌, ℕ, ◌+◌, ◌-◌, ◌*◌, ◌<◌, ◌≤◌, ◌||◌, inl, inr, ⊎_elim, List, Bool, true, false, length, refl, sym, ◌∙◌, ap, subst, arith}
 use Rattle.std.specs.Prelude.{if◌then◌else◌, nat_lt, nat_le}
 use Rattle.std.proofs.lemmas.Bool.Decides.{nat_tests, leb_tells}
 use Rattle.layout.specs.Splice.{splice}
 use Rattle.page_layout.specs.Bytes.{up8, cut}
 use Rattle.page_layout.specs.Page.{pd_lower, pd_upper, pd_special, count, lp_len, IsFormed}
 use Rattle.page_layout.specs.Edits.{is_free, lower_after, add_refusal, opened_at, added_at, added}
-use Rattle.page_layout.specs.declared.refusal.PageRefusal.{PageRefusal}
-use Rattle.page_layout.specs.declared.refusal.PageRefusal.TheVariants.{BadPlace, NoRoom}
 use Rattle.layout.proofs.SpliceLemmas.{length-splice, byte-splice_below, byte-splice_above}
 use Rattle.page_layout.proofs.BytesLemmas.{length-cut, same_pages}
 use Rattle.page_masks.specs.Mask.{mask}
 use Rattle.page_masks.specs.Shapes.{HeapPage, IsHeap}
-use Rattle.page_masks.proofs.Unshown.{heap_mask_is, well}
+use Rattle.page_masks.proofs.Unshown.{heap_mask_is}
+use Rattle.page_laws.proofs.Refused.{NotRefused, Allowed, allowed, same_add_refusal}
 use Rattle.page_laws.proofs.PagesAlike.{PagesAlike, alike_mask, counts_same, len_alike, flags_alike, upper_alike}
 use Rattle.page_laws.proofs.AddViews.{Adds, added_formed, lays}
 use Rattle.page_laws.proofs.AddedBytes.{added_special}
@@ -44,61 +43,32 @@ opened_end p f room = same_pages (splice p (28 + 4 * count p) part) p (length-sp
     fits : 28 + 4 * count p + length part ≤ length p
     fits = omega (arith, none, end, room, f.size, f.head.high, f.head.top)
 
-both_of : (a b : Bool) → (a && b) ≡ true → (a ≡ true) × (b ≡ true)
-both_of true b e = (refl, e)
-both_of false b e = cc e
-
-abbrev pub refusal_by : Bool → Bool → Option PageRefusal
-refusal_by a b = if a then (if b then None else Some NoRoom) else Some BadPlace
-
-by_tests : (a b : Bool) → refusal_by a b ≡ None → (a ≡ true) × (b ≡ true)
-by_tests true true e = (refl, refl)
-by_tests true false e = cc e
-by_tests false b e = cc e
-
-abbrev pub place_test : List ℕ → ℕ → Bool
-place_test p place = nat_lt 0 place && nat_le place (count p + 1) && (nat_lt (count p) place || is_free p (place - 1))
-
-abbrev pub room_test : List ℕ → ℕ → ℕ → Bool
-room_test p len place = nat_le (lower_after p place true + up8 len) (pd_upper p)
-
-pub refusal_is : (p : List ℕ) (len place : ℕ) → IsFormed p → add_refusal p len place true ≡ refusal_by (place_test p place) (room_test p len place)
-refusal_is p len place f = rw (well p f.head f.lines) refl
-
-pub record Allowed (p bytes : List ℕ) (place : ℕ) : Type 0 where
+-- an item that is taken comes over an unused line, or to the end
+pub record AddsAt (p bytes : List ℕ) (place : ℕ) : Type 0 where
   pub adds : Adds p bytes (place - 1) (lower_after p place true) (pd_upper p - up8 (length bytes))
   pub is : added p bytes place true ≡ added_at p bytes (place - 1) (lower_after p place true) (pd_upper p - up8 (length bytes))
 
-pub allowed : (p bytes : List ℕ) (place : ℕ) → IsFormed p → place_test p place ≡ true → room_test p (length bytes) place ≡ true → Allowed p bytes place
-allowed p bytes place f a b = by_case (nat_lt (count p) place) refl
+pub adds_at : (p bytes : List ℕ) (place : ℕ) → IsFormed p → add_refusal p (length bytes) place true ≡ NotRefused → AddsAt p bytes place
+adds_at p bytes place f none = by_case (nat_lt (count p) place) refl a.line a.room
   where
-    t : ((nat_lt 0 place && nat_le place (count p + 1)) ≡ true) × ((nat_lt (count p) place || is_free p (place - 1)) ≡ true)
-    t = both_of (nat_lt 0 place && nat_le place (count p + 1)) (nat_lt (count p) place || is_free p (place - 1)) a
+    a : Allowed p (length bytes) place true
+    a = allowed p (length bytes) place true none
 
-    some : 0 < place
-    some = grind (arith, nat_tests, t.0)
-
-    near : place ≤ count p + 1
-    near = grind (arith, nat_tests, t.0)
-
-    by_case : (z : Bool) → nat_lt (count p) place ≡ z → Allowed p bytes place
-    by_case true e =
+    by_case : (z : Bool) → nat_lt (count p) place ≡ z → (z || is_free p (place - 1)) ≡ true → (if z then pd_lower p + 4 else pd_lower p) + up8 (length bytes) ≤ pd_upper p → AddsAt p bytes place
+    by_case true e line room =
         let past : count p < place = grind (arith, nat_tests, e) in
-        let k : place - 1 ≡ count p = omega (arith, past, near) in
+        let k : place - 1 ≡ count p = omega (arith, past, a.near) in
         let lower : lower_after p place true ≡ pd_lower p + 4 = rw e refl in
-        let room : pd_lower p + 4 + up8 (length bytes) ≤ pd_upper p = let r : nat_le (pd_lower p + 4 + up8 (length bytes)) (pd_upper p) ≡ true = rw (← lower) b in grind (arith, nat_tests, r) in
         record {
           adds = record { formed = f; line = inr (k, lower); room = omega (arith, lower, room); upper_is = omega (arith, room) };
           is = rw e (ap (λ x. added_at x bytes (place - 1) (pd_lower p + 4) (pd_upper p - up8 (length bytes))) (ap (opened_at p) k ∙ opened_end p f (omega (arith, room))));
         }
-    by_case false e =
+    by_case false e line room =
         let here : place ≤ count p = grind (arith, nat_tests, e) in
         let lower : lower_after p place true ≡ pd_lower p = rw e refl in
-        let free : is_free p (place - 1) ≡ true = let x = t.1 in rw e at x in
-        let none : lp_len p (place - 1) ≡ 0 = grind (arith, nat_tests, free) in
-        let room : pd_lower p + up8 (length bytes) ≤ pd_upper p = let r : nat_le (pd_lower p + up8 (length bytes)) (pd_upper p) ≡ true = rw (← lower) b in grind (arith, nat_tests, r) in
+        let none : lp_len p (place - 1) ≡ 0 = grind (arith, nat_tests, line) in
         record {
-          adds = record { formed = f; line = inl (omega (arith, some, here), lower, none); room = omega (arith, lower, room); upper_is = omega (arith, room) };
+          adds = record { formed = f; line = inl (omega (arith, a.some, here), lower, none); room = omega (arith, lower, room); upper_is = omega (arith, room) };
           is = rw e refl;
         }
 
@@ -112,27 +82,14 @@ module _ (block : ℕ) (p q : List ℕ) (hp : IsHeap p) (hq : IsHeap q) (a : Pag
   lower_same : (place : ℕ) → lower_after p place true ≡ lower_after q place true
   lower_same place = λ t. if nat_lt (counts t) place then a.same.lowers t + 4 else a.same.lowers t
 
-  free_same : (k : ℕ) → k < count p → is_free p k ≡ is_free q k
-  free_same k lt = rw (flags_alike block p q a.same hp.head.low hp.head.by4 k lt, len_alike block p q a.same hp.head.low hp.head.by4 k lt) refl
+  pub refusal_alike : (len place : ℕ) → add_refusal p len place true ≡ add_refusal q len place true
+  refusal_alike len place = same_add_refusal p q len place true (heap_formed p hp) (heap_formed q hq) a.same.lowers uppers
+      (λ k e lt. rw (flags_alike block p q a.same hp.head.low hp.head.by4 k lt, len_alike block p q a.same hp.head.low hp.head.by4 k lt) refl)
 
-  pub place_same : (place : ℕ) → place_test p place ≡ place_test q place
-  place_same place = rw (← counts) (pick (nat_lt 0 place) (nat_lt (count p) place) refl refl)
-    where
-      pick : (z n : Bool) → nat_lt 0 place ≡ z → nat_lt (count p) place ≡ n → (z && nat_le place (count p + 1) && (n || is_free p (place - 1))) ≡ (z && nat_le place (count p + 1) && (n || is_free q (place - 1)))
-      pick false n ez en = refl
-      pick true true ez en = refl
-      pick true false ez en =
-          let some : 0 < place = grind (arith, nat_tests, ez) in
-          let here : place ≤ count p = grind (arith, nat_tests, en) in
-          rw (free_same (place - 1) (omega (arith, some, here))) refl
-
-  pub room_same : (len place : ℕ) → room_test p len place ≡ room_test q len place
-  room_same len place = λ t. nat_le (lower_same place t + up8 len) (uppers t)
-
-  pub add_masks : (bytes : List ℕ) (place : ℕ) → place_test p place ≡ true → room_test p (length bytes) place ≡ true → mask block (added p bytes place true) ≡ mask block (added q bytes place true)
-  add_masks bytes place ea eb =
-      let lp = allowed p bytes place (heap_formed p hp) ea eb in
-      let lq = allowed q bytes place (heap_formed q hq) (sym (place_same place) ∙ ea) (sym (room_same (length bytes) place) ∙ eb) in
+  pub add_masks : (bytes : List ℕ) (place : ℕ) → add_refusal p (length bytes) place true ≡ NotRefused → mask block (added p bytes place true) ≡ mask block (added q bytes place true)
+  add_masks bytes place none =
+      let lp = adds_at p bytes place (heap_formed p hp) none in
+      let lq = adds_at q bytes place (heap_formed q hq) (sym (refusal_alike (length bytes) place) ∙ none) in
       let up : pd_upper q - up8 (length bytes) ≡ pd_upper p - up8 (length bytes) = λ t. sym uppers t - up8 (length bytes) in
       let adds_q = subst (λ u. Adds q bytes (place - 1) (lower_after p place true) u) up (subst (λ l. Adds q bytes (place - 1) l (pd_upper q - up8 (length bytes))) (sym (lower_same place)) lq.adds) in
       let made_q : added q bytes place true ≡ added_at q bytes (place - 1) (lower_after p place true) (pd_upper p - up8 (length bytes)) = lq.is ∙ (λ t. added_at q bytes (place - 1) (sym (lower_same place) t) (up t)) in

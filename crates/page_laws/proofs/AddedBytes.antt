@@ -39,7 +39,7 @@ module _ (p bytes : List ℕ) (k lower upper : ℕ) (a : Lays p bytes k lower up
   pub fits : 28 + 4 * k ≤ length p
   fits = omega (arith, a.size, a.line, a.room, a.top)
 
-  small : upper < 32768
+  pub small : upper < 32768
   small = omega (arith, a.top)
 
   one : 1 < 4

@@ -1,22 +1,19 @@
 -- Adding an item to B-tree pages, the later lines moved up: the same refusal, or pages that the mask can't tell apart.
-use Rattle.std.proofs.Common.{◌≡◌, ℕ, ◌+◌, ◌-◌, ◌*◌, ◌/◌, ◌%◌, ◌<◌, ◌≤◌, ◌==◌, ◌&&◌, inl, inr, ⊎_elim, List, ◌++◌, Bool, true, false, Option, Some, None, Result, Ok, length, refl, sym, ◌∙◌, ap, subst, arith}
-use Rattle.std.specs.Prelude.{if◌then◌else◌, nat_lt, nat_le, replicate}
-use Rattle.std.proofs.lemmas.Bool.Decides.{nat_tests, leb_tells}
+use Rattle.std.proofs.Common.{◌≡◌, ℕ, ◌+◌, ◌-◌, ◌*◌, ◌/◌, ◌%◌, ◌<◌, ◌≤◌, ◌==◌, inl, inr, ⊎_elim, List, ◌++◌, Bool, true, false, length, refl, sym, ◌∙◌, ap, subst, arith}
+use Rattle.std.specs.Prelude.{nat_le, replicate}
+use Rattle.std.proofs.lemmas.Bool.Decides.{leb_tells}
 use Rattle.page_layout.specs.Bytes.{byte, u16_bytes, up8}
 use Rattle.page_layout.specs.Page.{pd_lower, pd_upper, pd_special, count, IsFormed}
-use Rattle.page_layout.specs.Edits.{with_pointer, opened_at, added_at, added, add_refusal, add_item, refuse_or}
-use Rattle.page_layout.specs.declared.refusal.PageRefusal.{PageRefusal}
-use Rattle.page_layout.specs.declared.refusal.PageRefusal.TheVariants.{BadPlace, NoRoom}
-use Rattle.page_masks.specs.Mask.{mask, is_leaf}
-use Rattle.page_masks.proofs.Unshown.{well}
+use Rattle.page_layout.specs.Edits.{opened_at, added_at, added, add_refusal, add_item}
+use Rattle.page_layout.proofs.LineViews.{line_bytes}
+use Rattle.page_masks.specs.Mask.{mask, is_leaf, shown_line, shown_flags}
 use Rattle.page_laws.specs.Btree.{BtreePage}
 use Rattle.page_laws.specs.Results.{SameResults}
 use Rattle.page_laws.specs.Views.{InsertsItem}
-use Rattle.page_laws.proofs.SetLineLaw.{pointer_byte}
-use Rattle.page_laws.proofs.BtreeAlike.{shown_line, BtreeAlike, lower_same, upper_same, count_same, btree_masks, btree_alike}
+use Rattle.page_laws.proofs.Refused.{OkPage, NotRefused, allowed, accepted, same_refusals, same_add_refusal}
+use Rattle.page_laws.proofs.BtreeAlike.{BtreeAlike, lower_same, upper_same, btree_masks, btree_alike}
 use Rattle.page_laws.proofs.BtreeLines.{shown_next}
-use Rattle.page_laws.proofs.AddedBytes.{fits}
-use Rattle.page_laws.proofs.InsertViews.{Inserts, lays, inserted_head, inserted_bound, inserted_top, inserted_before, inserted_line, inserted_after, inserted_item_byte, inserted_back, inserted_lower, inserted_upper, inserted_special}
+use Rattle.page_laws.proofs.InsertViews.{Inserts, inserted_head, inserted_bound, inserted_top, inserted_before, inserted_line, inserted_after, inserted_item_byte, inserted_back, inserted_lower, inserted_upper, inserted_special}
 use Rattle.page_laws.proofs.InsertLines.{inserted_formed, inserts_item}
 
 pub btree_formed : (p : List ℕ) → BtreePage p → IsFormed p
@@ -63,8 +60,7 @@ module _ (p q bytes : List ℕ) (k : ℕ) (ip : Inserts p bytes k) (iq : Inserts
       ∙ a.lines (i - 4) (omega (arith, y.1)) (omega (arith, lt, le)) ∙ sym (shown_next (is_leaf p) (i - 4) (byte q (i - 4))) ∙ ap (λ j. shown_line (is_leaf p) j (byte q (i - 4))) on
       ∙ ap (shown_line (is_leaf p) i) (sym (inserted_after q bytes k iq i y.1 (omega (arith, lt, lowers)))))
       (λ (z : (nat_le (28 + 4 * k) i ≡ false) × (i < 28 + 4 * k)). ap (shown_line (is_leaf p) i)
-      (inserted_line p bytes k ip i x.1 z.1 ∙ pointer_byte (opened_at p k) (opened_at q k) k upper 1 len i (fits (opened_at p k) bytes k (pd_lower p + 4) (pd_upper p - up8 len) (lays p bytes k ip)) (fits (opened_at q k) bytes k (pd_lower q + 4) (pd_upper q - up8 len) (lays q bytes k iq)) x.1 z.1
-      ∙ ap (λ u. byte (with_pointer (opened_at q k) k (u - up8 len) 1 len) i) uppers ∙ sym (inserted_line q bytes k iq i x.1 z.1)))
+      (inserted_line p bytes k ip i x.1 z.1 ∙ ap (λ u. byte (line_bytes (u - up8 len) 1 len) (i - (24 + 4 * k))) uppers ∙ sym (inserted_line q bytes k iq i x.1 z.1)))
       (leb_tells (28 + 4 * k) i))
       (λ (y : (nat_le (24 + 4 * k) i ≡ false) × (i < 24 + 4 * k)). ap (shown_line (is_leaf p) i) (inserted_before p bytes k ip i le y.1) ∙ a.lines i le (omega (arith, y.1, ip.place, hp.page.head.low, hp.page.head.by4))
       ∙ ap (shown_line (is_leaf p) i) (sym (inserted_before q bytes k iq i le y.1)))
@@ -90,7 +86,7 @@ module _ (p q bytes : List ℕ) (k : ℕ) (ip : Inserts p bytes k) (iq : Inserts
         inserted_item_byte p bytes k ip i (omega (arith, le, inserted_upper p bytes k ip)) f.1 ∙ ap (λ u. byte (bytes ++ replicate (up8 len - len) 0) (i - (u - up8 len))) uppers
         ∙ sym (inserted_item_byte q bytes k iq i (omega (arith, le, inserted_upper p bytes k ip, uppers)) (omega (arith, f.1, uppers))))
         (leb_tells (pd_upper p) i);
-    flags = (λ t. back_p 8188 (omega arith) t / 128 * 128 + back_p 8188 (omega arith) t % 32) ∙ a.flags ∙ (λ t. sym (back_q 8188 (omega arith)) t / 128 * 128 + sym (back_q 8188 (omega arith)) t % 32);
+    flags = ap shown_flags (back_p 8188 (omega arith)) ∙ a.flags ∙ ap shown_flags (sym (back_q 8188 (omega arith)));
     last = back_p 8189 (omega arith) ∙ a.last ∙ sym (back_q 8189 (omega arith));
   }
 
@@ -103,69 +99,25 @@ module _ (p q bytes : List ℕ) (k : ℕ) (ip : Inserts p bytes k) (iq : Inserts
   pub inserted_masks : (block : ℕ) → mask block new_p ≡ mask block new_q
   inserted_masks block = btree_masks block new_p new_q inserted_page inserted_page_q inserted_alike
 
--- why an item can't be added
-abbrev pub place_test : List ℕ → ℕ → Bool
-place_test p place = nat_lt 0 place && nat_le place (count p + 1)
-
-abbrev pub room_test : List ℕ → ℕ → Bool
-room_test p len = nat_le (pd_lower p + 4 + up8 len) (pd_upper p)
-
-abbrev pub refusal_by : Bool → Bool → Option PageRefusal
-refusal_by a b = if a then (if b then None else Some NoRoom) else Some BadPlace
-
-pub refusal_is : (p : List ℕ) (len place : ℕ) → IsFormed p → add_refusal p len place false ≡ refusal_by (place_test p place) (room_test p len)
-refusal_is p len place f = rw (well p f.head f.lines) (tests (nat_lt 0 place) (nat_le place (count p + 1)))
-  where
-    tests : (x y : Bool) → (if x && y && true then (if nat_le (pd_lower p + 4 + up8 len) (pd_upper p) then None else Some NoRoom) else Some BadPlace) ≡ refusal_by (x && y) (room_test p len)
-    tests true true = refl
-    tests true false = refl
-    tests false y = refl
-
-pub allowed : (p bytes : List ℕ) (place : ℕ) → IsFormed p → place_test p place ≡ true → room_test p (length bytes) ≡ true → Inserts p bytes (place - 1)
-allowed p bytes place f ea eb = record { formed = f; place = let le : place ≤ count p + 1 = grind (arith, nat_tests, ea) in omega (arith, le); room = grind (arith, nat_tests, eb) }
-
--- the answer by the two tests
-pub item_by : (p bytes : List ℕ) (place : ℕ) → IsFormed p → add_item p bytes place false ≡ refuse_or (refusal_by (place_test p place) (room_test p (length bytes))) (added p bytes place false)
-item_by p bytes place f = ap (λ r. refuse_or r (added p bytes place false)) (refusal_is p (length bytes) place f)
+pub inserts : (p bytes : List ℕ) (place : ℕ) → IsFormed p → add_refusal p (length bytes) place false ≡ NotRefused → Inserts p bytes (place - 1)
+inserts p bytes place f none = let a = allowed p (length bytes) place false none in record { formed = f; place = omega (arith, a.near); room = a.room }
 
 pub add_respects : (block place : ℕ) (p q bytes : List ℕ) → BtreePage p → BtreePage q → mask block p ≡ mask block q → SameResults block (add_item p bytes place false) (add_item q bytes place false)
-add_respects block place p q bytes hp hq same = rw (item_by p bytes place (btree_formed p hp), item_by q bytes place (btree_formed q hq), ← places, ← rooms) (pick (place_test p place) (room_test p (length bytes)) refl refl)
-  where
-    a : BtreeAlike p q
-    a = btree_alike block p q hp hq same
-
-    places : place_test p place ≡ place_test q place
-    places = λ t. nat_lt 0 place && nat_le place (count_same p q a t + 1)
-
-    rooms : room_test p (length bytes) ≡ room_test q (length bytes)
-    rooms = λ t. nat_le (lower_same p q a t + 4 + up8 (length bytes)) (upper_same p q a t)
-
-    pick : (x y : Bool) → place_test p place ≡ x → room_test p (length bytes) ≡ y → SameResults block (refuse_or (refusal_by x y) (added p bytes place false)) (refuse_or (refusal_by x y) (added q bytes place false))
-    pick true true ex ey = inserted_masks p q bytes (place - 1) (allowed p bytes place (btree_formed p hp) ex ey) (allowed q bytes place (btree_formed q hq) (sym places ∙ ex) (sym rooms ∙ ey)) hp hq a block
-    pick true false ex ey = refl
-    pick false y ex ey = refl
-
-abbrev OkPage : List ℕ → Result (List ℕ) PageRefusal
-OkPage p = Ok p
-
-pub ok_same : (x y : List ℕ) → OkPage x ≡ OkPage y → x ≡ y
-ok_same x y h = cc h
+add_respects block place p q bytes hp hq same =
+    let a = btree_alike block p q hp hq same in
+    let alike = same_add_refusal p q (length bytes) place false (btree_formed p hp) (btree_formed q hq) (lower_same p q a) (upper_same p q a) (λ k e. cc e) in
+    same_refusals block (add_refusal p (length bytes) place false) (add_refusal q (length bytes) place false) (OkPage (added p bytes place false)) (OkPage (added q bytes place false)) alike
+    (λ none. inserted_masks p q bytes (place - 1) (inserts p bytes place (btree_formed p hp) none) (inserts q bytes place (btree_formed q hq) (sym alike ∙ none)) hp hq a block)
 
 pub add_keeps_page : (place : ℕ) (p bytes r : List ℕ) → BtreePage p → add_item p bytes place false ≡ OkPage r → BtreePage r
-add_keeps_page place p bytes r h e = pick (place_test p place) (room_test p (length bytes)) refl refl (sym (item_by p bytes place (btree_formed p h)) ∙ e)
-  where
-    pick : (x y : Bool) → place_test p place ≡ x → room_test p (length bytes) ≡ y → refuse_or (refusal_by x y) (added p bytes place false) ≡ OkPage r → BtreePage r
-    pick true true ex ey e = let i = allowed p bytes place (btree_formed p h) ex ey in
-        subst BtreePage (ok_same (added p bytes place false) r e) (btree_page p (added p bytes place false) h (inserted_formed p bytes (place - 1) i) (inserted_special p bytes (place - 1) i)
-        (λ i8 le. inserted_back p bytes (place - 1) i i8 (omega (arith, le, h.page.head.high, h.page.special))))
-    pick true false ex ey e = cc e
-    pick false y ex ey e = cc e
+add_keeps_page place p bytes r h e =
+    let t = accepted (add_refusal p (length bytes) place false) (added p bytes place false) r e in
+    let i = inserts p bytes place (btree_formed p h) t.0 in
+    subst BtreePage t.1 (btree_page p (added p bytes place false) h (inserted_formed p bytes (place - 1) i) (inserted_special p bytes (place - 1) i)
+    (λ j le. inserted_back p bytes (place - 1) i j (omega (arith, le, h.page.head.high, h.page.special))))
 
 -- the same of any well formed page, as lines and items
 pub insert_keeps : (p bytes r : List ℕ) (place : ℕ) → IsFormed p → add_item p bytes place false ≡ OkPage r → InsertsItem p (place - 1) bytes r
-insert_keeps p bytes r place f e = pick (place_test p place) (room_test p (length bytes)) refl refl (sym (item_by p bytes place f) ∙ e)
-  where
-    pick : (x y : Bool) → place_test p place ≡ x → room_test p (length bytes) ≡ y → refuse_or (refusal_by x y) (added p bytes place false) ≡ OkPage r → InsertsItem p (place - 1) bytes r
-    pick true true ex ey e = subst (InsertsItem p (place - 1) bytes) (ok_same (added p bytes place false) r e) (inserts_item p bytes (place - 1) (allowed p bytes place f ex ey))
-    pick true false ex ey e = cc e
-    pick false y ex ey e = cc e
+insert_keeps p bytes r place f e =
+    let t = accepted (add_refusal p (length bytes) place false) (added p bytes place false) r e in
+    subst (InsertsItem p (place - 1) bytes) t.1 (inserts_item p bytes (place - 1) (inserts p bytes place f t.0))

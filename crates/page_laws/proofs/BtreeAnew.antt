@@ -11,7 +11,7 @@ use Rattle.page_layout.proofs.BytesLemmas.{length-cut, byte-cut, byte-zeros}
 use Rattle.page_layout.proofs.LineViews.{u16_at-with_u16, u16_at-with_u16_out}
 use Rattle.page_layout.proofs.ReadLemmas.{lower_u16, upper_u16, special_u16}
 use Rattle.page_layout.proofs.ShapeLemmas.{lines_below}
-use Rattle.page_masks.specs.Mask.{mask}
+use Rattle.page_masks.specs.Mask.{mask, shown_flags}
 use Rattle.page_laws.specs.Btree.{BtreePage, made_anew}
 use Rattle.page_laws.proofs.BtreeAlike.{BtreeAlike, btree_masks, btree_alike}
 
@@ -155,7 +155,7 @@ anew_respects block p q hp hq same = btree_masks block (made_anew p) (made_anew 
   lines = λ i le lt. absurd (omega (arith, le, lt, lower_u16 (made_anew p), (anew_empty (cut p 8176 16) (special_size p hp)).lower));
   items = λ i le lt. let high : 8176 ≤ i = omega (arith, le, upper_u16 (made_anew p), (anew_empty (cut p 8176 16) (special_size p hp)).upper) in
       special_at p hp i high (omega (arith, lt)) ∙ a.items i (omega (arith, high, hp.page.head.high, hp.page.special)) lt ∙ sym (special_at q hq i high (omega (arith, lt)));
-  flags = (λ t. end_p 8188 (omega arith) (omega arith) t / 128 * 128 + end_p 8188 (omega arith) (omega arith) t % 32) ∙ a.flags ∙ (λ t. sym (end_q 8188 (omega arith) (omega arith)) t / 128 * 128 + sym (end_q 8188 (omega arith) (omega arith)) t % 32);
+  flags = ap shown_flags (end_p 8188 (omega arith) (omega arith)) ∙ a.flags ∙ ap shown_flags (sym (end_q 8188 (omega arith) (omega arith)));
   last = end_p 8189 (omega arith) (omega arith) ∙ a.last ∙ sym (end_q 8189 (omega arith) (omega arith));
 })
   where

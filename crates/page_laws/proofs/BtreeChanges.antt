@@ -6,7 +6,8 @@ use Rattle.layout.specs.Splice.{splice}
 use Rattle.page_layout.specs.Bytes.{byte, with_u16, u16_bytes}
 use Rattle.layout.proofs.SpliceLemmas.{length-splice, byte-splice, byte-splice_in, byte-splice_out, byte-splice_below, byte-splice_above}
 use Rattle.page_layout.proofs.LineViews.{u16_at-with_u16}
-use Rattle.page_laws.specs.Btree.{shown_flags, SpecialChange, StaysLeaf}
+use Rattle.page_masks.specs.Mask.{shown_flags}
+use Rattle.page_laws.specs.Btree.{SpecialChange, StaysLeaf}
 use Rattle.page_laws.proofs.BtreeSpecial.{same_special, special_same}
 
 -- bytes laid over links and level

@@ -1,83 +1,30 @@
 -- The bytes below an item moved over it, and the lines that point there: on B-tree pages that look alike.
-use Rattle.std.proofs.Common.{◌≡◌, ◌≢◌, ℕ, zero, suc, ◌+◌, ◌-◌, ◌*◌, ◌/◌, ◌%◌, ◌<◌, ◌≤◌, ◌==◌, ◌&&◌, inl, inr, ⊎_elim, List, Bool, true, false, length, refl, sym, ◌∙◌, ap, subst, arith}
+use Rattle.std.proofs.Common.{◌≡◌, ◌≢◌, ℕ, zero, suc, ◌+◌, ◌-◌, ◌*◌, ◌/◌, ◌%◌, ◌<◌, ◌≤◌, ◌==◌, ◌&&◌, inl, ⊎_elim, List, Bool, true, false, length, refl, sym, ◌∙◌, ap, subst, arith}
 use Rattle.std.specs.Prelude.{if◌then◌else◌, nat_lt, nat_le}
 use Rattle.std.proofs.lemmas.Bool.Decides.{nat_tests, eqb_tells, leb_tells}
-use Rattle.layout.specs.Splice.{splice}
-use Rattle.page_layout.specs.Bytes.{byte, u16_bytes, cut, up8}
+use Rattle.page_layout.specs.Bytes.{byte, u16_bytes, up8}
 use Rattle.page_layout.specs.Page.{pd_lower, pd_upper, count, lp_off, lp_flags, lp_len, ItemIn}
 use Rattle.page_layout.specs.Edits.{with_pointer}
 use Rattle.page_layout.specs.Deletes.{raised, moved_line, moved_lines, closed_up}
-use Rattle.layout.proofs.SpliceLemmas.{length-splice, byte-splice_in, byte-splice_out, byte-splice_below}
-use Rattle.page_layout.proofs.BytesLemmas.{length-cut}
-use Rattle.page_layout.proofs.LineViews.{byte_other, pointer_size}
 use Rattle.page_layout.proofs.ShapeLemmas.{held_in, flags_small}
-use Rattle.page_layout.proofs.ClosedUp.{ClosedUp, closed_up_is}
-use Rattle.page_masks.specs.Mask.{is_leaf}
+use Rattle.page_layout.proofs.ClosedUp.{Raised, raised_is, moved_lines_are, ClosedUp, closed_up_is}
+use Rattle.page_masks.specs.Mask.{is_leaf, shown_line, shown_flags}
+use Rattle.page_masks.proofs.Lines.{LinesAlike, alike_off, alike_len, alike_flags, pointer_alike}
 use Rattle.page_laws.specs.Btree.{BtreePage}
 use Rattle.page_laws.proofs.BtreeAdd.{btree_formed}
-use Rattle.page_laws.proofs.BtreeAlike.{shown_line, LinesAlike, BtreeAlike, off_alike, len_alike, flags_alike, lower_same, upper_same, count_same}
-use Rattle.page_laws.proofs.BtreeLines.{pointer_alike}
+use Rattle.page_laws.proofs.BtreeAlike.{BtreeAlike, lower_same, upper_same, count_same}
 use Rattle.page_laws.proofs.BtreeShown.{same_off, same_len}
-
--- the front of a page whose items were raised
-module _ (p : List ℕ) (at size : ℕ) (size_p : length p ≡ 8192) (low : 24 ≤ pd_upper p) (above : pd_upper p ≤ at) (fits : at + size ≤ 8192) where
-  abbrev part : List ℕ
-  part = cut p (pd_upper p) (at - pd_upper p)
-
-  abbrev laid : List ℕ
-  laid = splice p (pd_upper p + size) part
-
-  part_size : length part ≡ at - pd_upper p
-  part_size = length-cut p (pd_upper p) (at - pd_upper p) (omega (arith, size_p, above, fits))
-
-  part_fits : pd_upper p + size + length part ≤ length p
-  part_fits = omega (arith, part_size, size_p, above, fits)
-
-  laid_size : length laid ≡ 8192
-  laid_size = length-splice p (pd_upper p + size) part part_fits ∙ size_p
-
-  raised_size : length (raised p at size) ≡ 8192
-  raised_size = length-splice laid 14 (u16_bytes (pd_upper p + size)) (omega (arith, laid_size)) ∙ laid_size
-
-  raised_front : (i : ℕ) → 16 ≤ i → i < pd_upper p + size → byte (raised p at size) i ≡ byte p i
-  raised_front i le lt = byte-splice_out laid 14 (u16_bytes (pd_upper p + size)) i (omega (arith, laid_size)) (inr le) ∙ byte-splice_below p (pd_upper p + size) part i part_fits lt
-
-  raised_top : (i : ℕ) → 14 ≤ i → i < 16 → byte (raised p at size) i ≡ byte (u16_bytes (pd_upper p + size)) (i - 14)
-  raised_top i le lt = byte-splice_in laid 14 (u16_bytes (pd_upper p + size)) i (omega (arith, laid_size)) le lt
 
 -- one line, moved or not
 module _ (at size n : ℕ) (fits : at + size ≤ 8192) (room : 28 + 4 * n ≤ 8192) where
-  record Moved (page new : List ℕ) : Type 0 where
-    size8 : length new ≡ 8192
-    head : (i : ℕ) → i < 24 → byte new i ≡ byte page i
-
-  moved_one : (page : List ℕ) → length page ≡ 8192 → Moved page (moved_line at size n page)
-  moved_one page is = by_case (nat_lt 0 (lp_len page n) && nat_lt (lp_off page n) at) refl
-    where
-      by_case : (b : Bool) → (nat_lt 0 (lp_len page n) && nat_lt (lp_off page n) at) ≡ b → Moved page (if b then with_pointer page n (lp_off page n + size) (lp_flags page n) (lp_len page n) else page)
-      by_case true e =
-          let lt : lp_off page n < at = grind (arith, nat_tests, e) in
-          record {
-            size8 = pointer_size page n (lp_off page n + size) (lp_flags page n) (lp_len page n) (omega (arith, is, room)) (omega (arith, lt, fits)) (flags_small page n) ∙ is;
-            head = λ i low. byte_other page n (lp_off page n + size) (lp_flags page n) (lp_len page n) (omega (arith, is, room)) (omega (arith, lt, fits)) (flags_small page n) i (inl (omega (arith, low)));
-          }
-      by_case false e = record { size8 = is; head = λ i low. refl }
-
   moved_alike : (leaf : Bool) (lower : ℕ) (a b : List ℕ) → length a ≡ 8192 → length b ≡ 8192 → 28 + 4 * n ≤ lower → LinesAlike leaf lower a b → LinesAlike leaf lower (moved_line at size n a) (moved_line at size n b)
   moved_alike leaf lower a b size_a size_b there s = by_case (nat_lt 0 (lp_len a n) && nat_lt (lp_off a n) at) refl
     where
       off : lp_off a n ≡ lp_off b n
-      off = off_alike leaf lower a b s n there
+      off = alike_off leaf lower a b s n there
 
       len : lp_len a n ≡ lp_len b n
-      len = len_alike leaf lower a b s n there
-
-      kinds : (l : Bool) → LinesAlike l lower a b → l ≡ false → lp_flags a n ≡ lp_flags b n
-      kinds true t e = cc e
-      kinds false t e = flags_alike lower a b t n there
-
-      moves_b : List ℕ
-      moves_b = with_pointer b n (lp_off b n + size) (lp_flags b n) (lp_len b n)
+      len = alike_len leaf lower a b s n there
 
       by_case : (c : Bool) → (nat_lt 0 (lp_len a n) && nat_lt (lp_off a n) at) ≡ c → LinesAlike leaf lower (if c then with_pointer a n (lp_off a n + size) (lp_flags a n) (lp_len a n) else a) (moved_line at size n b)
       by_case true e =
@@ -85,31 +32,19 @@ module _ (at size n : ℕ) (fits : at + size ≤ 8192) (room : 28 + 4 * n ≤ 81
           let e_b : (nat_lt 0 (lp_len b n) && nat_lt (lp_off b n) at) ≡ true = rw (← len, ← off) e in
           let is_b : moved_line at size n b ≡ with_pointer b n (lp_off a n + size) (lp_flags b n) (lp_len a n) = rw e_b (λ t. with_pointer b n (sym off t + size) (lp_flags b n) (sym len t)) in
           subst (LinesAlike leaf lower (with_pointer a n (lp_off a n + size) (lp_flags a n) (lp_len a n))) (sym is_b)
-          (pointer_alike leaf lower a b s n (lp_off a n + size) (lp_flags a n) (lp_flags b n) (lp_len a n) (omega (arith, size_a, room)) (omega (arith, size_b, room)) (omega (arith, lt, fits)) (flags_small a n) (flags_small b n) (kinds leaf s))
+          (pointer_alike leaf lower a b n (lp_off a n + size) (lp_flags a n) (lp_flags b n) (lp_len a n) (λ i from to out. s i from to) (omega (arith, size_a, room)) (omega (arith, size_b, room)) (omega (arith, lt, fits)) (flags_small a n) (flags_small b n) (alike_flags leaf lower a b s n there))
       by_case false e =
           let e_b : (nat_lt 0 (lp_len b n) && nat_lt (lp_off b n) at) ≡ false = rw (← len, ← off) e in
           let is_b : moved_line at size n b ≡ b = rw e_b refl in
           subst (LinesAlike leaf lower a) (sym is_b) s
 
 -- the first n lines
-module _ (at size : ℕ) (fits : at + size ≤ 8192) (r : List ℕ) (size_r : length r ≡ 8192) where
-  record MovedAll (new : List ℕ) : Type 0 where
-    size8 : length new ≡ 8192
-    head : (i : ℕ) → i < 24 → byte new i ≡ byte r i
-
-  moved_all : (n : ℕ) → 24 + 4 * n ≤ 8192 → MovedAll (moved_lines r at size n)
-  moved_all zero le = record { size8 = size_r; head = λ i lt. refl }
-  moved_all (suc n) le =
-      let m = moved_all n (omega (arith, le)) in
-      let o = moved_one at size n fits (omega (arith, le)) (moved_lines r at size n) m.size8 in
-      record { size8 = o.size8; head = λ i lt. o.head i lt ∙ m.head i lt }
-
 all_alike : (at size : ℕ) → at + size ≤ 8192 → (leaf : Bool) (lower : ℕ) (a b : List ℕ) → length a ≡ 8192 → length b ≡ 8192 → lower ≤ 8192 → LinesAlike leaf lower a b
     → (n : ℕ) → 24 + 4 * n ≤ lower → LinesAlike leaf lower (moved_lines a at size n) (moved_lines b at size n)
 all_alike at size fits leaf lower a b size_a size_b top s zero le = s
 all_alike at size fits leaf lower a b size_a size_b top s (suc n) le =
     moved_alike at size n fits (omega (arith, le, top)) leaf lower (moved_lines a at size n) (moved_lines b at size n)
-    (moved_all at size fits a size_a n (omega (arith, le, top))).size8 (moved_all at size fits b size_b n (omega (arith, le, top))).size8 (omega (arith, le))
+    (moved_lines_are a at size n size_a fits (omega (arith, le, top))).size8 (moved_lines_are b at size n size_b fits (omega (arith, le, top))).size8 (omega (arith, le))
     (all_alike at size fits leaf lower a b size_a size_b top s n (omega (arith, le)))
 
 -- what the front of a closed page is
@@ -132,21 +67,21 @@ module _ (p : List ℕ) (h : BtreePage p) (k : ℕ) (there : k < count p) (some 
   low : 24 ≤ pd_upper p
   low = omega (arith, h.page.head.low, h.page.head.mid)
 
-  lines_room : 24 + 4 * count p ≤ pd_lower p
-  lines_room = omega (arith, h.page.head.low, h.page.head.by4)
+  raised_here : Raised p at size r
+  raised_here = raised_is p at size h.page.size low i_k.from (omega (arith, item_fits))
 
   pub r_size : length r ≡ 8192
-  r_size = raised_size p at size h.page.size low i_k.from (omega (arith, item_fits))
+  r_size = raised_here.size8
 
   pub r_front : (i : ℕ) → 24 ≤ i → i < pd_lower p → byte r i ≡ byte p i
-  r_front i le lt = raised_front p at size h.page.size low i_k.from (omega (arith, item_fits)) i (omega (arith, le)) (omega (arith, lt, h.page.head.mid))
+  r_front i le lt = raised_here.front i (omega (arith, le)) (omega (arith, lt, h.page.head.mid))
 
   pub closed_is : closed_up p k ≡ moved_lines r at size (count p)
   closed_is = let sure : nat_lt 0 (lp_len p k) ≡ true = grind (arith, nat_tests, some) in rw sure refl
 
   pub closed_top : (i : ℕ) → 14 ≤ i → i < 16 → byte (closed_up p k) i ≡ byte (u16_bytes (pd_upper p + size)) (i - 14)
-  closed_top i le lt = ap (λ x. byte x i) closed_is ∙ (moved_all at size (omega (arith, item_fits)) r r_size (count p) (omega (arith, lines_room, h.page.head.mid, h.page.head.high, h.page.head.top))).head i (omega (arith, lt))
-      ∙ raised_top p at size h.page.size low i_k.from (omega (arith, item_fits)) i le lt
+  closed_top i le lt = ap (λ x. byte x i) closed_is ∙ (moved_lines_are r at size (count p) r_size (omega (arith, item_fits)) (omega (arith, h.page.head.low, h.page.head.by4, h.page.head.mid, h.page.head.high, h.page.head.top))).outside i (inl (omega (arith, lt)))
+      ∙ raised_here.top i le lt
 
   pub closed : ClosedUp p k (closed_up p k)
   closed = closed_up_is p k (btree_formed p h) there some
@@ -184,7 +119,7 @@ module _ (p q : List ℕ) (hp : BtreePage p) (hq : BtreePage q) (k : ℕ) (there
             (λ (f : (nat_le (lp_off p k + up8 (lp_len p k)) i ≡ false) × (i < lp_off p k + up8 (lp_len p k))). cp.moved i (omega (arith, le, cp.upper)) f.1 ∙ a.items (i - up8 (lp_len p k)) (omega (arith, le, cp.upper)) (omega (arith, lt))
             ∙ ap (λ n. byte q (i - up8 n)) len ∙ sym (cq.moved i (omega (arith, le, cp.upper, uppers, len)) (omega (arith, f.1, off, len))))
             (leb_tells (lp_off p k + up8 (lp_len p k)) i);
-        flags = (λ t. end_p 8188 (omega arith) t / 128 * 128 + end_p 8188 (omega arith) t % 32) ∙ a.flags ∙ (λ t. sym (end_q 8188 (omega arith)) t / 128 * 128 + sym (end_q 8188 (omega arith)) t % 32);
+        flags = ap shown_flags (end_p 8188 (omega arith)) ∙ a.flags ∙ ap shown_flags (sym (end_q 8188 (omega arith)));
         last = end_p 8189 (omega arith) ∙ a.last ∙ sym (end_q 8189 (omega arith));
       }
     where

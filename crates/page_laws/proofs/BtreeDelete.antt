@@ -1,12 +1,13 @@
 -- Deleting items of B-tree pages: the same refusal, or pages that the mask can't tell apart.
-use Rattle.std.proofs.Common.{◌≡◌, ℕ, zero, suc, ◌+◌, ◌-◌, ◌<◌, ◌≤◌, ◌&&◌, ⊎_elim, List, [], ◌∷◌, Bool, true, false, Some, None, Result, Ok, Err, length, refl, sym, ◌∙◌, ap, subst, arith}
+use Rattle.std.proofs.Common.{◌≡◌, ℕ, zero, suc, ◌+◌, ◌-◌, ◌<◌, ◌≤◌, ◌&&◌, ⊎_elim, List, [], ◌∷◌, Bool, true, false, Option, Some, length, refl, sym, ◌∙◌, ap, subst, arith}
 use Rattle.std.specs.Prelude.{if◌then◌else◌, nat_lt, nat_le}
-use Rattle.std.proofs.lemmas.Bool.Decides.{nat_tests, leb_tells}
+use Rattle.std.proofs.lemmas.Bool.Decides.{leb_tells}
 use Rattle.page_layout.specs.Apart.{AreApart}
 use Rattle.page_layout.specs.Bytes.{byte, up8}
-use Rattle.page_layout.specs.Deletes.{are_places, without_line, without_lines, closed_up, without_item, without_items, is_apart, apart_below, all_apart, packed_if_room, deleted, refuse_or_try, delete_items}
-use Rattle.page_layout.specs.Pack.{total, has_room, packed}
-use Rattle.page_layout.specs.Page.{pd_lower, pd_upper, pd_special, count, lp_off, lp_len, IsFormed}
+use Rattle.page_layout.specs.Deletes.{are_places, without_line, without_lines, closed_up, without_item, without_items, is_apart, apart_below, all_apart, packed_if_room, deleted, delete_items}
+use Rattle.page_layout.specs.Edits.{refuse_or}
+use Rattle.page_layout.specs.Pack.{room_refusal, packed}
+use Rattle.page_layout.specs.Page.{pd_upper, pd_special, count, lp_off, lp_len, IsFormed}
 use Rattle.page_layout.specs.declared.refusal.PageRefusal.{PageRefusal}
 use Rattle.page_layout.specs.declared.refusal.PageRefusal.TheVariants.{BadPlace, NoRoom}
 use Rattle.page_layout.proofs.ApartLemmas.{test_apart}
@@ -19,7 +20,8 @@ use Rattle.page_masks.specs.Mask.{mask}
 use Rattle.page_masks.proofs.Unshown.{well}
 use Rattle.page_laws.specs.Btree.{BtreePage}
 use Rattle.page_laws.specs.Results.{SameResults}
-use Rattle.page_laws.proofs.BtreeAdd.{btree_formed, btree_page, ok_same}
+use Rattle.page_laws.proofs.Refused.{OkPage, NotRefused, tried, accepted, same_refusals, passed, room_of}
+use Rattle.page_laws.proofs.BtreeAdd.{btree_formed, btree_page}
 use Rattle.page_laws.proofs.BtreeAlike.{BtreeAlike, count_same, btree_masks, btree_alike}
 use Rattle.page_laws.proofs.BtreeClose.{closed_alike}
 use Rattle.page_laws.proofs.BtreeLines.{line_out_alike}
@@ -161,28 +163,20 @@ module _ (p q : List ℕ) (hp : BtreePage p) (hq : BtreePage q) (a : BtreeAlike 
   apart_same = all_same (count p) (omega arith) ∙ ap (all_apart q) counts
 
 -- the page packed, if its items fit
-room_of : (s : List ℕ) → has_room s ≡ true → pd_lower s + total s (count s) ≤ pd_special s
-room_of s e = grind (arith, nat_tests, e)
-
-abbrev OkPage : List ℕ → Result (List ℕ) PageRefusal
-OkPage p = Ok p
-
 packed_results : (block : ℕ) (p q : List ℕ) → BtreePage p → BtreePage q → BtreeAlike p q → SameResults block (packed_if_room p) (packed_if_room q)
-packed_results block p q hp hq a = rw (← same_room p q hp hq a) (pick (has_room p) refl)
-  where
-    pick : (x : Bool) → has_room p ≡ x → SameResults block (if x then Ok (packed p) else Err NoRoom) (if x then Ok (packed q) else Err NoRoom)
-    pick true e = btree_masks block (packed p) (packed q) (packed_page p hp (room_of p e)) (packed_page q hq (room_of q (sym (same_room p q hp hq a) ∙ e))) (packed_alike p q hp hq a (room_of p e))
-    pick false e = refl
+packed_results block p q hp hq a =
+    let rooms = same_room p q hp hq a in
+    same_refusals block (room_refusal p) (room_refusal q) (OkPage (packed p)) (OkPage (packed q)) (λ t. if rooms t then NotRefused else Some NoRoom)
+    (λ none. btree_masks block (packed p) (packed q) (packed_page p hp (room_of p none)) (packed_page q hq (room_of q ((λ t. if sym rooms t then NotRefused else Some NoRoom) ∙ none))) (packed_alike p q hp hq a (room_of p none)))
 
 packed_keeps : (p r : List ℕ) → BtreePage p → packed_if_room p ≡ OkPage r → BtreePage r
-packed_keeps p r h e = pick (has_room p) refl e
-  where
-    pick : (x : Bool) → has_room p ≡ x → (if x then OkPage (packed p) else Err NoRoom) ≡ OkPage r → BtreePage r
-    pick true on is = subst BtreePage (ok_same (packed p) r is) (packed_page p h (room_of p on))
-    pick false on is = cc is
+packed_keeps p r h e = let t = accepted (room_refusal p) (packed p) r e in subst BtreePage t.1 (packed_page p h (room_of p t.0))
 
 -- the answer by its tests
-delete_by : (p places : List ℕ) → BtreePage p → delete_items p places ≡ refuse_or_try (if are_places (count p) 0 places then None else Some BadPlace) (deleted p places)
+abbrev places_by : ℕ → List ℕ → Option PageRefusal
+places_by lines places = if are_places lines 0 places then NotRefused else Some BadPlace
+
+delete_by : (p places : List ℕ) → BtreePage p → delete_items p places ≡ refuse_or (places_by (count p) places) (deleted p places)
 delete_by p places h = rw (well p h.page.head h.page.lines) refl
 
 second : (x y : Bool) → (x && y) ≡ true → y ≡ true
@@ -191,8 +185,7 @@ second false y e = cc e
 
 pub delete_respects : (block : ℕ) (p q places : List ℕ) → BtreePage p → BtreePage q → mask block p ≡ mask block q → SameResults block (delete_items p places) (delete_items q places)
 delete_respects block p q places hp hq same = rw (delete_by p places hp, delete_by q places hq)
-    (subst (λ n. SameResults block (refuse_or_try (if are_places (count p) 0 places then None else Some BadPlace) (deleted p places)) (refuse_or_try (if are_places n 0 places then None else Some BadPlace) (deleted q places))) (count_same p q a)
-    (pick (are_places (count p) 0 places) refl))
+    (same_refusals block (places_by (count p) places) (places_by (count q) places) (deleted p places) (deleted q places) (ap (λ n. places_by n places) (count_same p q a)) (λ none. both (passed (are_places (count p) 0 places) BadPlace none)))
   where
     a : BtreeAlike p q
     a = btree_alike block p q hp hq same
@@ -203,28 +196,22 @@ delete_respects block p q places hp hq same = rw (delete_by p places hp, delete_
     tests : test p ≡ test q
     tests = λ t. nat_le (length places) 2 && apart_same p q hp hq a t
 
-    tried : are_places (count p) 0 places ≡ true → (y : Bool) → test p ≡ y → SameResults block (if y then Ok (without_items p places) else packed_if_room (without_lines p places)) (if y then Ok (without_items q places) else packed_if_room (without_lines q places))
-    tried e true t =
+    by_test : are_places (count p) 0 places ≡ true → (y : Bool) → test p ≡ y → SameResults block (if y then OkPage (without_items p places) else packed_if_room (without_lines p places)) (if y then OkPage (without_items q places) else packed_if_room (without_lines q places))
+    by_test e true t =
         let apart_p = test_apart p (second (nat_le (length places) 2) (all_apart p (count p)) t) in
         let apart_q = test_apart q (second (nat_le (length places) 2) (all_apart q (count q)) (sym tests ∙ t)) in
         btree_masks block (without_items p places) (without_items q places) (items_out p hp apart_p 0 places e).page (items_out q hq apart_q 0 places (places_q p q hp hq a 0 places e)).page
         (items_alike p q hp hq a apart_p apart_q 0 places e)
-    tried e false t = packed_results block (without_lines p places) (without_lines q places) (lines_out p hp 0 places e).page (lines_out q hq 0 places (places_q p q hp hq a 0 places e)).page (lines_alike p q hp hq a 0 places e)
+    by_test e false t = packed_results block (without_lines p places) (without_lines q places) (lines_out p hp 0 places e).page (lines_out q hq 0 places (places_q p q hp hq a 0 places e)).page (lines_alike p q hp hq a 0 places e)
 
-    pick : (x : Bool) → are_places (count p) 0 places ≡ x → SameResults block (refuse_or_try (if x then None else Some BadPlace) (deleted p places)) (refuse_or_try (if x then None else Some BadPlace) (deleted q places))
-    pick true e = subst (λ y. SameResults block (deleted p places) (if y then Ok (without_items q places) else packed_if_room (without_lines q places))) tests (tried_at e)
-      where
-        tried_at : are_places (count p) 0 places ≡ true → SameResults block (deleted p places) (if test p then Ok (without_items q places) else packed_if_room (without_lines q places))
-        tried_at e = tried e (test p) refl
-    pick false e = refl
+    both : are_places (count p) 0 places ≡ true → SameResults block (deleted p places) (deleted q places)
+    both e = subst (λ y. SameResults block (deleted p places) (if y then OkPage (without_items q places) else packed_if_room (without_lines q places))) tests (by_test e (test p) refl)
 
 pub delete_keeps_page : (p places r : List ℕ) → BtreePage p → delete_items p places ≡ OkPage r → BtreePage r
-delete_keeps_page p places r h e = pick (are_places (count p) 0 places) refl (sym (delete_by p places h) ∙ e)
+delete_keeps_page p places r h e =
+    let t = tried (places_by (count p) places) (deleted p places) r (sym (delete_by p places h) ∙ e) in
+    kept (passed (are_places (count p) 0 places) BadPlace t.0) (nat_le (length places) 2 && all_apart p (count p)) refl t.1
   where
-    tried : are_places (count p) 0 places ≡ true → (y : Bool) → (nat_le (length places) 2 && all_apart p (count p)) ≡ y → (if y then OkPage (without_items p places) else packed_if_room (without_lines p places)) ≡ OkPage r → BtreePage r
-    tried ok true t is = subst BtreePage (ok_same (without_items p places) r is) (items_out p h (test_apart p (second (nat_le (length places) 2) (all_apart p (count p)) t)) 0 places ok).page
-    tried ok false t is = packed_keeps (without_lines p places) r (lines_out p h 0 places ok).page is
-
-    pick : (x : Bool) → are_places (count p) 0 places ≡ x → refuse_or_try (if x then None else Some BadPlace) (deleted p places) ≡ OkPage r → BtreePage r
-    pick true ok is = tried ok (nat_le (length places) 2 && all_apart p (count p)) refl is
-    pick false ok is = cc is
+    kept : are_places (count p) 0 places ≡ true → (y : Bool) → (nat_le (length places) 2 && all_apart p (count p)) ≡ y → (if y then OkPage (without_items p places) else packed_if_room (without_lines p places)) ≡ OkPage r → BtreePage r
+    kept ok true t is = subst BtreePage (accepted NotRefused (without_items p places) r is).1 (items_out p h (test_apart p (second (nat_le (length places) 2) (all_apart p (count p)) t)) 0 places ok).page
+    kept ok false t is = packed_keeps (without_lines p places) r (lines_out p h 0 places ok).page is

@@ -9,27 +9,21 @@ use Rattle.page_layout.proofs.ShapeLemmas.{held_in}
 use Rattle.page_masks.specs.declared.kind.PageKind.TheVariants.{Zero, Btree}
 use Rattle.page_masks.specs.Kind.{kind_of, is_zero}
 use Rattle.page_masks.specs.Mask.{mask, is_leaf}
+use Rattle.page_masks.proofs.Lines.{alike_off, alike_len}
 use Rattle.page_masks.proofs.MaskShape.{kind_shown}
 use Rattle.page_masks.proofs.ShapeKind.{shape_kind, shape_cases, shape_btree}
-use Rattle.page_masks.proofs.Unshown.{zero_byte}
+use Rattle.page_masks.proofs.Unshown.{not_zero}
 use Rattle.page_laws.specs.Btree.{BtreePage, SameBtreeItems}
 use Rattle.page_laws.proofs.BtreeAdd.{btree_formed}
-use Rattle.page_laws.proofs.BtreeAlike.{BtreeAlike, off_alike, len_alike, count_same, leaf_same, btree_alike}
+use Rattle.page_laws.proofs.BtreeAlike.{BtreeAlike, count_same, leaf_same, btree_alike}
 
 -- the page's kind, and back
-not_zeros : (p : List ℕ) → u16_at p 18 ≡ 8196 → is_zero p ≡ false
-not_zeros p e = by_case (is_zero p) refl
-  where
-    by_case : (b : Bool) → is_zero p ≡ b → is_zero p ≡ false
-    by_case true h = absurd (omega (arith, e, zero_byte p 18 h, zero_byte p 19 h))
-    by_case false h = h
-
 kind_open : (p : List ℕ) → kind_of p ≡ (if is_zero p then Zero else shape_kind p)
 unfolding kind_of
 kind_open p = refl
 
 kind_of_page : (p : List ℕ) → BtreePage p → kind_of p ≡ Btree
-kind_of_page p h = kind_open p ∙ rw (not_zeros p h.page.head.layout) (shape_btree p h.page h.cycle).is
+kind_of_page p h = kind_open p ∙ rw (not_zero p h.page.head.layout) (shape_btree p h.page h.cycle).is
 
 page_of_kind : (p : List ℕ) → length p ≡ 8192 → kind_of p ≡ Btree → BtreePage p
 page_of_kind p size e = by_case (is_zero p) (sym (kind_open p) ∙ e)
@@ -52,10 +46,10 @@ module _ (p q : List ℕ) (hp : BtreePage p) (hq : BtreePage q) (a : BtreeAlike 
   in_lines k lt = omega (arith, lt, hp.page.head.low, hp.page.head.by4)
 
   pub same_off : (k : ℕ) → k < count p → lp_off p k ≡ lp_off q k
-  same_off k lt = off_alike (is_leaf p) (pd_lower p) p q a.lines k (in_lines k lt)
+  same_off k lt = alike_off (is_leaf p) (pd_lower p) p q a.lines k (in_lines k lt)
 
   pub same_len : (k : ℕ) → k < count p → lp_len p k ≡ lp_len q k
-  same_len k lt = len_alike (is_leaf p) (pd_lower p) p q a.lines k (in_lines k lt)
+  same_len k lt = alike_len (is_leaf p) (pd_lower p) p q a.lines k (in_lines k lt)
 
   pub same_item : (k : ℕ) → k < count p → 0 < lp_len p k → item p k ≡ item q k
   same_item k lt some =

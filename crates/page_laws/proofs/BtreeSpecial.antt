@@ -10,9 +10,9 @@ use Rattle.layout.proofs.SpliceLemmas.{length-splice, byte-splice_in, byte-splic
 use Rattle.page_layout.proofs.BytesLemmas.{length-cut, byte-cut}
 use Rattle.page_layout.proofs.Front as Front
 use Rattle.page_layout.proofs.Front.{SameFront}
-use Rattle.page_masks.specs.Mask.{mask, is_leaf}
-use Rattle.page_laws.specs.Btree.{BtreePage, shown_flags, shown_special, with_special, SpecialChange, StaysLeaf}
-use Rattle.page_laws.proofs.BtreeAlike.{shown_line, BtreeAlike, btree_masks, btree_alike}
+use Rattle.page_masks.specs.Mask.{mask, is_leaf, shown_line, shown_flags}
+use Rattle.page_laws.specs.Btree.{BtreePage, shown_special, with_special, SpecialChange, StaysLeaf}
+use Rattle.page_laws.proofs.BtreeAlike.{BtreeAlike, btree_masks, btree_alike}
 
 -- what is shown of 16 bytes
 module _ (x : List ℕ) (size : length x ≡ 16) where

@@ -1,20 +1,21 @@
 -- An edit of one item can't tell heap pages with equal masks.
-use Rattle.std.proofs.Common.{◌≡◌, ◌≢◌, ℕ, ◌+◌, ◌-◌, ◌*◌, ◌/◌, ◌%◌, ◌<◌, ◌≤◌, ◌==◌, ◌&&◌, ◌⊎◌, inl, inr, ⊎_elim, List, true, false, None, length, sym, ◌∙◌, ap, subst, arith}
-use Rattle.std.specs.Prelude.{if◌then◌else◌, nat_lt, nat_le}
+use Rattle.std.proofs.Common.{◌≡◌, ◌≢◌, ℕ, ◌+◌, ◌-◌, ◌*◌, ◌/◌, ◌%◌, ◌<◌, ◌≤◌, ◌==◌, ◌⊎◌, inl, inr, ⊎_elim, List, true, false, None, length, sym, ◌∙◌, ap, subst, arith}
+use Rattle.std.specs.Prelude.{nat_le}
 use Rattle.std.proofs.lemmas.Bool.Decides.{eqb_tells, leb_tells}
 use Rattle.std.proofs.lemmas.List.{ext_get_or}
 use Rattle.page_layout.specs.Bytes.{byte, cut, up8}
-use Rattle.page_layout.specs.Page.{pd_upper, count, lp_off, lp_flags, lp_len, item, Head, ItemIn}
+use Rattle.page_layout.specs.Page.{pd_lower, pd_upper, count, lp_off, lp_flags, lp_len, item, Head, ItemIn}
 use Rattle.layout.proofs.SpliceLemmas.{length-splice, byte-splice_in, byte-splice_out, byte-splice_below}
 use Rattle.page_layout.proofs.BytesLemmas.{length-cut, byte-cut}
 use Rattle.page_layout.proofs.Front as Front
 use Rattle.page_layout.proofs.Front.{SameFront}
-use Rattle.page_masks.specs.Mask.{masked_item, holds, holder, shown_lower, masked_front}
+use Rattle.page_masks.specs.Mask.{masked_item, holds, holder}
 use Rattle.page_masks.specs.Shapes.{HeapPage}
 use Rattle.page_layout.specs.Apart.{AreApart}
 use Rattle.page_laws.specs.Change.{edited, ItemChange}
 use Rattle.page_masks.proofs.Trimmed.{heap_stays}
-use Rattle.page_masks.proofs.Alike.{Alike, heap_mask, alike_of, mask_of_alike, fit_of, holder_same, none_not, holds_in}
+use Rattle.page_masks.proofs.Holders.{fit_of, holder_same, none_not, holds_in}
+use Rattle.page_laws.proofs.PagesAlike.{PagesAlike, counts_same, off_alike, len_alike, flags_alike}
 
 -- items that don't overlap stay so with the same front
 pub apart_stays : (p q : List ℕ) → Head p → SameFront p q → AreApart p → AreApart q
@@ -108,30 +109,24 @@ module _ (block k : ℕ) (change : List ℕ → List ℕ) (law : ItemChange bloc
       (λ (f : (nat_le (lp_off p k) i ≡ false) × (i < lp_off p k)). inl f.1)
       (leb_tells (lp_off p k) i)
 
-  front_same : (p : List ℕ) (i : ℕ) → Editable k p → i < pd_upper p → masked_front (edited k change p) i ≡ masked_front p i
-  unfolding masked_front
-  front_same p i e lt =
-      let new = edited k change p in
-      let s : shown_lower new ≡ shown_lower p = ap (λ n. 24 + 4 * n) ((page_stays p e).trimmed ∙ Front.count_same p new e.page.head (same_front p e) ∙ sym e.page.trimmed) in
-      let b = front_stays p i e lt in
-      let ten = front_stays p 10 e (omega (arith, e.page.head.low, e.page.head.mid)) in
-      λ t. if nat_lt i 10 then 0 else if i == 10 then ten t / 8 * 8 else if i == 12 then s t % 256 else if i == 13 then s t / 256 else if nat_le 20 i && nat_lt i 24 then 0 else if nat_lt i (s t) then b t else 0
-
-  edit_alike : (p q : List ℕ) → Editable k p → Editable k q → lp_flags p k ≡ 1 → Alike block p q → Alike block (edited k change p) (edited k change q)
+  pub edit_alike : (p q : List ℕ) → Editable k p → Editable k q → lp_flags p k ≡ 1 → PagesAlike block p q → PagesAlike block (edited k change p) (edited k change q)
   edit_alike p q ep eq normal a = record {
-    counts = n_p ∙ a.counts ∙ sym n_q;
-    lowers = Front.lower_same p new_p ep.page.head (same_front p ep) ∙ a.lowers ∙ sym (Front.lower_same q new_q eq.page.head (same_front q eq));
-    uppers = u_p ∙ a.uppers ∙ sym u_q;
-    offs = λ j lt. off p j ep (in_p j lt) ∙ a.offs j (in_p j lt) ∙ sym (off q j eq (in_q j lt));
-    lens = λ j lt. len p j ep (in_p j lt) ∙ a.lens j (in_p j lt) ∙ sym (len q j eq (in_q j lt));
-    flags = λ j lt. flag p j ep (in_p j lt) ∙ a.flags j (in_p j lt) ∙ sym (flag q j eq (in_q j lt));
-    front = λ i lt. front_same p i ep (omega (arith, u_p)) ∙ a.front i (omega (arith, u_p)) ∙ sym (front_same q i eq (omega (arith, u_p, a.uppers)));
-    items = λ j lt some. items j (in_p j lt) (omega (arith, len p j ep (in_p j lt)));
+    same = record {
+      lowers = Front.lower_same p new_p ep.page.head (same_front p ep) ∙ a.same.lowers ∙ sym (Front.lower_same q new_q eq.page.head (same_front q eq));
+      ten = (λ t. front_p 10 (omega arith) t / 8 * 8) ∙ a.same.ten ∙ (λ t. sym (front_q 10 (omega arith)) t / 8 * 8);
+      eleven = front_p 11 (omega arith) ∙ a.same.eleven ∙ sym (front_q 11 (omega arith));
+      head = λ i le lt. front_p i (omega (arith, lt)) ∙ a.same.head i le lt ∙ sym (front_q i (omega (arith, lt)));
+      lines = λ i le lt. let below : i < pd_lower p = omega (arith, lt, Front.lower_same p new_p ep.page.head (same_front p ep)) in
+          front_stays p i ep (omega (arith, below, ep.page.head.mid)) ∙ a.same.lines i le below ∙ sym (front_stays q i eq (omega (arith, below, a.same.lowers, eq.page.head.mid)));
+      items = λ j lt some. items j (in_p j lt) (omega (arith, some, len p j ep (in_p j lt)));
+    };
+    uppers = (front_p 14 (omega arith) ∙ a.uppers.0 ∙ sym (front_q 14 (omega arith)), front_p 15 (omega arith) ∙ a.uppers.1 ∙ sym (front_q 15 (omega arith)));
     free = λ i le lt none.
+        let le_p : pd_upper p ≤ i = omega (arith, le, Front.upper_same p new_p ep.page.head (same_front p ep)) in
         let old : holder p (count p) i ≡ None = sym (ap (λ n. holder new_p n i) n_p ∙ holder_same new_p p (count p) i (λ j l. off p j ep l) (λ j l. len p j ep l)) ∙ none in
-        let old_q : holder q (count q) i ≡ None = sym (holder_same p q (count p) i a.offs a.lens ∙ ap (λ n. holder q n i) a.counts) ∙ old in
+        let old_q : holder q (count q) i ≡ None = sym (holder_same p q (count p) i (λ j l. off_alike block p q a.same low by4 j l) lens ∙ ap (λ n. holder q n i) counts) ∙ old in
         byte-splice_out p (lp_off p k) (change (item p k)) i (room p ep) (outside_held p i ep (none_not p (count p) k i old ep.there))
-        ∙ a.free i (omega (arith, u_p)) lt old
+        ∙ a.free i le_p lt old
         ∙ sym (byte-splice_out q (lp_off q k) (change (item q k)) i (room q eq) (outside_held q i eq (none_not q (count q) k i old_q eq.there)));
   }
     where
@@ -141,48 +136,51 @@ module _ (block k : ℕ) (change : List ℕ → List ℕ) (law : ItemChange bloc
       new_q : List ℕ
       new_q = edited k change q
 
+      low : 24 ≤ pd_lower p
+      low = ep.page.head.low
+
+      by4 : pd_lower p % 4 ≡ 0
+      by4 = ep.page.head.by4
+
+      counts : count p ≡ count q
+      counts = counts_same block p q a.same low by4
+
+      lens : (j : ℕ) → j < count p → lp_len p j ≡ lp_len q j
+      lens j lt = len_alike block p q a.same low by4 j lt
+
+      front_p : (i : ℕ) → i < 24 → byte (edited k change p) i ≡ byte p i
+      front_p i lt = front_stays p i ep (omega (arith, lt, ep.page.head.low, ep.page.head.mid))
+
+      front_q : (i : ℕ) → i < 24 → byte (edited k change q) i ≡ byte q i
+      front_q i lt = front_stays q i eq (omega (arith, lt, eq.page.head.low, eq.page.head.mid))
+
       n_p : count (edited k change p) ≡ count p
       n_p = Front.count_same p (edited k change p) ep.page.head (same_front p ep)
 
-      n_q : count (edited k change q) ≡ count q
-      n_q = Front.count_same q (edited k change q) eq.page.head (same_front q eq)
-
-      u_p : pd_upper (edited k change p) ≡ pd_upper p
-      u_p = Front.upper_same p (edited k change p) ep.page.head (same_front p ep)
-
-      u_q : pd_upper (edited k change q) ≡ pd_upper q
-      u_q = Front.upper_same q (edited k change q) eq.page.head (same_front q eq)
-
       in_p : (j : ℕ) → j < count (edited k change p) → j < count p
-      in_p j lt = omega (arith, n_p)
-
-      in_q : (j : ℕ) → j < count (edited k change p) → j < count q
-      in_q j lt = omega (arith, n_p, a.counts)
+      in_p j lt = omega (arith, lt, n_p)
 
       flag : (r : List ℕ) (j : ℕ) → Editable k r → j < count r → lp_flags (edited k change r) j ≡ lp_flags r j
       flag r j e lt = Front.flags_same r (edited k change r) e.page.head (same_front r e) j lt
 
       sizes : length (item p k) ≡ length (item q k)
-      sizes = let ip = inside p ep in let iq = inside q eq in length-cut p (lp_off p k) (lp_len p k) (omega (arith, ip.to, ep.page.head.top, ep.page.size)) ∙ a.lens k ep.there ∙ sym (length-cut q (lp_off q k) (lp_len q k) (omega (arith, iq.to, eq.page.head.top, eq.page.size)))
+      sizes = let ip = inside p ep in let iq = inside q eq in length-cut p (lp_off p k) (lp_len p k) (omega (arith, ip.to, ep.page.head.top, ep.page.size)) ∙ lens k ep.there ∙ sym (length-cut q (lp_off q k) (lp_len q k) (omega (arith, iq.to, eq.page.head.top, eq.page.size)))
 
       long : 23 ≤ length (item p k)
       long = let ip = inside p ep in omega (arith, length-cut p (lp_off p k) (lp_len p k) (omega (arith, ip.to, ep.page.head.top, ep.page.size)), ep.long)
 
       at_k : masked_item block (k + 1) (lp_flags p k) (change (item p k)) ≡ masked_item block (k + 1) (lp_flags q k) (change (item q k))
       at_k =
-          let normal_q : lp_flags q k ≡ 1 = sym (a.flags k ep.there) ∙ normal in
-          let old = rw (normal, normal_q) at (a.items k ep.there (omega (arith, ep.long))) in
+          let normal_q : lp_flags q k ≡ 1 = sym (flags_alike block p q a.same low by4 k ep.there) ∙ normal in
+          let old = rw (normal, normal_q) at (a.same.items k ep.there (omega (arith, ep.long))) in
           rw (normal, normal_q) (law.mask (item p k) (item q k) long sizes old)
 
       items : (j : ℕ) → j < count p → 0 < lp_len p j → masked_item block (j + 1) (lp_flags (edited k change p) j) (item (edited k change p) j) ≡ masked_item block (j + 1) (lp_flags (edited k change q) j) (item (edited k change q) j)
       items j lt some =
-          let lt_q : j < count q = omega (arith, a.counts) in
-          let some_q : 0 < lp_len q j = omega (arith, a.lens j lt) in
+          let lt_q : j < count q = omega (arith, lt, counts) in
+          let some_q : 0 < lp_len q j = omega (arith, some, lens j lt) in
           rw (flag p j ep lt, flag q j eq lt_q) (⊎_elim
           (λ (t : ((j == k) ≡ true) × (j ≡ k)). subst (λ x. masked_item block (x + 1) (lp_flags p x) (item (edited k change p) x) ≡ masked_item block (x + 1) (lp_flags q x) (item (edited k change q) x)) (sym t.1)
           (rw (item_new p ep, item_new q eq) at_k))
-          (λ (f : ((j == k) ≡ false) × (j ≢ k)). rw (item_other p j ep lt f.1 some, item_other q j eq lt_q f.1 some_q) (a.items j lt some))
+          (λ (f : ((j == k) ≡ false) × (j ≢ k)). rw (item_other p j ep lt f.1 some, item_other q j eq lt_q f.1 some_q) (a.same.items j lt some))
           (eqb_tells j k))
-
-  pub edit_law : (p q : List ℕ) → Editable k p → Editable k q → lp_flags p k ≡ 1 → heap_mask block p ≡ heap_mask block q → heap_mask block (edited k change p) ≡ heap_mask block (edited k change q)
-  edit_law p q ep eq normal same = mask_of_alike block (edited k change p) (edited k change q) (page_stays p ep) (page_stays q eq) (edit_alike p q ep eq normal (alike_of block p q ep.page eq.page same ep.apart eq.apart))

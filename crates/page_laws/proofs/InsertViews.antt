@@ -3,11 +3,12 @@ use Rattle.std.proofs.Common.{◌≡◌, ℕ, ◌+◌, ◌-◌, ◌*◌, ◌<◌
 use Rattle.std.specs.Prelude.{replicate}
 use Rattle.page_layout.specs.Bytes.{byte, u16_bytes, up8, cut}
 use Rattle.page_layout.specs.Page.{pd_lower, pd_upper, pd_special, count, IsFormed}
-use Rattle.page_layout.specs.Edits.{with_pointer, opened_at, added_at}
+use Rattle.page_layout.specs.Edits.{opened_at, added_at}
 use Rattle.layout.proofs.SpliceLemmas.{length-splice, byte-splice_in, byte-splice_below, byte-splice_above}
 use Rattle.page_layout.proofs.BytesLemmas.{length-cut, byte-cut}
+use Rattle.page_layout.proofs.LineViews.{line_bytes, pointer_in}
 use Rattle.page_layout.proofs.ReadLemmas.{special_u16}
-use Rattle.page_laws.proofs.AddedBytes.{Lays, added_size, added_head, added_line, added_other_line, added_lower_byte, added_upper_byte, added_item_byte, added_back, added_lower, added_upper}
+use Rattle.page_laws.proofs.AddedBytes.{Lays, fits, added_size, added_head, added_line, added_other_line, added_lower_byte, added_upper_byte, added_item_byte, added_back, added_lower, added_upper}
 
 -- a place up to the one past the last, and room for a line and the item
 pub record Inserts (p bytes : List ℕ) (k : ℕ) : Type 0 where
@@ -90,8 +91,8 @@ module _ (p bytes : List ℕ) (k : ℕ) (a : Inserts p bytes k) where
   pub inserted_before : (i : ℕ) → 24 ≤ i → i < 24 + 4 * k → byte new i ≡ byte p i
   inserted_before i le lt = added_other_line o bytes k lower upper lays i le (omega (arith, line_room, room, lt)) (inl lt) ∙ opened_before i (omega arith)
 
-  pub inserted_line : (i : ℕ) → 24 + 4 * k ≤ i → i < 28 + 4 * k → byte new i ≡ byte (with_pointer o k upper 1 len) i
-  inserted_line i le lt = added_line o bytes k lower upper lays i (omega (arith, le)) (omega (arith, line_room, room, lt))
+  pub inserted_line : (i : ℕ) → 24 + 4 * k ≤ i → i < 28 + 4 * k → byte new i ≡ byte (line_bytes upper 1 len) (i - (24 + 4 * k))
+  inserted_line i le lt = added_line o bytes k lower upper lays i (omega (arith, le)) (omega (arith, line_room, room, lt)) ∙ pointer_in o k upper 1 len i (fits o bytes k lower upper lays) le lt
 
   pub inserted_after : (i : ℕ) → 28 + 4 * k ≤ i → i < lower → byte new i ≡ byte p (i - 4)
   inserted_after i le lt = added_other_line o bytes k lower upper lays i (omega (arith, le)) (omega (arith, room, lt)) (inr le) ∙ opened_line i le lt

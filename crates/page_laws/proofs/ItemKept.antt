@@ -1,14 +1,14 @@
 -- An item is as it was after another was taken out.
-use Rattle.std.proofs.Common.{◌≡◌, ◌≢◌, ℕ, ◌+◌, ◌-◌, ◌<◌, ◌≤◌, ◌==◌, ◌&&◌, ◌⊎◌, inl, inr, ⊎_elim, List, Bool, true, false, Result, Ok, length, refl, sym, ◌∙◌, ap, subst, arith}
+use Rattle.std.proofs.Common.{◌≡◌, ◌≢◌, ℕ, ◌+◌, ◌-◌, ◌<◌, ◌≤◌, ◌==◌, ◌&&◌, ◌⊎◌, inl, inr, ⊎_elim, List, Bool, true, false, length, refl, sym, ◌∙◌, ap, subst, arith}
 use Rattle.std.specs.Prelude.{if◌then◌else◌, nat_lt, nat_le}
 use Rattle.std.proofs.lemmas.Bool.Decides.{nat_tests, eqb_tells, leb_tells}
 use Rattle.std.proofs.lemmas.List.{ext_get_or}
 use Rattle.page_layout.specs.Bytes.{byte, cut, up8}
 use Rattle.page_layout.specs.Page.{pd_lower, pd_upper, pd_special, count, lp_off, lp_len, item, IsFormed}
 use Rattle.page_layout.specs.Apart.{AreApart}
-use Rattle.page_layout.specs.Edits.{added_at, added, add_item, refuse_or, lower_after}
-use Rattle.page_layout.specs.declared.refusal.PageRefusal.{PageRefusal}
-use Rattle.page_laws.proofs.AddResult.{refusal_by, place_test, room_test, refusal_is, allowed}
+use Rattle.page_layout.specs.Edits.{added_at, added, add_refusal, add_item, lower_after}
+use Rattle.page_laws.proofs.AddResult.{adds_at}
+use Rattle.page_laws.proofs.Refused.{OkPage, accepted}
 use Rattle.page_layout.specs.Pack.{total, packed}
 use Rattle.page_layout.specs.Deletes.{without_item}
 use Rattle.page_layout.proofs.BytesLemmas.{length-cut, byte-cut}
@@ -108,18 +108,8 @@ add_gains p bytes k lower upper a = record {
       record { flags = kept_flags p bytes k lower upper a j ne old; len = kept_len p bytes k lower upper a j ne old; item = λ some. kept_item p bytes k lower upper a j ne old some };
 }
 
-abbrev OkPage : List ℕ → Result (List ℕ) PageRefusal
-OkPage p = Ok p
-
 pub add_keeps : (p bytes r : List ℕ) (place : ℕ) → IsFormed p → add_item p bytes place true ≡ OkPage r → GainsItem p (place - 1) bytes r
-add_keeps p bytes r place f e = pick (place_test p place) (room_test p (length bytes) place) refl refl (sym (ap (λ x. refuse_or x (added p bytes place true)) (refusal_is p (length bytes) place f)) ∙ e)
-  where
-    same_page : (x y : List ℕ) → OkPage x ≡ OkPage y → x ≡ y
-    same_page x y h = cc h
-
-    pick : (x y : Bool) → place_test p place ≡ x → room_test p (length bytes) place ≡ y → refuse_or (refusal_by x y) (added p bytes place true) ≡ OkPage r → GainsItem p (place - 1) bytes r
-    pick true true ex ey h =
-        let l = allowed p bytes place f ex ey in
-        subst (λ x. GainsItem p (place - 1) bytes x) (sym l.is ∙ same_page (added p bytes place true) r h) (add_gains p bytes (place - 1) (lower_after p place true) (pd_upper p - up8 (length bytes)) l.adds)
-    pick true false ex ey h = cc h
-    pick false y ex ey h = cc h
+add_keeps p bytes r place f e =
+    let a = accepted (add_refusal p (length bytes) place true) (added p bytes place true) r e in
+    let l = adds_at p bytes place f a.0 in
+    subst (GainsItem p (place - 1) bytes) (sym l.is ∙ a.1) (add_gains p bytes (place - 1) (lower_after p place true) (pd_upper p - up8 (length bytes)) l.adds)

@@ -6,6 +6,7 @@ pub mod PackLaw
 pub mod AddedBytes
 pub mod AddViews
 pub mod AddLaw
+pub mod Refused
 pub mod AddResult
 pub mod StepLaws
 pub mod ItemKept
@@ -24,4 +25,5 @@ pub mod BtreeSpecial
 pub mod BtreeChanges
 pub mod StepsTogether
 pub mod HeapSteps
+pub mod HeapShown
 pub mod TupleChanges

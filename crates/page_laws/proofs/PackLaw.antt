@@ -1,24 +1,24 @@
 -- Packing can't tell pages with the same lines and alike items, whatever lies between their items.
-use Rattle.std.proofs.Common.{◌≡◌, ◌≢◌, ℕ, zero, suc, ◌+◌, ◌-◌, ◌*◌, ◌/◌, ◌%◌, ◌<◌, ◌≤◌, ◌==◌, ◌⊎◌, inl, inr, ⊎_elim, List, ◌++◌, Bool, true, false, None, length, refl, sym, ◌∙◌, ap, subst, arith}
+use Rattle.std.proofs.Common.{◌≡◌, ◌≢◌, ℕ, zero, suc, ◌+◌, ◌-◌, ◌*◌, ◌/◌, ◌%◌, ◌<◌, ◌≤◌, ◌==◌, ◌⊎◌, inl, inr, ⊎_elim, List, ◌++◌, Bool, true, false, None, length, refl, sym, ◌∙◌, ap, arith}
 use Rattle.std.specs.Prelude.{nat_le, replicate}
-use Rattle.std.proofs.lemmas.Bool.Decides.{nat_tests, eqb_tells, leb_tells}
-use Rattle.std.proofs.lemmas.List.{ext_get_or, get_or_append_left, length-append, length-replicate}
+use Rattle.std.proofs.lemmas.Bool.Decides.{eqb_tells, leb_tells}
+use Rattle.std.proofs.lemmas.List.{ext_get_or, get_or_append_left, length-replicate}
 use Rattle.page_layout.specs.Bytes.{byte, u16_at, u16_bytes, up8, cut}
 use Rattle.page_layout.specs.Page.{pd_lower, pd_upper, pd_special, count, lp_off, lp_flags, lp_len, item, IsFormed}
-use Rattle.page_layout.specs.Edits.{with_pointer, with_item}
-use Rattle.page_layout.specs.Pack.{total, packed_off, with_packed, packed_lines, emptied, packed}
+use Rattle.page_layout.specs.Pack.{total, has_room, packed_off, with_packed, packed_lines, emptied, packed}
 use Rattle.layout.proofs.SpliceLemmas.{length-splice, byte-splice_in, byte-splice_out, byte-splice_below}
 use Rattle.page_layout.proofs.BytesLemmas.{length-cut, byte-cut}
-use Rattle.page_layout.proofs.LineViews.{u16_at-with_u16, byte_other, pointer_size}
-use Rattle.page_layout.proofs.PackViews.{Packable, Laid, laid}
+use Rattle.page_layout.proofs.LineViews.{line_bytes, u16_at-with_u16}
+use Rattle.page_layout.proofs.PackViews as PackViews
+use Rattle.page_layout.proofs.PackViews.{Packable, Laid, laid, Step, high_enough}
 use Rattle.page_layout.proofs.Packing.{total-le}
 use Rattle.page_layout.proofs.ReadLemmas.{lower_u16, upper_u16, special_u16, off_same, len_same, flags_same}
 use Rattle.page_layout.proofs.ShapeLemmas.{lines_below, held_in, flags_small}
 use Rattle.page_layout.proofs.ItemsStay.{fits_in}
-use Rattle.page_masks.specs.Mask.{holder}
-use Rattle.page_masks.proofs.Alike.{holds_in, none_not}
-use Rattle.page_laws.proofs.PagesAlike.{SameLines, PagesAlike, counts_same, len_alike, flags_alike}
-use Rattle.page_laws.proofs.SetLineLaw.{pointer_byte}
+use Rattle.page_masks.specs.Mask.{holder, shown_line}
+use Rattle.page_masks.proofs.Holders.{holds_in, none_not}
+use Rattle.page_masks.proofs.Lines.{LinesAlike, alike_len, alike_flags, lines_same, Outside, beside}
+use Rattle.page_laws.proofs.PagesAlike.{SameLines, PagesAlike, counts_same, len_alike}
 
 pub packable : (p : List ℕ) → IsFormed p → pd_lower p + total p (count p) ≤ pd_special p → Packable p
 packable p f room = record { size = f.size; head = f.head; fit = λ k lt some. held_in p k f lt some; room = room }
@@ -28,14 +28,14 @@ total-by8 p zero = refl
 total-by8 p (suc n) = let e = total-by8 p n in omega (arith, e)
 
 -- each byte between the packed items' begin and special is of one of them
-record Covered (p : List ℕ) (n i : ℕ) : Type 0 where
-  k : ℕ
-  below : k < n
-  some : 0 < lp_len p k
-  from : packed_off p k ≤ i
-  to : i < packed_off p k + up8 (lp_len p k)
+pub record Covered (p : List ℕ) (n i : ℕ) : Type 0 where
+  pub k : ℕ
+  pub below : k < n
+  pub some : 0 < lp_len p k
+  pub from : packed_off p k ≤ i
+  pub to : i < packed_off p k + up8 (lp_len p k)
 
-covered : (p : List ℕ) (n i : ℕ) → pd_special p - total p n ≤ i → i < pd_special p → total p n ≤ pd_special p → Covered p n i
+pub covered : (p : List ℕ) (n i : ℕ) → pd_special p - total p n ≤ i → i < pd_special p → total p n ≤ pd_special p → Covered p n i
 covered p zero i le lt fits = absurd (omega (arith, le, lt))
 covered p (suc n) i le lt fits = ⊎_elim
     (λ (t : (nat_le (pd_special p - total p n) i ≡ true) × (pd_special p - total p n ≤ i)). let c = covered p n i t.1 lt (omega (arith, fits)) in record { k = c.k; below = omega (arith, c.below); some = c.some; from = c.from; to = c.to })
@@ -60,6 +60,12 @@ module _ (p : List ℕ) (f : IsFormed p) (room : pd_lower p + total p (count p) 
 
   other : (i : ℕ) → (i < 14) ⊎ (16 ≤ i) → byte new i ≡ byte all i
   other i out = byte-splice_out all 14 (u16_bytes upper) i (omega (arith, l.size)) out
+
+  pub packed_top : (i : ℕ) → 14 ≤ i → i < 16 → byte new i ≡ byte (u16_bytes upper) (i - 14)
+  packed_top i le lt = byte-splice_in all 14 (u16_bytes upper) i (omega (arith, l.size)) le lt
+
+  pub packed_rest : (i : ℕ) → pd_special p ≤ i → byte new i ≡ byte p i
+  packed_rest i le = other i (inr (omega (arith, le, f.head.low, f.head.mid, f.head.high))) ∙ l.rest i le
 
   pub packed_low : (i : ℕ) → (i < 14) ⊎ (16 ≤ i) → i < 24 → byte new i ≡ byte p i
   packed_low i out lt = other i out ∙ l.low i lt
@@ -102,6 +108,9 @@ module _ (p : List ℕ) (f : IsFormed p) (room : pd_lower p + total p (count p) 
   packed_place k lt some = off_same new all k k (u16_all_low k) ∙ l.off k lt some
 
   -- and so do the items
+  pub packed_here : (k o : ℕ) → k < count p → 0 < lp_len p k → o < up8 (lp_len p k) → byte new (packed_off p k + o) ≡ byte (item p k ++ replicate (up8 (length (item p k)) - length (item p k)) 0) o
+  packed_here k o lt some small = let t = total-le p k (count p) lt in other (packed_off p k + o) (inr (omega (arith, t, room, f.head.low))) ∙ l.here k o lt some small
+
   pub packed_item : (k : ℕ) → k < count p → 0 < lp_len p k → item new k ≡ item p k
   packed_item k lt some =
       let i = held_in p k f lt some in
@@ -112,7 +121,7 @@ module _ (p : List ℕ) (f : IsFormed p) (room : pd_lower p + total p (count p) 
       (length-cut new (packed_off p k) (lp_len p k) (omega (arith, packed_size, fits)) ∙ sym old)
       (λ o lt_o.
       let small : o < lp_len p k = omega (arith, lt_o, length-cut new (packed_off p k) (lp_len p k) (omega (arith, packed_size, fits))) in
-      byte-cut new (packed_off p k) (lp_len p k) o small ∙ other (packed_off p k + o) (inr (omega (arith, t, room, f.head.low))) ∙ l.here k o lt some (omega (arith, small))
+      byte-cut new (packed_off p k) (lp_len p k) o small ∙ packed_here k o lt some (omega (arith, small))
       ∙ get_or_append_left (item p k) (replicate (up8 (length (item p k)) - length (item p k)) 0) 0 o (omega (arith, old, small))))
 
   pub packed_formed : IsFormed new
@@ -146,134 +155,115 @@ module _ (p : List ℕ) (f : IsFormed p) (room : pd_lower p + total p (count p) 
       let none = none_not new (count new) c.k i e (omega (arith, c.below, packed_count)) in
       cc
 
--- the same lines are written over the same lines
-module _ (block : ℕ) (p q : List ℕ) (fp : IsFormed p) (fq : IsFormed q) (s : SameLines block p q) (room : pd_lower p + total p (count p) ≤ pd_special p) where
-  n : count p ≡ count q
-  n = counts_same block p q s fp.head.low fp.head.by4
+-- a step leaves the other lines
+stays : (p : List ℕ) (ok : Packable p) (k : ℕ) (page new : List ℕ) → k < count p → Step p ok k page new → (i : ℕ) → i < pd_lower p → Outside k i → byte new i ≡ byte page i
+stays p ok k page new there s i lt out = ⊎_elim (λ (l : i < 24 + 4 * k). s.below i l) (λ (r : 28 + 4 * k ≤ i). let low = high_enough p ok k there in s.between i r (omega (arith, lt, low))) out
+
+-- two pages with lines that look alike: their items take the same room, and their lines look alike once they are laid anew
+module _ (leaf : Bool) (p q : List ℕ) (fp : IsFormed p) (fq : IsFormed q) (lowers : pd_lower p ≡ pd_lower q) (specials : pd_special p ≡ pd_special q) (s : LinesAlike leaf (pd_lower p) p q) where
+  counts : count p ≡ count q
+  counts = ap (λ n. (n - 24) / 4) lowers
+
+  in_lines : (k : ℕ) → k < count p → 28 + 4 * k ≤ pd_lower p
+  in_lines k lt = omega (arith, lt, fp.head.low, fp.head.by4)
+
+  lens : (k : ℕ) → k < count p → lp_len p k ≡ lp_len q k
+  lens k lt = alike_len leaf (pd_lower p) p q s k (in_lines k lt)
 
   totals : (k : ℕ) → k ≤ count p → total p k ≡ total q k
   totals zero le = refl
-  totals (suc k) le = let a = totals k (omega arith) in let b = len_alike block p q s fp.head.low fp.head.by4 k (omega arith) in λ t. a t + up8 (b t)
+  totals (suc k) le = let a = totals k (omega arith) in let b = lens k (omega arith) in λ t. a t + up8 (b t)
 
   total_all : total p (count p) ≡ total q (count q)
-  total_all = totals (count p) (omega arith) ∙ ap (total q) n
+  total_all = totals (count p) (omega arith) ∙ ap (total q) counts
 
+  pub rooms_alike : has_room p ≡ has_room q
+  rooms_alike = λ t. nat_le (lowers t + total_all t) (specials t)
+
+  pub uppers_alike : pd_special p - total p (count p) ≡ pd_special q - total q (count q)
+  uppers_alike = λ t. specials t - total_all t
+
+  pub places_alike : (k : ℕ) → k < count p → packed_off p k ≡ packed_off q k
+  places_alike k lt = let a = totals (suc k) (omega (arith, lt)) in λ t. specials t - a t
+
+  module _ (room : pd_lower p + total p (count p) ≤ pd_special p) where
+    pub room_alike : pd_lower q + total q (count q) ≤ pd_special q
+    room_alike = omega (arith, room, lowers, total_all, specials)
+
+    ok_p : Packable p
+    ok_p = packable p fp room
+
+    ok_q : Packable q
+    ok_q = packable q fq room_alike
+
+    next : (k : ℕ) (x y : List ℕ) → k < count p → length x ≡ 8192 → length y ≡ 8192 → LinesAlike leaf (pd_lower p) x y → LinesAlike leaf (pd_lower p) (with_packed p k x) (with_packed q k y)
+    next k x y lt size_x size_y before = λ i from to. beside k i (shown_line leaf i (byte (with_packed p k x) i) ≡ shown_line leaf i (byte (with_packed q k y) i))
+        (λ out. ap (shown_line leaf i) (stays p ok_p k x (with_packed p k x) lt a i to out) ∙ before i from to ∙ ap (shown_line leaf i) (sym (stays q ok_q k y (with_packed q k y) lt_q b i (omega (arith, to, lowers)) out)))
+        (λ u v. ⊎_elim
+        (λ (z : ((lp_len p k == 0) ≡ true) × (lp_len p k ≡ 0)). ap (λ r. shown_line leaf i (byte r i)) (a.same z.1) ∙ before i from to ∙ ap (λ r. shown_line leaf i (byte r i)) (sym (b.same (sym (lens k lt) ∙ z.1))))
+        (λ (n : ((lp_len p k == 0) ≡ false) × (lp_len p k ≢ 0)).
+        let some : 0 < lp_len p k = omega (arith, n.1) in
+        ap (shown_line leaf i) (a.line some i u v)
+        ∙ lines_same leaf (packed_off p k) (lp_flags p k) (lp_flags q k) (lp_len p k) i (i - (24 + 4 * k)) (flags_small p k) (flags_small q k) (alike_flags leaf (pd_lower p) p q s k (in_lines k lt)) (omega (arith, v)) (omega (arith, u, v))
+        ∙ (λ t. shown_line leaf i (byte (line_bytes (places_alike k lt t) (lp_flags q k) (lens k lt t)) (i - (24 + 4 * k))))
+        ∙ ap (shown_line leaf i) (sym (b.line (omega (arith, some, lens k lt)) i u v)))
+        (eqb_tells (lp_len p k) 0))
+      where
+        lt_q : k < count q
+        lt_q = omega (arith, lt, counts)
+
+        a : Step p ok_p k x (with_packed p k x)
+        a = PackViews.step p ok_p k x lt size_x
+
+        b : Step q ok_q k y (with_packed q k y)
+        b = PackViews.step q ok_q k y lt_q size_y
+
+    laid_alike : (n : ℕ) → n ≤ count p → LinesAlike leaf (pd_lower p) (packed_lines p (emptied p) n) (packed_lines q (emptied q) n)
+    laid_alike zero le = λ i from to. ap (shown_line leaf i) (byte-splice_below p (pd_lower p) (zeros p) i (fits p fp) to) ∙ s i from to ∙ ap (shown_line leaf i) (sym (byte-splice_below q (pd_lower q) (zeros q) i (fits q fq) (omega (arith, to, lowers))))
+      where
+        zeros : List ℕ → List ℕ
+        zeros r = replicate (pd_special r - pd_lower r) 0
+
+        fits : (r : List ℕ) → IsFormed r → pd_lower r + length (replicate {A = ℕ} (pd_special r - pd_lower r) 0) ≤ length r
+        fits r f = omega (arith, length-replicate {A = ℕ} (pd_special r - pd_lower r) 0, f.size, f.head.mid, f.head.high, f.head.top)
+    laid_alike (suc n) le =
+        let lp = laid p ok_p n (omega (arith, le)) in
+        let lq = laid q ok_q n (omega (arith, le, counts)) in
+        next n (packed_lines p (emptied p) n) (packed_lines q (emptied q) n) (omega (arith, le)) lp.size lq.size (laid_alike n (omega (arith, le)))
+
+    pub lines_packed : LinesAlike leaf (pd_lower p) (packed p) (packed q)
+    lines_packed = λ i from to. ap (shown_line leaf i) (other p fp room i (inr (omega (arith, from)))) ∙ laid_alike (count p) (omega arith) i from to
+        ∙ ap (λ n. shown_line leaf i (byte (packed_lines q (emptied q) n) i)) counts ∙ ap (shown_line leaf i) (sym (other q fq room_alike i (inr (omega (arith, from)))))
+
+-- heap pages
+module _ (block : ℕ) (p q : List ℕ) (fp : IsFormed p) (fq : IsFormed q) (s : SameLines block p q) where
   specials : pd_special p ≡ pd_special q
   specials = special_u16 p ∙ (λ t. s.head 16 (omega arith) (omega arith) t + 256 * s.head 17 (omega arith) (omega arith) t) ∙ sym (special_u16 q)
 
-  pub room_alike : pd_lower q + total q (count q) ≤ pd_special q
-  room_alike = omega (arith, room, s.lowers, total_all, specials)
+  pub same_room : has_room p ≡ has_room q
+  same_room = rooms_alike false p q fp fq s.lowers specials s.lines
 
-  -- what a step leaves below lower
-  record Below (a b : List ℕ) : Type 0 where
-    size_a : length a ≡ 8192
-    size_b : length b ≡ 8192
-    same : (i : ℕ) → 24 ≤ i → i < pd_lower p → byte a i ≡ byte b i
-
-  laid_item_size : (r : List ℕ) (k : ℕ) → IsFormed r → k < count r → 0 < lp_len r k → length (item r k ++ replicate (up8 (length (item r k)) - length (item r k)) 0) ≡ up8 (lp_len r k)
-  laid_item_size r k f lt some =
-      let i = held_in r k f lt some in
-      let x = length-cut r (lp_off r k) (lp_len r k) (omega (arith, i.to, f.head.top, f.size)) in
-      omega (arith, length-append (item r k) (replicate (up8 (length (item r k)) - length (item r k)) 0), length-replicate {A = ℕ} (up8 (length (item r k)) - length (item r k)) 0, x)
-
-  step : (k : ℕ) (a b : List ℕ) → k < count p → Below a b → Below (with_packed p k a) (with_packed q k b)
-  step k a b lt w = by_case (lp_len p k == 0) refl
-    where
-      len : lp_len p k ≡ lp_len q k
-      len = len_alike block p q s fp.head.low fp.head.by4 k lt
-
-      place : packed_off p k ≡ packed_off q k
-      place = λ t. specials t - totals (suc k) (omega arith) t
-
-      fl : lp_flags p k ≡ lp_flags q k
-      fl = flags_alike block p q s fp.head.low fp.head.by4 k lt
-
-      lt_q : k < count q
-      lt_q = omega (arith, lt, n)
-
-      by_case : (z : Bool) → (lp_len p k == 0) ≡ z → Below (with_packed p k a) (with_packed q k b)
-      by_case true e = let e_q : (lp_len q k == 0) ≡ true = rw (← len) e in rw (e, e_q) w
-      by_case false e =
-          let e_q : (lp_len q k == 0) ≡ false = rw (← len) e in
-          let some : 0 < lp_len p k = grind (arith, nat_tests, e) in
-          let t = total-le p k (count p) lt in
-          let in_line : 28 + 4 * k ≤ pd_lower p = omega (arith, lt, fp.head.low, fp.head.by4) in
-          let pa = laid_item_size p k fp lt some in
-          let pb = laid_item_size q k fq lt_q (omega (arith, some, len)) in
-          let fits_a : packed_off p k + length (item p k ++ replicate (up8 (length (item p k)) - length (item p k)) 0) ≤ length a = omega (arith, pa, w.size_a, t, room, fp.head.top) in
-          let fits_b : packed_off q k + length (item q k ++ replicate (up8 (length (item q k)) - length (item q k)) 0) ≤ length b = omega (arith, pb, w.size_b, t, room, fp.head.top, place, len) in
-          let small : packed_off p k < 32768 = omega (arith, room, fp.head.top) in
-          let kind = flags_small p k in
-          let p_is : with_packed p k a ≡ with_pointer (with_item a (item p k) (packed_off p k)) k (packed_off p k) (lp_flags p k) (lp_len p k) = rw e refl in
-          let q_is : with_packed q k b ≡ with_pointer (with_item b (item q k) (packed_off p k)) k (packed_off p k) (lp_flags p k) (lp_len p k) = rw e_q (λ t. with_pointer (with_item b (item q k) (sym place t)) k (sym place t) (sym fl t) (sym len t)) in
-          subst (λ x. Below x (with_packed q k b)) (sym p_is) (subst (λ y. Below (with_pointer (with_item a (item p k) (packed_off p k)) k (packed_off p k) (lp_flags p k) (lp_len p k)) y) (sym q_is) (written (with_item a (item p k) (packed_off p k)) (with_item b (item q k) (packed_off p k))
-          (length-splice a (packed_off p k) (item p k ++ replicate (up8 (length (item p k)) - length (item p k)) 0) fits_a ∙ w.size_a)
-          (length-splice b (packed_off p k) (item q k ++ replicate (up8 (length (item q k)) - length (item q k)) 0) (omega (arith, fits_b, place)) ∙ w.size_b)
-          (λ i le lt_i. byte-splice_below a (packed_off p k) (item p k ++ replicate (up8 (length (item p k)) - length (item p k)) 0) i fits_a (omega (arith, lt_i, t, room)) ∙ w.same i le lt_i
-          ∙ sym (byte-splice_below b (packed_off p k) (item q k ++ replicate (up8 (length (item q k)) - length (item q k)) 0) i (omega (arith, fits_b, place)) (omega (arith, lt_i, t, room))))
-          in_line small kind))
-        where
-          written : (a b : List ℕ) → length a ≡ 8192 → length b ≡ 8192 → ((i : ℕ) → 24 ≤ i → i < pd_lower p → byte a i ≡ byte b i) → 28 + 4 * k ≤ pd_lower p → packed_off p k < 32768 → lp_flags p k < 4
-              → Below (with_pointer a k (packed_off p k) (lp_flags p k) (lp_len p k)) (with_pointer b k (packed_off p k) (lp_flags p k) (lp_len p k))
-          written a b size_a size_b same in_line small kind =
-              let fa : 28 + 4 * k ≤ length a = omega (arith, size_a, in_line, fp.head.mid, fp.head.high, fp.head.top) in
-              let fb : 28 + 4 * k ≤ length b = omega (arith, size_b, in_line, fp.head.mid, fp.head.high, fp.head.top) in
-              record {
-                size_a = pointer_size a k (packed_off p k) (lp_flags p k) (lp_len p k) fa small kind ∙ size_a;
-                size_b = pointer_size b k (packed_off p k) (lp_flags p k) (lp_len p k) fb small kind ∙ size_b;
-                same = λ i le lt_i. ⊎_elim
-                    (λ (x : (nat_le (24 + 4 * k) i ≡ true) × (24 + 4 * k ≤ i)). ⊎_elim
-                    (λ (y : (nat_le (28 + 4 * k) i ≡ true) × (28 + 4 * k ≤ i)). byte_other a k (packed_off p k) (lp_flags p k) (lp_len p k) fa small kind i (inr y.1) ∙ same i le lt_i ∙ sym (byte_other b k (packed_off p k) (lp_flags p k) (lp_len p k) fb small kind i (inr y.1)))
-                    (λ (z : (nat_le (28 + 4 * k) i ≡ false) × (i < 28 + 4 * k)). pointer_byte a b k (packed_off p k) (lp_flags p k) (lp_len p k) i fa fb x.1 z.1)
-                    (leb_tells (28 + 4 * k) i))
-                    (λ (y : (nat_le (24 + 4 * k) i ≡ false) × (i < 24 + 4 * k)). byte_other a k (packed_off p k) (lp_flags p k) (lp_len p k) fa small kind i (inl y.1) ∙ same i le lt_i ∙ sym (byte_other b k (packed_off p k) (lp_flags p k) (lp_len p k) fb small kind i (inl y.1)))
-                    (leb_tells (24 + 4 * k) i);
-              }
-
-  zero_size : (r : List ℕ) → length (replicate {A = ℕ} (pd_special r - pd_lower r) 0) ≡ pd_special r - pd_lower r
-  zero_size r = length-replicate {A = ℕ} (pd_special r - pd_lower r) 0
-
-  start : Below (emptied p) (emptied q)
-  start =
-      let fa : pd_lower p + length (replicate {A = ℕ} (pd_special p - pd_lower p) 0) ≤ length p = omega (arith, zero_size p, fp.size, fp.head.mid, fp.head.high, fp.head.top) in
-      let fb : pd_lower q + length (replicate {A = ℕ} (pd_special q - pd_lower q) 0) ≤ length q = omega (arith, zero_size q, fq.size, fq.head.mid, fq.head.high, fq.head.top) in
-      record {
-        size_a = length-splice p (pd_lower p) (replicate (pd_special p - pd_lower p) 0) fa ∙ fp.size;
-        size_b = length-splice q (pd_lower q) (replicate (pd_special q - pd_lower q) 0) fb ∙ fq.size;
-        same = λ i le lt. byte-splice_below p (pd_lower p) (replicate (pd_special p - pd_lower p) 0) i fa lt ∙ s.lines i le lt ∙ sym (byte-splice_below q (pd_lower q) (replicate (pd_special q - pd_lower q) 0) i fb (omega (arith, lt, s.lowers)));
-      }
-
-  steps : (k : ℕ) → k ≤ count p → Below (packed_lines p (emptied p) k) (packed_lines q (emptied q) k)
-  steps zero le = start
-  steps (suc k) le = step k (packed_lines p (emptied p) k) (packed_lines q (emptied q) k) (omega arith) (steps k (omega arith))
-
-  pub packed_alike : pd_special p ≡ 8192 → PagesAlike block (packed p) (packed q)
-  packed_alike top =
-      let b = subst (λ x. Below (packed_lines p (emptied p) (count p)) (packed_lines q (emptied q) x)) n (steps (count p) (omega arith)) in
-      let rq = room_alike in
+  pub packed_alike : pd_lower p + total p (count p) ≤ pd_special p → pd_special p ≡ 8192 → PagesAlike block (packed p) (packed q)
+  packed_alike room top =
+      let rq = room_alike false p q fp fq s.lowers specials s.lines room in
       record {
         same = record {
           lowers = packed_lower p fp room ∙ s.lowers ∙ sym (packed_lower q fq rq);
           ten = (λ t. packed_low p fp room 10 (inl (omega arith)) (omega arith) t / 8 * 8) ∙ s.ten ∙ (λ t. sym (packed_low q fq rq 10 (inl (omega arith)) (omega arith)) t / 8 * 8);
           eleven = packed_low p fp room 11 (inl (omega arith)) (omega arith) ∙ s.eleven ∙ sym (packed_low q fq rq 11 (inl (omega arith)) (omega arith));
           head = λ i le lt. packed_low p fp room i (inr le) (omega arith) ∙ s.head i le lt ∙ sym (packed_low q fq rq i (inr le) (omega arith));
-          lines = λ i le lt. other p fp room i (inr (omega arith)) ∙ b.same i le (omega (arith, lt, packed_lower p fp room)) ∙ sym (other q fq rq i (inr (omega arith)));
+          lines = λ i le lt. lines_packed false p q fp fq s.lowers specials s.lines room i le (omega (arith, lt, packed_lower p fp room));
           items = λ k lt some.
               let lt_p : k < count p = omega (arith, lt, packed_count p fp room) in
               let some_p : 0 < lp_len p k = omega (arith, some, packed_len p fp room k lt_p) in
-              let lt_q : k < count q = omega (arith, lt_p, n) in
+              let lt_q : k < count q = omega (arith, lt_p, counts_same block p q s fp.head.low fp.head.by4) in
               let some_q : 0 < lp_len q k = omega (arith, some_p, len_alike block p q s fp.head.low fp.head.by4 k lt_p) in
               rw (packed_flags p fp room k lt_p, packed_flags q fq rq k lt_q, packed_item p fp room k lt_p some_p, packed_item q fq rq k lt_q some_q) (s.items k lt_p some_p);
         };
-        uppers = (upper_byte 14 (omega arith) (omega arith), upper_byte 15 (omega arith) (omega arith));
+        uppers = (upper_byte room 14 (omega arith) (omega arith), upper_byte room 15 (omega arith) (omega arith));
         free = λ i le lt e. absurd (none_free p fp room i top le lt e);
       }
     where
-      uppers : pd_special p - total p (count p) ≡ pd_special q - total q (count q)
-      uppers = λ t. specials t - total_all t
-
-      upper_byte : (i : ℕ) → 14 ≤ i → i < 16 → byte (packed p) i ≡ byte (packed q) i
-      upper_byte i le lt =
-          byte-splice_in (all p fp room) 14 (u16_bytes (pd_special p - total p (count p))) i (omega (arith, (l p fp room).size)) le lt
-          ∙ ap (λ u. byte (u16_bytes u) (i - 14)) uppers
-          ∙ sym (byte-splice_in (all q fq room_alike) 14 (u16_bytes (pd_special q - total q (count q))) i (omega (arith, (l q fq room_alike).size)) le lt)
+      upper_byte : pd_lower p + total p (count p) ≤ pd_special p → (i : ℕ) → 14 ≤ i → i < 16 → byte (packed p) i ≡ byte (packed q) i
+      upper_byte room i le lt = packed_top p fp room i le lt ∙ ap (λ u. byte (u16_bytes u) (i - 14)) (uppers_alike false p q fp fq s.lowers specials s.lines)
+          ∙ sym (packed_top q fq (room_alike false p q fp fq s.lowers specials s.lines room) i le lt)

@@ -1,16 +1,21 @@
 -- Heap pages that the mask can't tell apart, trimmed or not.
-use Rattle.std.proofs.Common.{◌≡◌, ◌≢◌, ℕ, zero, suc, ◌+◌, ◌-◌, ◌*◌, ◌/◌, ◌%◌, ◌<◌, ◌≤◌, ◌==◌, ◌&&◌, ◌⊎◌, inl, inr, ⊎_elim, List, ◌++◌, Bool, true, false, Option, Some, None, refl, sym, ◌∙◌, ap, subst, arith}
+use Rattle.std.proofs.Common.{◌≡◌, ◌≢◌, ℕ, zero, suc, ◌+◌, ◌-◌, ◌*◌, ◌/◌, ◌%◌, ◌<◌, ◌≤◌, ◌==◌, ◌&&◌, ◌⊎◌, inl, inr, ⊎_elim, List, ◌++◌, Bool, true, false, Option, Some, None, length, refl, sym, ◌∙◌, ap, subst, arith}
 use Rattle.std.specs.Prelude.{if◌then◌else◌, nat_lt, nat_le, replicate}
 use Rattle.std.proofs.lemmas.Bool.Decides.{nat_tests, eqb_tells, leb_tells}
-use Rattle.page_layout.specs.Bytes.{byte, u16_at, up8}
+use Rattle.std.proofs.lemmas.List.{get_or_append_left, ext_get_or}
+use Rattle.page_layout.specs.Apart.{AreApart}
+use Rattle.page_layout.specs.Bytes.{byte, up8}
 use Rattle.page_layout.specs.Page.{pd_lower, pd_upper, count, lp_off, lp_flags, lp_len, item}
 use Rattle.page_layout.specs.Edits.{is_free, trimmed_count}
-use Rattle.page_layout.proofs.ReadLemmas.{off_same, len_same, flags_same}
+use Rattle.page_layout.proofs.BytesLemmas.{length-cut}
+use Rattle.page_layout.proofs.ReadLemmas.{upper_u16}
 use Rattle.page_layout.proofs.ShapeLemmas.{trimmed_count-le}
-use Rattle.page_masks.specs.Mask.{masked_item, masked_held, holds, holder, by_holder, shown_count, shown_lower, masked_front}
+use Rattle.page_masks.specs.Mask.{masked_item, masked_held, holds, holder, by_holder, shown_count, shown_lower, masked_front, heap_byte}
 use Rattle.page_masks.specs.Shapes.{HeapPage, IsHeap}
-use Rattle.page_masks.proofs.Alike.{Alike, heap_mask, holder_same, holder_is, held_long, from_bytes, line_front, head_front}
 use Rattle.page_masks.proofs.HeapLaid.{heap_open, front_open, holds_none}
+use Rattle.page_masks.proofs.Holders.{heap_mask, fit_of, holder_same, holder_is, held_long, shows, from_bytes, halves, head_front, line_front, low_front, high_front, front_of, back_of, held_shows}
+use Rattle.page_masks.proofs.Laid.{length-masked_item}
+use Rattle.page_masks.proofs.Lines.{LinesAlike, alike_off, alike_len, alike_flags}
 
 -- the same header but for what isn't shown, the same lines, and items alike
 pub record SameLines (block : ℕ) (p q : List ℕ) : Type 0 where
@@ -18,7 +23,7 @@ pub record SameLines (block : ℕ) (p q : List ℕ) : Type 0 where
   pub ten : byte p 10 / 8 * 8 ≡ byte q 10 / 8 * 8
   pub eleven : byte p 11 ≡ byte q 11
   pub head : (i : ℕ) → 16 ≤ i → i < 20 → byte p i ≡ byte q i
-  pub lines : (i : ℕ) → 24 ≤ i → i < pd_lower p → byte p i ≡ byte q i
+  pub lines : LinesAlike false (pd_lower p) p q
   pub items : (k : ℕ) → k < count p → 0 < lp_len p k → masked_item block (k + 1) (lp_flags p k) (item p k) ≡ masked_item block (k + 1) (lp_flags q k) (item q k)
 
 -- .. and the same bytes where no item lies
@@ -34,17 +39,14 @@ module _ (block : ℕ) (p q : List ℕ) (s : SameLines block p q) (low : 24 ≤ 
   in_lines : (k : ℕ) → k < count p → 28 + 4 * k ≤ pd_lower p
   in_lines k lt = omega arith
 
-  line_u16 : (i : ℕ) → 24 ≤ i → i + 1 < pd_lower p → u16_at p i ≡ u16_at q i
-  line_u16 i le lt = λ t. s.lines i le (omega arith) t + 256 * s.lines (i + 1) (omega arith) lt t
-
   pub off_alike : (k : ℕ) → k < count p → lp_off p k ≡ lp_off q k
-  off_alike k lt = let room = in_lines k lt in off_same p q k k (line_u16 (24 + 4 * k) (omega arith) (omega arith))
+  off_alike k lt = alike_off false (pd_lower p) p q s.lines k (in_lines k lt)
 
   pub len_alike : (k : ℕ) → k < count p → lp_len p k ≡ lp_len q k
-  len_alike k lt = let room = in_lines k lt in len_same p q k k (line_u16 (26 + 4 * k) (omega arith) (omega arith))
+  len_alike k lt = alike_len false (pd_lower p) p q s.lines k (in_lines k lt)
 
   pub flags_alike : (k : ℕ) → k < count p → lp_flags p k ≡ lp_flags q k
-  flags_alike k lt = let room = in_lines k lt in flags_same p q k k (line_u16 (24 + 4 * k) (omega arith) (omega arith)) (line_u16 (26 + 4 * k) (omega arith) (omega arith))
+  flags_alike k lt = alike_flags false (pd_lower p) p q s.lines k (in_lines k lt) refl
 
   pub trimmed_alike : (n : ℕ) → n ≤ count p → trimmed_count p n ≡ trimmed_count q n
   trimmed_alike zero le = refl
@@ -129,36 +131,83 @@ module _ (block : ℕ) (p q : List ℕ) (hp : IsHeap p) (hq : IsHeap q) (a : Pag
       pick i lt true e = rw (← upper_alike, e) (fronts i)
       pick i lt false e = rw (← upper_alike, e, holders i) (held i (grind (arith, nat_tests, e)) lt (holder p (shown_count p) i) refl)
 
--- from the mask: trimmed heap pages whose items don't overlap are alike
-module _ (block : ℕ) (p q : List ℕ) (hp : HeapPage p) (hq : HeapPage q) (a : Alike block p q) where
-  lower_p : shown_lower p ≡ pd_lower p
-  lower_p = omega (arith, hp.trimmed, hp.head.low, hp.head.by4)
+-- an item as the mask shows it, byte by byte
+masked_length : (block : ℕ) (r : List ℕ) (k : ℕ) → HeapPage r → k < count r → 0 < lp_len r k → length (masked_item block (k + 1) (lp_flags r k) (item r k)) ≡ lp_len r k
+masked_length block r k h lt some = let i = fit_of r h k lt some in length-masked_item block (k + 1) (lp_flags r k) (item r k) ∙ length-cut r (lp_off r k) (lp_len r k) (omega (arith, i.to, h.head.top, h.size))
 
-  lower_q : shown_lower q ≡ pd_lower q
-  lower_q = omega (arith, hq.trimmed, hq.head.low, hq.head.by4)
+item_shows : (block : ℕ) (r : List ℕ) (k o : ℕ) → HeapPage r → AreApart r → k < count r → 0 < lp_len r k → o < lp_len r k → byte (masked_item block (k + 1) (lp_flags r k) (item r k)) o ≡ heap_byte block r (lp_off r k + o)
+unfolding masked_held
+item_shows block r k o h apart lt some small =
+    sym (get_or_append_left (masked_item block (k + 1) (lp_flags r k) (item r k)) (replicate (up8 (lp_len r k) - lp_len r k) 0) 0 o (omega (arith, small, masked_length block r k h lt some)))
+    ∙ sym (held_shows block r k o h apart lt some (omega (arith, small)))
+
+-- from the mask: trimmed heap pages, and where their items don't overlap these are alike too
+module _ (block : ℕ) (p q : List ℕ) (hp : HeapPage p) (hq : HeapPage q) (same : heap_mask block p ≡ heap_mask block q) where
+  lower_of : (r : List ℕ) → HeapPage r → shown_lower r ≡ pd_lower r
+  lower_of r h = omega (arith, h.trimmed, h.head.low, h.head.by4)
+
+  front_shown : (i : ℕ) → i < pd_upper p → i < pd_upper q → masked_front p i ≡ masked_front q i
+  front_shown i lt_p lt_q = sym (front_of block p i lt_p) ∙ shows block p q i same (omega (arith, lt_p, hp.head.high, hp.head.top)) ∙ front_of block q i lt_q
 
   early : (i : ℕ) → i < 24 → masked_front p i ≡ masked_front q i
-  early i lt = a.front i (omega (arith, hp.head.low, hp.head.mid))
+  early i lt = front_shown i (omega (arith, lt, hp.head.low, hp.head.mid)) (omega (arith, lt, hq.head.low, hq.head.mid))
 
-  ten_at : (r : List ℕ) → masked_front r 10 ≡ byte r 10 / 8 * 8
-  ten_at r = front_open r 10
+  pub lowers_shown : pd_lower p ≡ pd_lower q
+  lowers_shown = sym (lower_of p hp) ∙ halves (shown_lower p) (shown_lower q) (sym (low_front p) ∙ early 12 (omega arith) ∙ low_front q) (sym (high_front p) ∙ early 13 (omega arith) ∙ high_front q) ∙ lower_of q hq
+
+  pub count_shown : count p ≡ count q
+  count_shown = ap (λ n. (n - 24) / 4) lowers_shown
+
+  lines_shown : LinesAlike false (pd_lower p) p q
+  lines_shown = λ i le lt. sym (line_front p i le (omega (arith, lt, lower_of p hp))) ∙ front_shown i (omega (arith, lt, hp.head.mid)) (omega (arith, lt, lowers_shown, hq.head.mid))
+      ∙ line_front q i le (omega (arith, lt, lowers_shown, lower_of q hq))
+
+  in_shown : (k : ℕ) → k < count p → 28 + 4 * k ≤ pd_lower p
+  in_shown k lt = omega (arith, lt, hp.head.low, hp.head.by4)
+
+  pub off_shown : (k : ℕ) → k < count p → lp_off p k ≡ lp_off q k
+  off_shown k lt = alike_off false (pd_lower p) p q lines_shown k (in_shown k lt)
+
+  pub len_shown : (k : ℕ) → k < count p → lp_len p k ≡ lp_len q k
+  len_shown k lt = alike_len false (pd_lower p) p q lines_shown k (in_shown k lt)
+
+  head_shown : (i : ℕ) → 14 ≤ i → i < 20 → byte p i ≡ byte q i
+  head_shown i le lt = sym (head_front p i (omega (arith, lower_of p hp, hp.head.low)) le lt) ∙ early i (omega (arith, lt)) ∙ head_front q i (omega (arith, lower_of q hq, hq.head.low)) le lt
 
   eleven_at : (r : List ℕ) → 24 ≤ shown_lower r → masked_front r 11 ≡ byte r 11
   eleven_at r le = let e : nat_lt 11 (shown_lower r) ≡ true = grind (arith, nat_tests) in front_open r 11 ∙ rw e refl
 
-  head_at : (i : ℕ) → 14 ≤ i → i < 20 → byte p i ≡ byte q i
-  head_at i le lt = sym (head_front p i (omega (arith, lower_p, hp.head.low)) le lt) ∙ early i (omega arith) ∙ head_front q i (omega (arith, lower_q, hq.head.low)) le lt
+  uppers_shown : pd_upper p ≡ pd_upper q
+  uppers_shown = upper_u16 p ∙ (λ t. head_shown 14 (omega arith) (omega arith) t + 256 * head_shown 15 (omega arith) (omega arith) t) ∙ sym (upper_u16 q)
 
-  pub pages_alike : PagesAlike block p q
-  pages_alike = record {
+  item_same : AreApart p → AreApart q → (k : ℕ) → k < count p → 0 < lp_len p k → masked_item block (k + 1) (lp_flags p k) (item p k) ≡ masked_item block (k + 1) (lp_flags q k) (item q k)
+  item_same ap_p ap_q k lt some =
+      let i = fit_of p hp k lt some in
+      let lt_q : k < count q = omega (arith, lt, count_shown) in
+      let some_q : 0 < lp_len q k = omega (arith, some, len_shown k lt) in
+      let len_p = masked_length block p k hp lt some in
+      ext_get_or 0 (masked_item block (k + 1) (lp_flags p k) (item p k)) (masked_item block (k + 1) (lp_flags q k) (item q k)) (len_p ∙ len_shown k lt ∙ sym (masked_length block q k hq lt_q some_q))
+      (λ o small.
+      let in_p : o < lp_len p k = omega (arith, small, len_p) in
+      item_shows block p k o hp ap_p lt some in_p
+      ∙ shows block p q (lp_off p k + o) same (omega (arith, in_p, i.to, hp.head.top))
+      ∙ ap (λ x. heap_byte block q (x + o)) (off_shown k lt)
+      ∙ sym (item_shows block q k o hq ap_q lt_q some_q (omega (arith, in_p, len_shown k lt))))
+
+  pub pages_alike : AreApart p → AreApart q → PagesAlike block p q
+  pages_alike ap_p ap_q = record {
     same = record {
-      lowers = a.lowers;
-      ten = sym (ten_at p) ∙ early 10 (omega arith) ∙ ten_at q;
-      eleven = sym (eleven_at p (omega (arith, lower_p, hp.head.low))) ∙ early 11 (omega arith) ∙ eleven_at q (omega (arith, lower_q, hq.head.low));
-      head = λ i le lt. head_at i (omega arith) lt;
-      lines = λ i le lt. sym (line_front p i le (omega (arith, lower_p, lt))) ∙ a.front i (omega (arith, lt, hp.head.mid)) ∙ line_front q i le (omega (arith, lower_q, a.lowers, lt));
-      items = a.items;
+      lowers = lowers_shown;
+      ten = sym (front_open p 10) ∙ early 10 (omega arith) ∙ front_open q 10;
+      eleven = sym (eleven_at p (omega (arith, lower_of p hp, hp.head.low))) ∙ early 11 (omega arith) ∙ eleven_at q (omega (arith, lower_of q hq, hq.head.low));
+      head = λ i le lt. head_shown i (omega (arith, le)) lt;
+      lines = lines_shown;
+      items = item_same ap_p ap_q;
     };
-    uppers = (head_at 14 (omega arith) (omega arith), head_at 15 (omega arith) (omega arith));
-    free = a.free;
+    uppers = (head_shown 14 (omega arith) (omega arith), head_shown 15 (omega arith) (omega arith));
+    free = λ i le lt none.
+        let none_q : holder q (count q) i ≡ None = sym (holder_same p q (count p) i off_shown len_shown ∙ ap (λ n. holder q n i) count_shown) ∙ none in
+        let a : heap_byte block p i ≡ byte p i = back_of block p i hp le ∙ rw none refl in
+        let b : heap_byte block q i ≡ byte q i = back_of block q i hq (omega (arith, le, uppers_shown)) ∙ rw none_q refl in
+        sym a ∙ shows block p q i same lt ∙ b;
   }

@@ -3,10 +3,9 @@ use Rattle.std.proofs.Common.{◌≡◌, ◌≢◌, ℕ, zero, suc, ◌+◌, ◌
 use Rattle.std.specs.Prelude.{if◌then◌else◌, nat_le}
 use Rattle.std.proofs.lemmas.Bool.Decides.{eqb_tells, leb_tells}
 use Rattle.std.proofs.lemmas.List.{ext_get_or}
-use Rattle.page_layout.specs.Bytes.{byte, u16_at, u16_bytes, with_u16, cut}
+use Rattle.page_layout.specs.Bytes.{byte, u16_at, cut}
 use Rattle.page_layout.specs.Page.{pd_lower, pd_upper, pd_special, count, lp_off, lp_flags, lp_len, item, line_fits, IsFormed}
 use Rattle.page_layout.specs.Edits.{with_pointer}
-use Rattle.layout.proofs.SpliceLemmas.{length-splice, byte-splice_in, byte-splice_below}
 use Rattle.page_layout.proofs.BytesLemmas.{length-cut, byte-cut}
 use Rattle.page_layout.proofs.LineViews.{len_is, off_other, len_other, flags_other, byte_other, pointer_size}
 use Rattle.page_layout.proofs.ReadLemmas.{lower_u16, upper_u16, special_u16}
@@ -14,26 +13,8 @@ use Rattle.page_layout.proofs.ShapeLemmas.{lines_below, held_in}
 use Rattle.page_layout.proofs.ItemsStay.{fits_in}
 use Rattle.page_masks.specs.Mask.{holds, holder}
 use Rattle.page_masks.proofs.HeapLaid.{open_holds, holds_none}
+use Rattle.page_masks.proofs.Lines.{pointer_alike}
 use Rattle.page_laws.proofs.PagesAlike.{SameLines, PagesAlike, counts_same, len_alike}
-
--- the bytes of a line that is written
-pub pointer_byte : (p q : List ℕ) (k off flags len i : ℕ) → 28 + 4 * k ≤ length p → 28 + 4 * k ≤ length q → 24 + 4 * k ≤ i → i < 28 + 4 * k → byte (with_pointer p k off flags len) i ≡ byte (with_pointer q k off flags len) i
-pointer_byte p q k off flags len i fits_p fits_q le lt = ⊎_elim
-    (λ (t : (nat_le (26 + 4 * k) i ≡ true) × (26 + 4 * k ≤ i)). high p fits_p t.1 ∙ sym (high q fits_q t.1))
-    (λ (f : (nat_le (26 + 4 * k) i ≡ false) × (i < 26 + 4 * k)). low p fits_p f.1 ∙ sym (low q fits_q f.1))
-    (leb_tells (26 + 4 * k) i)
-  where
-    one : List ℕ → List ℕ
-    one r = with_u16 r (24 + 4 * k) (off + 32768 * (flags % 2))
-
-    size : (r : List ℕ) → 28 + 4 * k ≤ length r → length (one r) ≡ length r
-    size r fits = length-splice r (24 + 4 * k) (u16_bytes (off + 32768 * (flags % 2))) (omega arith)
-
-    high : (r : List ℕ) → 28 + 4 * k ≤ length r → 26 + 4 * k ≤ i → byte (with_pointer r k off flags len) i ≡ byte (u16_bytes (flags / 2 + 2 * len)) (i - (26 + 4 * k))
-    high r fits from = byte-splice_in (one r) (26 + 4 * k) (u16_bytes (flags / 2 + 2 * len)) i (omega (arith, size r fits)) from (omega arith)
-
-    low : (r : List ℕ) → 28 + 4 * k ≤ length r → i < 26 + 4 * k → byte (with_pointer r k off flags len) i ≡ byte (u16_bytes (off + 32768 * (flags % 2))) (i - (24 + 4 * k))
-    low r fits to = byte-splice_below (one r) (26 + 4 * k) (u16_bytes (flags / 2 + 2 * len)) i (omega (arith, size r fits)) to ∙ byte-splice_in r (24 + 4 * k) (u16_bytes (off + 32768 * (flags % 2))) i (omega arith) le (omega arith)
 
 module _ (k off flags : ℕ) (small : off < 32768) (kind : flags < 4) where
   abbrev set : List ℕ → List ℕ
@@ -124,7 +105,7 @@ module _ (k off flags : ℕ) (small : off < 32768) (kind : flags < 4) where
         ten = (λ t. front p fp there 10 (omega arith) t / 8 * 8) ∙ s.ten ∙ (λ t. sym (front q fq there_q 10 (omega arith)) t / 8 * 8);
         eleven = front p fp there 11 (omega arith) ∙ s.eleven ∙ sym (front q fq there_q 11 (omega arith));
         head = λ i le lt. front p fp there i (omega arith) ∙ s.head i le lt ∙ sym (front q fq there_q i (omega arith));
-        lines = λ i le lt. line i le (omega (arith, lt, set_lower p fp there)) there_q;
+        lines = λ i le lt. pointer_alike false (pd_lower p) p q k off flags flags 0 (λ j from to out. s.lines j from to) (fits p fp there) (fits q fq there_q) small kind kind (λ e. refl) i le (omega (arith, lt, set_lower p fp there));
         items = λ j lt some.
             let lt_p : j < count p = omega (arith, lt, set_count p fp there) in
             let ne = not_k p fp there j some in
@@ -134,15 +115,6 @@ module _ (k off flags : ℕ) (small : off < 32768) (kind : flags < 4) where
             let some_q : 0 < lp_len (set q) j = omega (arith, some_p, len_q, set_len q fq there_q j ne) in
             rw (set_flags p fp there j ne, set_flags q fq there_q j ne, set_item p fp there j lt_p some, set_item q fq there_q j lt_q some_q) (s.items j lt_p some_p);
       }
-    where
-      line : (i : ℕ) → 24 ≤ i → i < pd_lower p → k < count q → byte (set p) i ≡ byte (set q) i
-      line i le lt there_q = ⊎_elim
-          (λ (a : (nat_le (24 + 4 * k) i ≡ true) × (24 + 4 * k ≤ i)). ⊎_elim
-          (λ (b : (nat_le (28 + 4 * k) i ≡ true) × (28 + 4 * k ≤ i)). byte_other p k off flags 0 (fits p fp there) small kind i (inr b.1) ∙ s.lines i le lt ∙ sym (byte_other q k off flags 0 (fits q fq there_q) small kind i (inr b.1)))
-          (λ (c : (nat_le (28 + 4 * k) i ≡ false) × (i < 28 + 4 * k)). pointer_byte p q k off flags 0 i (fits p fp there) (fits q fq there_q) a.1 c.1)
-          (leb_tells (28 + 4 * k) i))
-          (λ (b : (nat_le (24 + 4 * k) i ≡ false) × (i < 24 + 4 * k)). byte_other p k off flags 0 (fits p fp there) small kind i (inl b.1) ∙ s.lines i le lt ∙ sym (byte_other q k off flags 0 (fits q fq there_q) small kind i (inl b.1)))
-          (leb_tells (24 + 4 * k) i)
 
   -- a line that had no item before either uncovers nothing
   pub set_alike : (block : ℕ) (p q : List ℕ) → IsFormed p → IsFormed q → k < count p → lp_len p k ≡ 0 → PagesAlike block p q → PagesAlike block (set p) (set q)

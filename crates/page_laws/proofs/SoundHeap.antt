@@ -12,12 +12,13 @@ use Rattle.page_masks.specs.declared.kind.PageKind.TheVariants.{Heap}
 use Rattle.page_masks.specs.Mask.{mask}
 use Rattle.page_masks.specs.Shapes.{IsHeap}
 use Rattle.page_masks.specs.Sound.{is_sound, sound_as, have_good_hoffs}
-use Rattle.page_masks.proofs.Alike.{heap_mask, same_count, same_off, same_len}
+use Rattle.page_masks.proofs.Holders.{heap_mask}
 use Rattle.page_masks.proofs.MaskShape.{kind_shown}
 use Rattle.page_masks.proofs.ShapeKind.{shape_kind, shape_cases, shape_heap}
 use Rattle.page_masks.proofs.Trimmed.{trimmed_page, trimmed_mask, trimmed_apart, count_q, off_q, len_q}
 use Rattle.page_masks.proofs.Unshown.{heap_mask_is, is_heap, kind_heap}
 use Rattle.page_laws.specs.Results.{TrimmedHeap}
+use Rattle.page_laws.proofs.PagesAlike.{count_shown, off_shown, len_shown}
 
 both : (a b : Bool) → IsTrue (a && b) → a ≡ true
 both true b e = refl
@@ -55,9 +56,9 @@ apart_shown block p q hp hq same apart = λ j k lt there some_j some_k.
     sym (heap_mask_is block (trimmed q) (is_heap (trimmed q) tq)) ∙ trimmed_mask q hq block ∙ sym same ∙ sym (trimmed_mask p hp block) ∙ heap_mask_is block (trimmed p) (is_heap (trimmed p) tp) in
     let k_q : k < count (trimmed q) = omega (arith, count_q q hq, long_stays q (count q) k there some_k) in
     let j_q : j < count (trimmed q) = omega (arith, k_q, lt) in
-    let n = same_count block (trimmed q) (trimmed p) tq tp m in
-    let o : (i : ℕ) → i < count (trimmed q) → lp_off q i ≡ lp_off p i = λ i l. sym (off_q q hq i) ∙ same_off block (trimmed q) (trimmed p) tq tp m i l ∙ off_q p hp i in
-    let l : (i : ℕ) → i < count (trimmed q) → lp_len q i ≡ lp_len p i = λ i l. sym (len_q q hq i) ∙ same_len block (trimmed q) (trimmed p) tq tp m i l ∙ len_q p hp i in
+    let n = count_shown block (trimmed q) (trimmed p) tq tp m in
+    let o : (i : ℕ) → i < count (trimmed q) → lp_off q i ≡ lp_off p i = λ i l. sym (off_q q hq i) ∙ off_shown block (trimmed q) (trimmed p) tq tp m i l ∙ off_q p hp i in
+    let l : (i : ℕ) → i < count (trimmed q) → lp_len q i ≡ lp_len p i = λ i l. sym (len_q q hq i) ∙ len_shown block (trimmed q) (trimmed p) tq tp m i l ∙ len_q p hp i in
     rw (o j j_q, l j j_q, o k k_q, l k k_q) (apart j k lt (omega (arith, k_q, n, count_q p hp, trimmed_count-le p (count p))) (omega (arith, some_j, l j j_q)) (omega (arith, some_k, l k k_q)))
 
 pub trims_alike : (block : ℕ) (p q : List ℕ) → IsHeap p → IsTrue (is_sound p) → length q ≡ 8192 → mask block p ≡ mask block q → TrimmedHeap (trimmed p) × TrimmedHeap (trimmed q)

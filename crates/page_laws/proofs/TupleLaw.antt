@@ -5,6 +5,7 @@ use Rattle.std.proofs.lemmas.Bool.Decides.{leb_tells}
 use Rattle.std.proofs.lemmas.List.{ext_get_or}
 use Rattle.layout.specs.Splice.{splice}
 use Rattle.page_layout.specs.Bytes.{byte, u16_at, with_u16, u16_bytes}
+use Rattle.page_layout.proofs.LineViews.{u16_at-with_u16}
 use Rattle.layout.proofs.SpliceLemmas.{length-splice, byte-splice_in, byte-splice_out, byte-splice_below, byte-splice_above}
 use Rattle.page_masks.specs.Mask.{masked_item, masked_tuple, masked_infomask, tid_bytes}
 use Rattle.page_masks.proofs.Laid.{length-masked_item}
@@ -82,9 +83,6 @@ module _ (block place : ℕ) where
       (leb_tells a o))
       (leb_tells (a + length bs) o)
 
-  sizes_stay : (x y : List ℕ) (a : ℕ) (bs cs : List ℕ) → a + length bs ≤ length x → a + length cs ≤ length y → length x ≡ length y → length (splice x a bs) ≡ length (splice y a cs)
-  sizes_stay x y a bs cs f g size = length-splice x a bs f ∙ size ∙ sym (length-splice y a cs g)
-
   -- an address read at o where bytes from 12 to 18 stay
   tid_stays : (x : List ℕ) (a : ℕ) (bs : List ℕ) (o : ℕ) → 23 ≤ length x → a + length bs ≤ length x → o < 6 → (a + length bs ≤ 12) ⊎ (18 ≤ a) → tid_byte block place (splice x a bs) o ≡ tid_byte block place x o
   tid_stays x a bs o long fits lt away = λ t. if ((at 16 (omega arith) (omega arith) t + 256 * at 17 (omega arith) (omega arith) t) == 0xFFFE) then byte (tid_bytes block place) o else at (12 + o) (omega arith) (omega arith) t
@@ -101,96 +99,32 @@ module _ (block place : ℕ) where
       two : (i + 1 < a) ⊎ (a + length bs ≤ i) → (i + 1 < a) ⊎ (a + length bs ≤ i + 1)
       two o = ⊎_elim (λ l. inl l) (λ (r : a + length bs ≤ i). inr (omega (arith, r))) o
 
-  -- bytes below 12
-  pub put_low : (x y : List ℕ) (a : ℕ) (bs : List ℕ) → a + length bs ≤ 12 → TupleAlike x y → TupleAlike (splice x a bs) (splice y a bs)
-  put_low x y a bs low al =
-      let fx : a + length bs ≤ length x = omega (arith, low, al.long) in
-      let fy : a + length bs ≤ length y = omega (arith, fx, al.size) in
-      let ly : 23 ≤ length y = omega (arith, al.long, al.size) in
-      record {
-        long = omega (arith, length-splice x a bs fx, al.long);
-        size = sizes_stay x y a bs bs fx fy al.size;
-        xids = λ o lt. over_both x y a bs o fx al.size (λ out. al.xids o lt);
-        tid = λ o lt. tid_stays x a bs o al.long fx lt (inl low) ∙ al.tid o lt ∙ sym (tid_stays y a bs o ly fy lt (inl low));
-        bits2 = λ o le lt. over_both x y a bs o fx al.size (λ out. al.bits2 o le lt);
-        bits = (λ t. masked_infomask (u16_out x a bs 20 fx (inr (omega (arith, low))) t)) ∙ al.bits ∙ (λ t. masked_infomask (sym (u16_out y a bs 20 fy (inr (omega (arith, low)))) t));
-        rest = λ o le. over_both x y a bs o fx al.size (λ out. al.rest o le);
-      }
-
-  -- bytes behind the header
-  pub put_tail : (x y : List ℕ) (a : ℕ) (bs : List ℕ) → 23 ≤ a → a + length bs ≤ length x → TupleAlike x y → TupleAlike (splice x a bs) (splice y a bs)
-  put_tail x y a bs high fx al =
-      let fy : a + length bs ≤ length y = omega (arith, fx, al.size) in
-      let ly : 23 ≤ length y = omega (arith, al.long, al.size) in
-      record {
-        long = omega (arith, length-splice x a bs fx, al.long);
-        size = sizes_stay x y a bs bs fx fy al.size;
-        xids = λ o lt. over_both x y a bs o fx al.size (λ out. al.xids o lt);
-        tid = λ o lt. tid_stays x a bs o al.long fx lt (inr (omega (arith, high))) ∙ al.tid o lt ∙ sym (tid_stays y a bs o ly fy lt (inr (omega (arith, high))));
-        bits2 = λ o le lt. over_both x y a bs o fx al.size (λ out. al.bits2 o le lt);
-        bits = (λ t. masked_infomask (u16_out x a bs 20 fx (inl (omega (arith, high))) t)) ∙ al.bits ∙ (λ t. masked_infomask (sym (u16_out y a bs 20 fy (inl (omega (arith, high)))) t));
-        rest = λ o le. over_both x y a bs o fx al.size (λ out. al.rest o le);
-      }
-
-  -- an address
-  pub put_tid : (x y bs : List ℕ) → length bs ≡ 6 → TupleAlike x y → TupleAlike (splice x 12 bs) (splice y 12 bs)
-  put_tid x y bs six al =
-      let fx : 12 + length bs ≤ length x = omega (arith, six, al.long) in
-      let fy : 12 + length bs ≤ length y = omega (arith, fx, al.size) in
-      record {
-        long = omega (arith, length-splice x 12 bs fx, al.long);
-        size = sizes_stay x y 12 bs bs fx fy al.size;
-        xids = λ o lt. over_both x y 12 bs o fx al.size (λ out. al.xids o lt);
-        tid = λ o lt. λ t. if ((at 16 fx (omega arith) (omega arith) t + 256 * at 17 fx (omega arith) (omega arith) t) == 0xFFFE) then byte (tid_bytes block place) o else at (12 + o) fx (omega arith) (omega arith) t;
-        bits2 = λ o le lt. over_both x y 12 bs o fx al.size (λ out. al.bits2 o le lt);
-        bits = (λ t. masked_infomask (u16_out x 12 bs 20 fx (inr (omega (arith, six))) t)) ∙ al.bits ∙ (λ t. masked_infomask (sym (u16_out y 12 bs 20 fy (inr (omega (arith, six)))) t));
-        rest = λ o le. over_both x y 12 bs o fx al.size (λ out. al.rest o le);
-      }
+  -- the same bytes laid over both, beside the first mask, and over the whole address or beside it
+  pub laid_alike : (x y : List ℕ) (a : ℕ) (bs : List ℕ) → a + length bs ≤ length x → (a + length bs ≤ 20) ⊎ (22 ≤ a) → ((a + length bs ≤ 12) ⊎ (18 ≤ a)) ⊎ ((a ≡ 12) × (length bs ≡ 6)) → TupleAlike x y → TupleAlike (splice x a bs) (splice y a bs)
+  laid_alike x y a bs fx beside address al = record {
+    long = omega (arith, length-splice x a bs fx, al.long);
+    size = length-splice x a bs fx ∙ al.size ∙ sym (length-splice y a bs fy);
+    xids = λ o lt. over o (λ out. al.xids o lt);
+    tid = λ o lt. ⊎_elim
+        (λ (away : (a + length bs ≤ 12) ⊎ (18 ≤ a)). tid_stays x a bs o al.long fx lt away ∙ al.tid o lt ∙ sym (tid_stays y a bs o (omega (arith, al.long, al.size)) fy lt away))
+        (λ (whole : (a ≡ 12) × (length bs ≡ 6)). λ t. if ((at whole 16 (omega arith) (omega arith) t + 256 * at whole 17 (omega arith) (omega arith) t) == 0xFFFE) then byte (tid_bytes block place) o else at whole (12 + o) (omega arith) (omega (arith, lt)) t)
+        address;
+    bits2 = λ o le lt. over o (λ out. al.bits2 o le lt);
+    bits = (λ t. masked_infomask (u16_out x a bs 20 fx past t)) ∙ al.bits ∙ (λ t. masked_infomask (sym (u16_out y a bs 20 fy past) t));
+    rest = λ o le. over o (λ out. al.rest o le);
+  }
     where
-      at : (i : ℕ) → 12 + length bs ≤ length x → 12 ≤ i → i < 18 → byte (splice x 12 bs) i ≡ byte (splice y 12 bs) i
-      at i fx le lt = byte-splice_in x 12 bs i fx le (omega (arith, six, lt)) ∙ sym (byte-splice_in y 12 bs i (omega (arith, fx, al.size)) le (omega (arith, six, lt)))
+      fy : a + length bs ≤ length y
+      fy = omega (arith, fx, al.size)
 
-  -- the second mask, by a function of itself
-  pub put_bits2 : (g : ℕ → ℕ) (x y : List ℕ) → TupleAlike x y → TupleAlike (with_u16 x 18 (g (u16_at x 18))) (with_u16 y 18 (g (u16_at y 18)))
-  put_bits2 g x y al = subst (λ n. TupleAlike (with_u16 x 18 (g (u16_at x 18))) (with_u16 y 18 (g n))) same made
-    where
-      same : u16_at x 18 ≡ u16_at y 18
-      same = λ t. al.bits2 18 (omega arith) (omega arith) t + 256 * al.bits2 19 (omega arith) (omega arith) t
+      over : (o : ℕ) → ((o < a) ⊎ (a + length bs ≤ o) → byte x o ≡ byte y o) → byte (splice x a bs) o ≡ byte (splice y a bs) o
+      over o out = over_both x y a bs o fx al.size out
 
-      bs : List ℕ
-      bs = u16_bytes (g (u16_at x 18))
+      past : (20 + 1 < a) ⊎ (a + length bs ≤ 20)
+      past = ⊎_elim (λ (l : a + length bs ≤ 20). inr l) (λ (h : 22 ≤ a). inl (omega (arith, h))) beside
 
-      two : length bs ≡ 2
-      two = refl
-
-      fx : 18 + length bs ≤ length x
-      fx = omega (arith, al.long, two)
-
-      fy : 18 + length bs ≤ length y
-      fy = omega (arith, al.long, al.size, two)
-
-      ly : 23 ≤ length y
-      ly = omega (arith, al.long, al.size)
-
-      made : TupleAlike (splice x 18 bs) (splice y 18 bs)
-      made = record {
-        long = omega (arith, length-splice x 18 bs fx, al.long);
-        size = sizes_stay x y 18 bs bs fx fy al.size;
-        xids = λ o lt. over_both x y 18 bs o fx al.size (λ out. al.xids o lt);
-        tid = λ o lt. tid_stays x 18 bs o al.long fx lt (inr (omega arith)) ∙ al.tid o lt ∙ sym (tid_stays y 18 bs o ly fy lt (inr (omega arith)));
-        bits2 = λ o le lt. over_both x y 18 bs o fx al.size (λ out. al.bits2 o le lt);
-        bits = (λ t. masked_infomask (u16_out x 18 bs 20 fx (inr (omega (arith, two))) t)) ∙ al.bits ∙ (λ t. masked_infomask (sym (u16_out y 18 bs 20 fy (inr (omega (arith, two)))) t));
-        rest = λ o le. over_both x y 18 bs o fx al.size (λ out. al.rest o le);
-      }
-
-  u16_in : (x : List ℕ) (n : ℕ) → 23 ≤ length x → u16_at (with_u16 x 20 n) 20 ≡ n
-  u16_in x n long =
-      let a : byte (with_u16 x 20 n) 20 ≡ n % 256 = byte-splice_in x 20 (u16_bytes n) 20 (omega arith) (omega arith) (omega arith) in
-      let b : byte (with_u16 x 20 n) 21 ≡ n / 256 = byte-splice_in x 20 (u16_bytes n) 21 (omega arith) (omega arith) (omega arith) in
-      (λ t. a t + 256 * b t) ∙ whole n
-    where
-      whole : (n : ℕ) → n % 256 + 256 * (n / 256) ≡ n
-      whole n = omega arith
+      at : (a ≡ 12) × (length bs ≡ 6) → (i : ℕ) → 12 ≤ i → i < 18 → byte (splice x a bs) i ≡ byte (splice y a bs) i
+      at whole i le lt = over i (λ out. absurd (⊎_elim (λ (l : i < a). omega (arith, l, le, whole.0)) (λ (h : a + length bs ≤ i). omega (arith, h, lt, whole.0, whole.1)) out))
 
   -- the first mask, by a function that what shows of it determines
   pub put_bits : (g : ℕ → ℕ) (x y : List ℕ) → ((v w : ℕ) → masked_infomask v ≡ masked_infomask w → masked_infomask (g v) ≡ masked_infomask (g w))
@@ -201,11 +135,11 @@ module _ (block place : ℕ) where
       let by = u16_bytes (g (u16_at y 20)) in
       record {
         long = omega (arith, length-splice x 20 bx (omega (arith, al.long)), al.long);
-        size = sizes_stay x y 20 bx by (omega (arith, al.long)) (omega (arith, ly)) al.size;
+        size = length-splice x 20 bx (omega (arith, al.long)) ∙ al.size ∙ sym (length-splice y 20 by (omega (arith, ly)));
         xids = λ o lt. out x (g (u16_at x 20)) o al.long (inl (omega arith)) ∙ al.xids o lt ∙ sym (out y (g (u16_at y 20)) o ly (inl (omega arith)));
         tid = λ o lt. tid_stays x 20 bx o al.long (omega (arith, al.long)) lt (inr (omega arith)) ∙ al.tid o lt ∙ sym (tid_stays y 20 by o ly (omega (arith, ly)) lt (inr (omega arith)));
         bits2 = λ o le lt. out x (g (u16_at x 20)) o al.long (inl lt) ∙ al.bits2 o le lt ∙ sym (out y (g (u16_at y 20)) o ly (inl lt));
-        bits = ap masked_infomask (u16_in x (g (u16_at x 20)) al.long) ∙ law (u16_at x 20) (u16_at y 20) al.bits ∙ sym (ap masked_infomask (u16_in y (g (u16_at y 20)) ly));
+        bits = ap masked_infomask (u16_at-with_u16 x 20 (g (u16_at x 20)) (omega (arith, al.long))) ∙ law (u16_at x 20) (u16_at y 20) al.bits ∙ sym (ap masked_infomask (u16_at-with_u16 y 20 (g (u16_at y 20)) (omega (arith, ly))));
         rest = λ o le. out x (g (u16_at x 20)) o al.long (inr le) ∙ al.rest o le ∙ sym (out y (g (u16_at y 20)) o ly (inr le));
       }
     where

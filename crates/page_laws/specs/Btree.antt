@@ -1,10 +1,11 @@
 -- B-tree pages, and one made anew with its special space kept: PostgreSQL 16, src/include/access/nbtree.h, BTPageOpaqueData, and
 -- src/backend/storage/page/bufpage.c, PageGetTempPageCopySpecial.
-use Rattle.std.specs.Prelude.{ℕ, ◌≡◌, ◌+◌, ◌*◌, ◌/◌, ◌%◌, ◌<◌, ◌≤◌, List, [], ◌∷◌, length}
+use Rattle.std.specs.Prelude.{ℕ, ◌≡◌, ◌%◌, ◌<◌, ◌≤◌, List, [], ◌∷◌, length}
 use Rattle.layout.specs.Splice.{splice}
 use Rattle.page_layout.specs.Bytes.{byte, u16_at, cut}
 use Rattle.page_layout.specs.Page.{count, lp_off, lp_len, item}
 use Rattle.page_layout.specs.Edits.{init_bytes}
+use Rattle.page_masks.specs.Mask.{shown_flags}
 use Rattle.page_masks.specs.Shapes.{IsBtree}
 
 -- a page of the kind B-tree: its cycle id is at most MAX_BT_CYCLE_ID
@@ -24,10 +25,6 @@ pub record SameBtreeItems (p q : List ℕ) : Type 0 where
   pub item : (k : ℕ) → k < count p → 0 < lp_len p k → item q k ≡ item p k
   pub links : (i : ℕ) → 8176 ≤ i → i < 8188 → byte q i ≡ byte p i
   pub leaf : byte q 8188 % 2 ≡ byte p 8188 % 2
-
--- a byte of flags without BTP_SPLIT_END and BTP_HAS_GARBAGE
-abbrev pub shown_flags : ℕ → ℕ
-shown_flags b = b / 128 * 128 + b % 32
 
 -- a special space as the mask shows it: without these flags and the cycle id
 abbrev pub shown_special : List ℕ → List ℕ

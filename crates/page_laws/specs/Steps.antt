@@ -1,6 +1,5 @@
 -- Steps that redo of heap records is made of: PostgreSQL 16, src/backend/access/heap/pruneheap.c, heap_page_prune_execute. Own: "Laws of the masks".
-use Rattle.std.specs.Prelude.{ℕ, ◌≡◌, ◌*◌, ◌/◌, ◌<◌, ◌≤◌, List, [], ◌∷◌, length}
-use Rattle.page_layout.specs.Bytes.{byte}
+use Rattle.std.specs.Prelude.{ℕ, ◌<◌, List, [], ◌∷◌}
 use Rattle.page_layout.specs.Edits.{with_pointer}
 
 -- a line that gets no item: unused, a redirect, or dead with length 0
@@ -18,10 +17,3 @@ AreSettings lines (s ∷ settings) = (s.index < lines) × (s.off < 32768) × (s.
 abbrev pub lines_set : List Setting → List ℕ → List ℕ
 lines_set [] p = p
 lines_set (s ∷ settings) p = lines_set settings (with_pointer p s.index s.off s.flags 0)
-
--- pages that differ in LSN, checksum, the flags that aren't shown, and the prune xid
-pub record OnlyHead (p q : List ℕ) : Type 0 where
-  pub size : length q ≡ 8192
-  pub flags : byte q 10 / 8 * 8 ≡ byte p 10 / 8 * 8
-  pub head : (i : ℕ) → 11 ≤ i → i < 20 → byte q i ≡ byte p i
-  pub rest : (i : ℕ) → 24 ≤ i → byte q i ≡ byte p i

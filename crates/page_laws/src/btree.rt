@@ -6,8 +6,8 @@ ghost use Rattle.page_layout.specs.Edits.{add_item, init_bytes};
 ghost use Rattle.page_layout.specs.Deletes.{delete_items};
 ghost use Rattle.page_masks.specs.declared.kind.PageKind.TheVariants as PageKind;
 ghost use Rattle.page_masks.specs.Kind.{kind_of};
-ghost use Rattle.page_masks.specs.Mask.{mask};
-ghost use Rattle.page_laws.specs.Btree.{BtreePage, SameBtreeItems, made_anew, SpecialChange, StaysLeaf, shown_flags, with_special};
+ghost use Rattle.page_masks.specs.Mask.{mask, shown_flags};
+ghost use Rattle.page_laws.specs.Btree.{BtreePage, SameBtreeItems, made_anew, SpecialChange, StaysLeaf, with_special};
 ghost use Rattle.page_laws.specs.Results.{SameResults};
 
 /// `BtreePage` is the kind B-tree.

@@ -5,11 +5,12 @@ ghost use Rattle.page_layout.specs.Page.{count, lp_flags, lp_len};
 ghost use Rattle.page_layout.specs.Edits.{with_pointer, add_item, trimmed};
 ghost use Rattle.page_layout.specs.Pack.{pack};
 ghost use Rattle.page_masks.specs.Mask.{mask, masked_infomask};
-ghost use Rattle.page_masks.specs.Shapes.{HeapPage, IsHeap};
+ghost use Rattle.page_masks.specs.Shapes.{HeapPage, IsHeap, OnlyHead};
 ghost use Rattle.page_masks.specs.Sound.{is_sound};
 ghost use Rattle.page_laws.specs.Change.{edited, ItemChange};
 ghost use Rattle.page_laws.specs.Results.{SameResults, TrimmedHeap};
-ghost use Rattle.page_laws.specs.Steps.{Setting, AreSettings, lines_set, OnlyHead};
+ghost use Rattle.page_laws.specs.Shown.{SameHeapItems};
+ghost use Rattle.page_laws.specs.Steps.{Setting, AreSettings, lines_set};
 
 /// Trimming a heap page doesn't show, nor do its LSN, checksum, three flags and prune xid.
 #[tactic(auto, using(crate::proofs::StepLaws::trim_unshown, crate::proofs::StepLaws::head_unshown))]
@@ -17,6 +18,14 @@ pub fn unshown()
     ensures trim { (block : ℕ) (p : List ℕ) → IsHeap p → mask block (trimmed p) ≡ mask block p }
     ensures head { (block : ℕ) (p q : List ℕ) → HeapPage p → OnlyHead p q →
         mask block q ≡ mask block p }
+{}
+
+/// Trimmed heap pages with equal masks have the same lines, and items that look the same: of tuples
+/// all bytes from the header's last on, `t_hoff`, are the same.
+#[tactic(auto, using(crate::proofs::HeapShown::heap_shown))]
+pub fn heap_shown()
+    ensures { (block : ℕ) (p q : List ℕ) → TrimmedHeap p → TrimmedHeap q →
+        mask block p ≡ mask block q → SameHeapItems block p q }
 {}
 
 /// A change of one tuple that its mask determines respects the mask.
@@ -60,8 +69,8 @@ pub fn trims_alike()
         mask block p ≡ mask block q → TrimmedHeap (trimmed p) × TrimmedHeap (trimmed q) }
 {}
 
-/// What a step leaves of a page that the steps' laws speak of is such a page again: at once, or
-/// once it is trimmed.
+/// What a step leaves of a page that the steps' laws speak of is such a page again. (Lines that were
+/// set, and a packed page, may end in unused ones.)
 pub fn heap_steps_keep()
     ensures head { (p q : List ℕ) → TrimmedHeap p → OnlyHead p q → TrimmedHeap q }
     ensures edit { (block k : ℕ) (change : List ℕ → List ℕ) (p : List ℕ) →
@@ -69,12 +78,6 @@ pub fn heap_steps_keep()
         TrimmedHeap (edited k change p) }
     ensures add { (place : ℕ) (p bytes r : List ℕ) → TrimmedHeap p →
         add_item p bytes place true ≡ Ok r → TrimmedHeap r }
-    ensures empty_line { (k off flags : ℕ) (p : List ℕ) → off < 32768 → flags < 4 →
-        TrimmedHeap p → k < count p →
-        IsHeap (with_pointer p k off flags 0) × TrimmedHeap (trimmed (with_pointer p k off flags 0)) }
-    ensures prune { (settings : List Setting) (p r : List ℕ) → TrimmedHeap p →
-        AreSettings (count p) settings → pack (lines_set settings p) ≡ Ok r →
-        IsHeap r × TrimmedHeap (trimmed r) }
 {}
 
 /// Changes of a tuple that its mask determines: bytes over those below 12, all bytes from a place

@@ -13,19 +13,21 @@ use Rattle.page_layout.proofs.LineViews.{u16_at-with_u16, off_is, len_is, flags_
 use Rattle.page_layout.proofs.ReadLemmas.{lower_u16, upper_u16, off_same, len_same, flags_same}
 use Rattle.page_layout.proofs.ShapeLemmas.{line_fits_at, item_in, flags_small}
 
-record Raised (p : List ℕ) (at size : ℕ) (r : List ℕ) : Type 0 where
-  size8 : length r ≡ 8192
-  upper : pd_upper r ≡ pd_upper p + size
-  low : (i : ℕ) → i < 14 → byte r i ≡ byte p i
-  front : (i : ℕ) → 16 ≤ i → i < pd_upper p + size → byte r i ≡ byte p i
-  moved : (i : ℕ) → pd_upper p + size ≤ i → i < at + size → byte r i ≡ byte p (i - size)
-  above : (i : ℕ) → at + size ≤ i → byte r i ≡ byte p i
+pub record Raised (p : List ℕ) (at size : ℕ) (r : List ℕ) : Type 0 where
+  pub size8 : length r ≡ 8192
+  pub upper : pd_upper r ≡ pd_upper p + size
+  pub low : (i : ℕ) → i < 14 → byte r i ≡ byte p i
+  pub top : (i : ℕ) → 14 ≤ i → i < 16 → byte r i ≡ byte (u16_bytes (pd_upper p + size)) (i - 14)
+  pub front : (i : ℕ) → 16 ≤ i → i < pd_upper p + size → byte r i ≡ byte p i
+  pub moved : (i : ℕ) → pd_upper p + size ≤ i → i < at + size → byte r i ≡ byte p (i - size)
+  pub above : (i : ℕ) → at + size ≤ i → byte r i ≡ byte p i
 
-raised_is : (p : List ℕ) (at size : ℕ) → length p ≡ 8192 → 24 ≤ pd_upper p → pd_upper p ≤ at → at + size ≤ 8192 → Raised p at size (raised p at size)
+pub raised_is : (p : List ℕ) (at size : ℕ) → length p ≡ 8192 → 24 ≤ pd_upper p → pd_upper p ≤ at → at + size ≤ 8192 → Raised p at size (raised p at size)
 raised_is p at size size8 low above below = record {
   size8 = length-splice closed 14 (u16_bytes (pd_upper p + size)) (omega (arith, closed_size)) ∙ closed_size;
   upper = upper_is;
   low = λ i lt. other i (inl lt) ∙ byte-splice_below p (pd_upper p + size) part i fits (omega arith);
+  top = λ i le lt. byte-splice_in closed 14 (u16_bytes (pd_upper p + size)) i (omega (arith, closed_size)) le lt;
   front = λ i le lt. other i (inr le) ∙ byte-splice_below p (pd_upper p + size) part i fits lt;
   moved = λ i le lt.
       let there : pd_upper p + (i - (pd_upper p + size)) ≡ i - size = omega arith in
@@ -59,18 +61,18 @@ raised_is p at size size8 low above below = record {
 abbrev pub moved_off : ℕ → ℕ → List ℕ → ℕ → ℕ
 moved_off at size p j = if nat_lt 0 (lp_len p j) && nat_lt (lp_off p j) at then lp_off p j + size else lp_off p j
 
-record MovedLines (r : List ℕ) (at size n : ℕ) (page : List ℕ) : Type 0 where
-  size8 : length page ≡ 8192
-  off : (j : ℕ) → lp_off page j ≡ (if nat_lt j n then moved_off at size r j else lp_off r j)
-  len : (j : ℕ) → lp_len page j ≡ lp_len r j
-  flags : (j : ℕ) → lp_flags page j ≡ lp_flags r j
-  outside : (i : ℕ) → (i < 24) ⊎ (24 + 4 * n ≤ i) → byte page i ≡ byte r i
+pub record MovedLines (r : List ℕ) (at size n : ℕ) (page : List ℕ) : Type 0 where
+  pub size8 : length page ≡ 8192
+  pub off : (j : ℕ) → lp_off page j ≡ (if nat_lt j n then moved_off at size r j else lp_off r j)
+  pub len : (j : ℕ) → lp_len page j ≡ lp_len r j
+  pub flags : (j : ℕ) → lp_flags page j ≡ lp_flags r j
+  pub outside : (i : ℕ) → (i < 24) ⊎ (24 + 4 * n ≤ i) → byte page i ≡ byte r i
 
 -- one more line
 choose_last : (a b : ℕ) (n j : ℕ) → j ≢ n → (if nat_lt j n then a else b) ≡ (if nat_lt j (suc n) then a else b)
 choose_last a b n j ne = grind (arith, nat_tests)
 
-moved_lines_are : (r : List ℕ) (at size n : ℕ) → length r ≡ 8192 → at + size ≤ 8192 → 24 + 4 * n ≤ 8192 → MovedLines r at size n (moved_lines r at size n)
+pub moved_lines_are : (r : List ℕ) (at size n : ℕ) → length r ≡ 8192 → at + size ≤ 8192 → 24 + 4 * n ≤ 8192 → MovedLines r at size n (moved_lines r at size n)
 moved_lines_are r at size zero size8 below there = record {
   size8 = size8;
   off = λ j. let no : nat_lt j 0 ≡ false = grind (arith, nat_tests) in rw no refl;

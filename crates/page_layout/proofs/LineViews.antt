@@ -1,10 +1,10 @@
 -- The lines of a page after one is written.
-use Rattle.std.proofs.Common.{◌≡◌, ◌≢◌, ℕ, ◌+◌, ◌-◌, ◌*◌, ◌/◌, ◌%◌, ◌<◌, ◌≤◌, ◌⊎◌, inl, inr, ⊎_elim, List, length, ◌∙◌, ap, arith}
+use Rattle.std.proofs.Common.{◌≡◌, ◌≢◌, ℕ, ◌+◌, ◌-◌, ◌*◌, ◌/◌, ◌%◌, ◌<◌, ◌≤◌, ◌⊎◌, inl, inr, ⊎_elim, List, ◌++◌, length, ◌∙◌, ap, arith}
 use Rattle.std.proofs.lemmas.Bool.Decides.{leb_tells}
 use Rattle.page_layout.specs.Bytes.{byte, u16_at, with_u16, u16_bytes}
 use Rattle.page_layout.specs.Page.{lp_off, lp_flags, lp_len}
 use Rattle.page_layout.specs.Edits.{with_pointer}
-use Rattle.layout.proofs.SpliceLemmas.{length-splice, byte-splice_in, byte-splice_out}
+use Rattle.layout.proofs.SpliceLemmas.{length-splice, byte-splice_in, byte-splice_out, splice-splice}
 
 pub u16_at-with_u16 : (p : List ℕ) (at n : ℕ) → at + 2 ≤ length p → u16_at (with_u16 p at n) at ≡ n
 u16_at-with_u16 p at n fits =
@@ -25,6 +25,15 @@ u16_at-with_u16_out p at n i fits out = λ t. byte-splice_out p at (u16_bytes n)
 
     second : (i + 1 < at) ⊎ (at + 2 ≤ i) → (i + 1 < at) ⊎ (at + 2 ≤ i + 1)
     second o = ⊎_elim (λ l. inl l) (λ (r : at + 2 ≤ i). inr (omega (arith, r))) o
+
+-- a line as its four bytes
+abbrev pub line_bytes : ℕ → ℕ → ℕ → List ℕ
+line_bytes off flags len = u16_bytes (off + 32768 * (flags % 2)) ++ u16_bytes (flags / 2 + 2 * len)
+
+pub pointer_in : (p : List ℕ) (k off flags len i : ℕ) → 28 + 4 * k ≤ length p → 24 + 4 * k ≤ i → i < 28 + 4 * k → byte (with_pointer p k off flags len) i ≡ byte (line_bytes off flags len) (i - (24 + 4 * k))
+pointer_in p k off flags len i fits le lt =
+    ap (λ x. byte x i) (splice-splice p (24 + 4 * k) (u16_bytes (off + 32768 * (flags % 2))) (u16_bytes (flags / 2 + 2 * len)) (26 + 4 * k) (omega arith) (omega (arith, fits)))
+    ∙ byte-splice_in p (24 + 4 * k) (line_bytes off flags len) i (omega (arith, fits)) le (omega (arith, lt))
 
 module _ (p : List ℕ) (k off flags len : ℕ) (fits : 28 + 4 * k ≤ length p) (small : off < 32768) (kind : flags < 4) where
   abbrev low : List ℕ

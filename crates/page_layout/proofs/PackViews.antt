@@ -10,7 +10,7 @@ use Rattle.page_layout.specs.Edits.{with_pointer, with_item}
 use Rattle.page_layout.specs.Pack.{total, packed_off, with_packed, packed_lines}
 use Rattle.layout.proofs.SpliceLemmas.{length-splice, byte-splice_in, byte-splice_out, byte-splice_below, byte-splice_above}
 use Rattle.page_layout.proofs.BytesLemmas.{byte-zeros, length-cut}
-use Rattle.page_layout.proofs.LineViews.{off_is, len_is, flags_is, u16_other}
+use Rattle.page_layout.proofs.LineViews.{line_bytes, pointer_in, off_is, len_is, flags_is, u16_other}
 use Rattle.page_layout.proofs.Packing.{total-le}
 use Rattle.page_layout.proofs.ShapeLemmas.{flags_small}
 
@@ -41,7 +41,7 @@ module _ (p : List ℕ) (ok : Packable p) where
       omega (arith, length-append (item p k) (replicate (up8 (length (item p k)) - length (item p k)) 0), z, n)
 
   -- a step on a page of the right size
-  record Step (k : ℕ) (page new : List ℕ) : Type 0 where
+  pub record Step (k : ℕ) (page new : List ℕ) : Type 0 where
     pub size : length new ≡ 8192
     pub same : lp_len p k ≡ 0 → new ≡ page
     pub below : (i : ℕ) → i < 24 + 4 * k → byte new i ≡ byte page i
@@ -49,17 +49,18 @@ module _ (p : List ℕ) (ok : Packable p) where
     pub above : (i : ℕ) → 28 + 4 * k ≤ i → packed_off p k + up8 (lp_len p k) ≤ i → byte new i ≡ byte page i
     pub words : (i : ℕ) → (i + 1 < 24 + 4 * k) ⊎ (28 + 4 * k ≤ i) → i + 1 < pd_lower p → u16_at new i ≡ u16_at page i
     pub here : 0 < lp_len p k → (o : ℕ) → o < up8 (lp_len p k) → byte new (packed_off p k + o) ≡ byte (held k) o
+    pub line : 0 < lp_len p k → (i : ℕ) → 24 + 4 * k ≤ i → i < 28 + 4 * k → byte new i ≡ byte (line_bytes (packed_off p k) (lp_flags p k) (lp_len p k)) (i - (24 + 4 * k))
     pub off : 0 < lp_len p k → lp_off new k ≡ packed_off p k
     pub len : 0 < lp_len p k → lp_len new k ≡ lp_len p k
     pub flags : 0 < lp_len p k → lp_flags new k ≡ lp_flags p k
 
-  high_enough : (k : ℕ) → k < count p → pd_lower p ≤ packed_off p k
+  pub high_enough : (k : ℕ) → k < count p → pd_lower p ≤ packed_off p k
   high_enough k lt = let t = total-le p k (count p) lt in omega (arith, t, ok.room)
 
-  on_top : (k : ℕ) → k < count p → packed_off p k + up8 (lp_len p k) ≤ pd_special p
+  pub on_top : (k : ℕ) → k < count p → packed_off p k + up8 (lp_len p k) ≤ pd_special p
   on_top k lt = let t = total-le p k (count p) lt in omega (arith, t, ok.room)
 
-  step : (k : ℕ) (page : List ℕ) → k < count p → length page ≡ 8192 → Step k page (with_packed p k page)
+  pub step : (k : ℕ) (page : List ℕ) → k < count p → length page ≡ 8192 → Step k page (with_packed p k page)
   step k page lt size = by_case (lp_len p k == 0) refl
     where
       made : List ℕ
@@ -76,6 +77,7 @@ module _ (p : List ℕ) (ok : Packable p) where
             above = λ i l m. refl;
             words = λ i o l. refl;
             here = λ some. absurd (omega (arith, some, none));
+            line = λ some. absurd (omega (arith, some, none));
             off = λ some. absurd (omega (arith, some, none));
             len = λ some. absurd (omega (arith, some, none));
             flags = λ some. absurd (omega (arith, some, none));
@@ -101,6 +103,7 @@ module _ (p : List ℕ) (ok : Packable p) where
             here = λ some' o l.
                 let back : packed_off p k + o - packed_off p k ≡ o = omega arith in
                 pointer_out one (packed_off p k + o) there (inr (omega (arith, room, low))) ∙ byte-splice_in page (packed_off p k) (held k) (packed_off p k + o) fits (omega arith) (omega (arith, h, l)) ∙ ap (byte (held k)) back;
+            line = λ s i l m. pointer_in one k (packed_off p k) (lp_flags p k) (lp_len p k) i there l m;
             off = λ s. off_is one k (packed_off p k) (lp_flags p k) (lp_len p k) there small (flags_small p k);
             len = λ s. len_is one k (packed_off p k) (lp_flags p k) (lp_len p k) there small (flags_small p k);
             flags = λ s. flags_is one k (packed_off p k) (lp_flags p k) (lp_len p k) there small (flags_small p k);
@@ -123,6 +126,7 @@ module _ (p : List ℕ) (ok : Packable p) where
     pub words : (k : ℕ) → k < count p → (n ≤ k) ⊎ (lp_len p k ≡ 0) → (u16_at page (24 + 4 * k) ≡ u16_at p (24 + 4 * k)) × (u16_at page (26 + 4 * k) ≡ u16_at p (26 + 4 * k))
     pub here : (k o : ℕ) → k < n → 0 < lp_len p k → o < up8 (lp_len p k) → byte page (packed_off p k + o) ≡ byte (held k) o
     pub free : (i : ℕ) → pd_lower p ≤ i → i < pd_special p - total p n → byte page i ≡ 0
+    pub rest : (i : ℕ) → pd_special p ≤ i → byte page i ≡ byte p i
 
   from_words : (a b : List ℕ) (k j : ℕ) → u16_at a (24 + 4 * k) ≡ u16_at b (24 + 4 * k) → u16_at a (26 + 4 * k) ≡ u16_at b (26 + 4 * k) → (lp_off a k ≡ lp_off b k) × (lp_len a k ≡ lp_len b k) × (lp_flags a k ≡ lp_flags b k)
   unfolding lp_off lp_len lp_flags
@@ -145,6 +149,7 @@ module _ (p : List ℕ) (ok : Packable p) where
         );
         here = λ k o lt. absurd (omega arith);
         free = λ i l m. byte-splice_in p (pd_lower p) (replicate (pd_special p - pd_lower p) 0) i fits l (omega (arith, z, m, h.mid, h.high)) ∙ byte-zeros (pd_special p - pd_lower p) (i - pd_lower p);
+        rest = λ i l. byte-splice_above p (pd_lower p) (replicate (pd_special p - pd_lower p) 0) i fits (omega (arith, z, l, h.mid, h.high));
       }
   laid (suc n) le = next (packed_lines p (splice p (pd_lower p) (replicate (pd_special p - pd_lower p) 0)) n) (laid n (omega arith))
     where
@@ -192,6 +197,7 @@ module _ (p : List ℕ) (ok : Packable p) where
                 s.above (packed_off p k + o) (omega (arith, room, low, t, tn, ok.room)) (omega (arith, t, tn, ok.room)) ∙ l.here k o kn some small)
                 (eqb_tells k n);
             free = λ i a b. s.between i (omega (arith, room, a)) b ∙ l.free i a (omega (arith, b));
+            rest = λ i a. s.above i (omega (arith, room, a, ok.head.mid, ok.head.high)) (omega (arith, a, on_top n lt_n)) ∙ l.rest i a;
           }
         where
           apart : (k : ℕ) → k ≢ n → ((24 + 4 * k + 1 < 24 + 4 * n) ⊎ (28 + 4 * n ≤ 24 + 4 * k)) × ((26 + 4 * k + 1 < 24 + 4 * n) ⊎ (28 + 4 * n ≤ 26 + 4 * k))

@@ -1,12 +1,12 @@
 -- Lines taken out of a page with their items: PostgreSQL 16, src/backend/storage/page/bufpage.c, PageIndexTupleDelete and PageIndexMultiDelete.
-use Rattle.std.specs.Prelude.{ℕ, zero, suc, ◌+◌, ◌-◌, ◌*◌, ◌==◌, ◌&&◌, ◌||◌, List, [], ◌∷◌, Bool, true, nat_le, nat_lt, length, Option, Some, None, Result, Ok, Err, if◌then◌else◌}
+use Rattle.std.specs.Prelude.{ℕ, zero, suc, ◌+◌, ◌-◌, ◌*◌, ◌==◌, ◌&&◌, ◌||◌, List, [], ◌∷◌, Bool, true, nat_le, nat_lt, length, Option, Some, None, Result, Ok, if◌then◌else◌}
 use Rattle.layout.specs.Splice.{splice}
 use Rattle.page_layout.specs.Bytes.{with_u16, cut, up8}
 use Rattle.page_layout.specs.Page.{pd_lower, pd_upper, count, lp_off, lp_flags, lp_len, well_formed}
-use Rattle.page_layout.specs.Edits.{with_pointer}
-use Rattle.page_layout.specs.Pack.{has_room, packed}
+use Rattle.page_layout.specs.Edits.{with_pointer, refuse_or}
+use Rattle.page_layout.specs.Pack.{room_refusal, packed}
 use Rattle.page_layout.specs.declared.refusal.PageRefusal.{PageRefusal}
-use Rattle.page_layout.specs.declared.refusal.PageRefusal.TheVariants.{BadPlace, NoRoom, BadPage}
+use Rattle.page_layout.specs.declared.refusal.PageRefusal.TheVariants.{BadPlace, BadPage}
 
 -- places of the first `lines` lines, each above the one before
 abbrev pub are_places : ℕ → ℕ → List ℕ → Bool
@@ -78,7 +78,7 @@ places_refusal p places =
 
 -- packed, if the items fit
 abbrev pub packed_if_room : List ℕ → Result (List ℕ) PageRefusal
-packed_if_room p = if has_room p then Ok (packed p) else Err NoRoom
+packed_if_room p = refuse_or (room_refusal p) (Ok (packed p))
 
 -- up to two places one by one, where no items overlap; else the lines alone, and then all is packed
 abbrev pub deleted : List ℕ → List ℕ → Result (List ℕ) PageRefusal
@@ -86,11 +86,6 @@ deleted p places =
     if nat_le (length places) 2 && all_apart p (count p) then Ok (without_items p places)
     else packed_if_room (without_lines p places)
 
--- refused for this reason, or tried
-abbrev pub refuse_or_try : Option PageRefusal → Result (List ℕ) PageRefusal → Result (List ℕ) PageRefusal
-refuse_or_try None tried = tried
-refuse_or_try (Some why) tried = Err why
-
 -- delete items
 abbrev pub delete_items : List ℕ → List ℕ → Result (List ℕ) PageRefusal
-delete_items p places = refuse_or_try (places_refusal p places) (deleted p places)
+delete_items p places = refuse_or (places_refusal p places) (deleted p places)

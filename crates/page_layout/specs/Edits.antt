@@ -27,10 +27,10 @@ fits_line (Normal at len) = nat_lt at 32768 && nat_lt len 32768
 fits_line (Redirect to) = nat_lt to 32768
 fits_line (Dead at len) = nat_lt at 32768 && nat_lt len 32768
 
--- refused for this reason, or done
-abbrev pub refuse_or : Option PageRefusal → List ℕ → Result (List ℕ) PageRefusal
-refuse_or None p = Ok p
-refuse_or (Some why) p = Err why
+-- refused for this reason, or tried
+abbrev pub refuse_or : {E : Type 0} → Option E → Result (List ℕ) E → Result (List ℕ) E
+refuse_or None tried = tried
+refuse_or (Some why) tried = Err why
 
 -- why a line can't be set
 abbrev pub set_refusal : List ℕ → ℕ → Line → Option PageRefusal
@@ -99,11 +99,11 @@ Answers meant old (Err why) new = (meant ≡ Err why) × (new ≡ old)
 
 -- set a line
 abbrev pub set_line : List ℕ → ℕ → Line → Result (List ℕ) PageRefusal
-set_line p place line = refuse_or (set_refusal p place line) (with_line p (place - 1) line)
+set_line p place line = refuse_or (set_refusal p place line) (Ok (with_line p (place - 1) line))
 
 -- add an item
 abbrev pub add_item : List ℕ → List ℕ → ℕ → Bool → Result (List ℕ) PageRefusal
-add_item p bytes place overwrite = refuse_or (add_refusal p (length bytes) place overwrite) (added p bytes place overwrite)
+add_item p bytes place overwrite = refuse_or (add_refusal p (length bytes) place overwrite) (Ok (added p bytes place overwrite))
 
 -- trim
 abbrev pub trim : List ℕ → Result (List ℕ) PageRefusal

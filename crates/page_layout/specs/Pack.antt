@@ -1,5 +1,5 @@
 -- Items laid anew from the special space downwards: PostgreSQL 16, src/backend/storage/page/bufpage.c, PageRepairFragmentation.
-use Rattle.std.specs.Prelude.{ℕ, zero, suc, ◌+◌, ◌-◌, ◌==◌, List, Bool, nat_le, replicate, Result, Option, Some, None, if◌then◌else◌}
+use Rattle.std.specs.Prelude.{ℕ, zero, suc, ◌+◌, ◌-◌, ◌==◌, List, Bool, nat_le, replicate, Result, Ok, Option, Some, None, if◌then◌else◌}
 use Rattle.layout.specs.Splice.{splice}
 use Rattle.page_layout.specs.Bytes.{with_u16, up8}
 use Rattle.page_layout.specs.Page.{pd_lower, pd_special, count, lp_flags, lp_len, item, well_formed}
@@ -39,10 +39,14 @@ packed p = with_u16 (packed_lines p (emptied p) (count p)) 14 (pd_special p - to
 abbrev pub has_room : List ℕ → Bool
 has_room p = nat_le (pd_lower p + total p (count p)) (pd_special p)
 
+-- why a well formed page can't be packed
+abbrev pub room_refusal : List ℕ → Option PageRefusal
+room_refusal p = if has_room p then None else Some NoRoom
+
 -- why the page can't be packed
 abbrev pub pack_refusal : List ℕ → Option PageRefusal
-pack_refusal p = if well_formed p then (if has_room p then None else Some NoRoom) else Some BadPage
+pack_refusal p = if well_formed p then room_refusal p else Some BadPage
 
 -- pack
 abbrev pub pack : List ℕ → Result (List ℕ) PageRefusal
-pack p = refuse_or (pack_refusal p) (packed p)
+pack p = refuse_or (pack_refusal p) (Ok (packed p))

@@ -9,7 +9,7 @@ use Rattle.page_layout.proofs.BytesLemmas.{byte-zeros}
 use Rattle.page_layout.proofs.Front.{SameFront}
 use Rattle.page_masks.specs.Mask.{masked_item, masked_tuple, masked_held, holds, holder, by_holder, shown_lower, masked_front, heap_byte}
 use Rattle.page_masks.specs.Shapes.{HeapPage}
-use Rattle.page_masks.proofs.Alike.{Holder, inside, fit_of, holder_is, held_long, holds_in, none_not, front_of, back_of}
+use Rattle.page_masks.proofs.Holders.{Holder, inside, fit_of, holder_is, held_long, holds_in, none_not, front_of, back_of}
 use Rattle.page_masks.proofs.HeapLaid.{front_open}
 use Rattle.page_masks.proofs.Laid.{length-masked_item}
 use Rattle.page_masks.proofs.HolderChunks.{holder_chunk}

@@ -10,7 +10,7 @@ use Rattle.page_layout.proofs.Front as Front
 use Rattle.page_layout.proofs.Front.{SameFront}
 use Rattle.page_masks.specs.Mask.{masked_item, masked_tuple, masked_held, holds, holder, by_holder, heap_byte}
 use Rattle.page_masks.specs.Shapes.{HeapPage}
-use Rattle.page_masks.proofs.Alike.{Holder, inside, fit_of, holder_is, held_long, back_of}
+use Rattle.page_masks.proofs.Holders.{Holder, inside, fit_of, holder_is, held_long, back_of}
 use Rattle.page_masks.proofs.HeapLaid.{open_holds}
 use Rattle.page_masks.proofs.Laid.{length-masked_item}
 use Rattle.page_masks.proofs.HolderChunks.{holder_chunk}

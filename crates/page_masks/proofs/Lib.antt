@@ -1,6 +1,7 @@
 pub mod Laid
+pub mod Lines
 pub mod HeapLaid
-pub mod Alike
+pub mod Holders
 pub mod Unshown
 pub mod Trimmed
 pub mod MaskSteps

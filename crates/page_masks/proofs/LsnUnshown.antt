@@ -8,18 +8,18 @@ use Rattle.page_layout.specs.Edits.{trimmed_count}
 use Rattle.page_layout.specs.Lsn.{lsn_bytes, with_lsn}
 use Rattle.layout.proofs.SpliceLemmas.{length-splice, byte-splice_above}
 use Rattle.page_layout.proofs.ReadLemmas.{flags_same}
-use Rattle.page_masks.specs.Mask.{mask, btree_byte, btree_front, sequence_byte, other_byte, heap_byte}
+use Rattle.page_masks.specs.Mask.{mask, is_leaf, shown_line, shown_flags, btree_byte, btree_front, sequence_byte, other_byte, heap_byte}
 use Rattle.page_masks.specs.Shapes.{IsHeap, IsBtree}
 use Rattle.page_masks.proofs.OtherBytes.{other_open, sequence_open}
 use Rattle.page_masks.proofs.ShapeKind.{SameTail, u16_tail, lower_tail, upper_tail, len_tail, kind_tail, shape_kind, shape_cases, masked_as, mask_at, length-mask, mask_is}
 use Rattle.page_masks.proofs.Unshown.{shown_same}
 
 pub btree_front_open : (p : List ℕ) (i : ℕ) → btree_front p i ≡ (if nat_lt i 10 then 0 else if i == 10 then byte p 10 / 8 * 8 else if nat_lt i 20 then byte p i else if nat_lt i 24 then 0
-    else if nat_lt i (pd_lower p) then (if byte p 8188 % 2 == 1 && i % 4 == 1 then byte p i % 128 else if byte p 8188 % 2 == 1 && i % 4 == 2 then byte p i / 2 * 2 else byte p i) else 0)
+    else if nat_lt i (pd_lower p) then shown_line (is_leaf p) i (byte p i) else 0)
 unfolding btree_front
 btree_front_open p i = refl
 
-pub btree_open : (p : List ℕ) (i : ℕ) → btree_byte p i ≡ (if nat_lt i (pd_upper p) then btree_front p i else if i == 8188 then byte p i / 128 * 128 + byte p i % 32 else if nat_le 8190 i then 0 else byte p i)
+pub btree_open : (p : List ℕ) (i : ℕ) → btree_byte p i ≡ (if nat_lt i (pd_upper p) then btree_front p i else if i == 8188 then shown_flags (byte p i) else if nat_le 8190 i then 0 else byte p i)
 unfolding btree_byte
 btree_open p i = refl
 
@@ -45,17 +45,17 @@ module _ (block : ℕ) (p q : List ℕ) (s : SameTail p q) where
       leaf = s.tail 8188 (omega arith)
 
       by_case : (b : Bool) → nat_lt i 10 ≡ b → (if b then 0 else if i == 10 then byte q 10 / 8 * 8 else if nat_lt i 20 then byte q i else if nat_lt i 24 then 0
-          else if nat_lt i (pd_lower q) then (if byte q 8188 % 2 == 1 && i % 4 == 1 then byte q i % 128 else if byte q 8188 % 2 == 1 && i % 4 == 2 then byte q i / 2 * 2 else byte q i) else 0)
+          else if nat_lt i (pd_lower q) then shown_line (is_leaf q) i (byte q i) else 0)
           ≡ (if b then 0 else if i == 10 then byte p 10 / 8 * 8 else if nat_lt i 20 then byte p i else if nat_lt i 24 then 0
-          else if nat_lt i (pd_lower p) then (if byte p 8188 % 2 == 1 && i % 4 == 1 then byte p i % 128 else if byte p 8188 % 2 == 1 && i % 4 == 2 then byte p i / 2 * 2 else byte p i) else 0)
+          else if nat_lt i (pd_lower p) then shown_line (is_leaf p) i (byte p i) else 0)
       by_case true e = refl
       by_case false e = rw (s.tail i (grind (arith, nat_tests)), s.tail 10 (omega arith), leaf, lower_tail p q s) refl
 
   btree_tail : IsBtree p → (i : ℕ) → btree_byte q i ≡ btree_byte p i
   btree_tail h i = btree_open q i ∙ rw (upper_tail p q s, btree_front_tail i) (by_case (nat_lt i (pd_upper p)) refl) ∙ sym (btree_open p i)
     where
-      by_case : (b : Bool) → nat_lt i (pd_upper p) ≡ b → (if b then btree_front p i else if i == 8188 then byte q i / 128 * 128 + byte q i % 32 else if nat_le 8190 i then 0 else byte q i)
-          ≡ (if b then btree_front p i else if i == 8188 then byte p i / 128 * 128 + byte p i % 32 else if nat_le 8190 i then 0 else byte p i)
+      by_case : (b : Bool) → nat_lt i (pd_upper p) ≡ b → (if b then btree_front p i else if i == 8188 then shown_flags (byte q i) else if nat_le 8190 i then 0 else byte q i)
+          ≡ (if b then btree_front p i else if i == 8188 then shown_flags (byte p i) else if nat_le 8190 i then 0 else byte p i)
       by_case true e = refl
       by_case false e = rw (s.tail i (grind (arith, nat_tests, h.head.low, h.head.mid))) refl
 

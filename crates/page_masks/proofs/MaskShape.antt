@@ -10,12 +10,13 @@ use Rattle.layout.proofs.SpliceLemmas.{byte-splice_in}
 use Rattle.page_layout.proofs.BytesLemmas.{byte-page_of, length-page_of}
 use Rattle.page_layout.proofs.Front as Front
 use Rattle.page_layout.proofs.Front.{SameFront}
-use Rattle.page_layout.proofs.ReadLemmas.{lower_u16, upper_u16, special_u16, off_u16, len_u16}
+use Rattle.page_layout.proofs.ReadLemmas.{lower_u16, upper_u16, special_u16}
 use Rattle.page_layout.proofs.ShapeLemmas.{lines_below, line_fits_at}
 use Rattle.page_masks.specs.declared.kind.PageKind.TheVariants.{Heap, Btree, Sequence}
-use Rattle.page_masks.specs.Mask.{mask, heap_byte, masked_front, btree_byte, btree_front, sequence_byte, other_byte, shown_lower}
+use Rattle.page_masks.specs.Mask.{mask, heap_byte, masked_front, is_leaf, shown_line, btree_byte, btree_front, sequence_byte, other_byte, shown_lower}
 use Rattle.page_masks.specs.Shapes.{HeapPage, IsHeap, IsBtree}
-use Rattle.page_masks.proofs.Alike.{heap_mask, front_of, line_front, head_front, low_front, high_front}
+use Rattle.page_masks.proofs.Holders.{heap_mask, front_of, line_front, head_front, low_front, high_front}
+use Rattle.page_masks.proofs.Lines.{LinesAlike, shown_twice, alike_off, alike_len}
 use Rattle.page_masks.proofs.LsnUnshown.{btree_open, btree_front_open}
 use Rattle.page_masks.proofs.OtherBytes.{other_open, sequence_open}
 use Rattle.page_masks.proofs.ShapeKind.{shape_kind, shape_cases, masked_as, mask_is, HasKind, IsSequence, shape_heap, shape_btree, shape_sequence, kind_tail, SameTail}
@@ -77,14 +78,8 @@ module _ (block : ℕ) (p : List ℕ) (hp : IsHeap p) where
   heap_kind = subst (λ m. HasKind m Heap) (sym heap_of_trimmed) (shape_heap (heap_mask block t) (is_heap (heap_mask block t) heap_masked_page))
 
 -- B-tree pages
-abbrev leaf_high : List ℕ → ℕ → ℕ
-leaf_high p b = if byte p 8188 % 2 == 1 then b % 128 else b
-
-abbrev leaf_low : List ℕ → ℕ → ℕ
-leaf_low p b = if byte p 8188 % 2 == 1 then b / 2 * 2 else b
-
-front_head : (lower i ten old a b c d : ℕ) → 11 ≤ i → i < 20 → (if nat_lt i 10 then 0 else if i == 10 then ten else if nat_lt i 20 then old else if nat_lt i 24 then 0 else if nat_lt i lower then a else b) ≡ old
-front_head lower i ten old a b c d le lt = grind (arith, nat_tests)
+front_head : (lower i ten old line : ℕ) → 11 ≤ i → i < 20 → (if nat_lt i 10 then 0 else if i == 10 then ten else if nat_lt i 20 then old else if nat_lt i 24 then 0 else if nat_lt i lower then line else 0) ≡ old
+front_head lower i ten old line le lt = grind (arith, nat_tests)
 
 front_line : (lower i ten old a : ℕ) → 24 ≤ i → i < lower → (if nat_lt i 10 then 0 else if i == 10 then ten else if nat_lt i 20 then old else if nat_lt i 24 then 0 else if nat_lt i lower then a else 0) ≡ a
 front_line lower i ten old a le lt = grind (arith, nat_tests)
@@ -100,11 +95,14 @@ module _ (p : List ℕ) (h : IsBtree p) where
   in_front i lt = let here : nat_lt i (pd_upper p) ≡ true = grind (arith, nat_tests) in btree_open p i ∙ rw here refl
 
   pub btree_head : (i : ℕ) → 11 ≤ i → i < 20 → byte m i ≡ byte p i
-  btree_head i le lt = at i (omega arith) ∙ in_front i (omega (arith, h.head.low, h.head.mid)) ∙ btree_front_open p i ∙ front_head (pd_lower p) i (byte p 10 / 8 * 8) (byte p i) (if byte p 8188 % 2 == 1 && i % 4 == 1 then byte p i % 128 else if byte p 8188 % 2 == 1 && i % 4 == 2 then byte p i / 2 * 2 else byte p i) 0 0 0 le lt
+  btree_head i le lt = at i (omega arith) ∙ in_front i (omega (arith, h.head.low, h.head.mid)) ∙ btree_front_open p i ∙ front_head (pd_lower p) i (byte p 10 / 8 * 8) (byte p i) (shown_line (is_leaf p) i (byte p i)) le lt
 
-  btree_line : (i : ℕ) → 24 ≤ i → i < pd_lower p → byte m i ≡ (if byte p 8188 % 2 == 1 && i % 4 == 1 then byte p i % 128 else if byte p 8188 % 2 == 1 && i % 4 == 2 then byte p i / 2 * 2 else byte p i)
+  pub btree_line : (i : ℕ) → 24 ≤ i → i < pd_lower p → byte m i ≡ shown_line (is_leaf p) i (byte p i)
   btree_line i le lt = at i (omega (arith, lt, h.head.mid, h.head.high, h.head.top)) ∙ in_front i (omega (arith, h.head.mid)) ∙ btree_front_open p i
-      ∙ front_line (pd_lower p) i (byte p 10 / 8 * 8) (byte p i) (if byte p 8188 % 2 == 1 && i % 4 == 1 then byte p i % 128 else if byte p 8188 % 2 == 1 && i % 4 == 2 then byte p i / 2 * 2 else byte p i) le lt
+      ∙ front_line (pd_lower p) i (byte p 10 / 8 * 8) (byte p i) (shown_line (is_leaf p) i (byte p i)) le lt
+
+  btree_lines : LinesAlike (is_leaf p) (pd_lower p) m p
+  btree_lines = λ i le lt. ap (shown_line (is_leaf p) i) (btree_line i le lt) ∙ shown_twice (is_leaf p) i (byte p i)
 
   in_lines : (k : ℕ) → k < count p → 28 + 4 * k ≤ pd_lower p
   in_lines k lt = omega (arith, h.head.low, h.head.by4)
@@ -121,53 +119,11 @@ module _ (p : List ℕ) (h : IsBtree p) where
   pub btree_special : pd_special m ≡ pd_special p
   btree_special = special_u16 m ∙ u16_head 16 (omega arith) (omega arith) ∙ sym (special_u16 p)
 
-  off_mod : (a b : ℕ) → (a + 256 * (b % 128)) % 32768 ≡ (a + 256 * b) % 32768
-  off_mod a b = omega arith
+  btree_off : (k : ℕ) → k < count p → lp_off m k ≡ lp_off p k
+  btree_off k lt = alike_off (is_leaf p) (pd_lower p) m p btree_lines k (in_lines k lt)
 
-  len_half : (a b : ℕ) → (a / 2 * 2 + 256 * b) / 2 ≡ (a + 256 * b) / 2
-  len_half a b = omega arith
-
-  pub btree_off : (k : ℕ) → k < count p → lp_off m k ≡ lp_off p k
-  btree_off k lt =
-      let room = in_lines k lt in
-      let four : (24 + 4 * k) % 4 ≡ 0 = omega arith in
-      let five : (24 + 4 * k + 1) % 4 ≡ 1 = omega arith in
-      let a : byte m (24 + 4 * k) ≡ byte p (24 + 4 * k) = btree_line (24 + 4 * k) (omega arith) (omega arith) ∙ rw four (plain (byte p 8188 % 2 == 1) (byte p (24 + 4 * k))) in
-      let b : byte m (24 + 4 * k + 1) ≡ leaf_high p (byte p (24 + 4 * k + 1)) = btree_line (24 + 4 * k + 1) (omega arith) (omega arith) ∙ rw five (high (byte p 8188 % 2 == 1) (byte p (24 + 4 * k + 1))) in
-      off_u16 m k ∙ (λ t. (a t + 256 * b t) % 32768) ∙ either (byte p 8188 % 2 == 1) (byte p (24 + 4 * k)) (byte p (24 + 4 * k + 1)) ∙ sym (off_u16 p k)
-    where
-      plain : (b : Bool) (x : ℕ) → (if b && false then x % 128 else if b && false then x / 2 * 2 else x) ≡ x
-      plain true x = refl
-      plain false x = refl
-
-      high : (b : Bool) (x : ℕ) → (if b && true then x % 128 else if b && false then x / 2 * 2 else x) ≡ (if b then x % 128 else x)
-      high true x = refl
-      high false x = refl
-
-      either : (b : Bool) (x y : ℕ) → (x + 256 * (if b then y % 128 else y)) % 32768 ≡ (x + 256 * y) % 32768
-      either true x y = off_mod x y
-      either false x y = refl
-
-  pub btree_len : (k : ℕ) → k < count p → lp_len m k ≡ lp_len p k
-  btree_len k lt =
-      let room = in_lines k lt in
-      let six : (26 + 4 * k) % 4 ≡ 2 = omega arith in
-      let seven : (26 + 4 * k + 1) % 4 ≡ 3 = omega arith in
-      let a : byte m (26 + 4 * k) ≡ leaf_low p (byte p (26 + 4 * k)) = btree_line (26 + 4 * k) (omega arith) (omega arith) ∙ rw six (low (byte p 8188 % 2 == 1) (byte p (26 + 4 * k))) in
-      let b : byte m (26 + 4 * k + 1) ≡ byte p (26 + 4 * k + 1) = btree_line (26 + 4 * k + 1) (omega arith) (omega arith) ∙ rw seven (plain (byte p 8188 % 2 == 1) (byte p (26 + 4 * k + 1))) in
-      len_u16 m k ∙ (λ t. (a t + 256 * b t) / 2) ∙ either (byte p 8188 % 2 == 1) (byte p (26 + 4 * k)) (byte p (26 + 4 * k + 1)) ∙ sym (len_u16 p k)
-    where
-      plain : (b : Bool) (x : ℕ) → (if b && false then x % 128 else if b && false then x / 2 * 2 else x) ≡ x
-      plain true x = refl
-      plain false x = refl
-
-      low : (b : Bool) (x : ℕ) → (if b && false then x % 128 else if b && true then x / 2 * 2 else x) ≡ (if b then x / 2 * 2 else x)
-      low true x = refl
-      low false x = refl
-
-      either : (b : Bool) (x y : ℕ) → ((if b then x / 2 * 2 else x) + 256 * y) / 2 ≡ (x + 256 * y) / 2
-      either true x y = len_half x y
-      either false x y = refl
+  btree_len : (k : ℕ) → k < count p → lp_len m k ≡ lp_len p k
+  btree_len k lt = alike_len (is_leaf p) (pd_lower p) m p btree_lines k (in_lines k lt)
 
   pub btree_back : (i : ℕ) → pd_upper p ≤ i → i < 8188 → byte m i ≡ byte p i
   btree_back i le lt =

@@ -7,9 +7,9 @@ use Rattle.page_layout.specs.Page.{pd_lower, pd_upper}
 use Rattle.page_layout.specs.Edits.{trimmed}
 use Rattle.page_layout.proofs.BytesLemmas.{byte-page_of}
 use Rattle.page_layout.proofs.Front as Front
-use Rattle.page_masks.specs.Mask.{mask, heap_byte, btree_byte, btree_front, sequence_byte, other_byte, AreBytes}
+use Rattle.page_masks.specs.Mask.{mask, heap_byte, shown_flags, btree_byte, btree_front, sequence_byte, other_byte, AreBytes}
 use Rattle.page_masks.specs.Shapes.{IsHeap, IsBtree}
-use Rattle.page_masks.proofs.Alike.{heap_mask}
+use Rattle.page_masks.proofs.Holders.{heap_mask}
 use Rattle.page_masks.proofs.HeapTwice.{heap_twice}
 use Rattle.page_masks.proofs.LsnUnshown.{btree_open, btree_front_open}
 use Rattle.page_masks.proofs.MaskShape.{heap_front, heap_masked_page, heap_of_trimmed, heap_at, btree_lower, btree_upper, sequence_front, mask_as, kind_shown}
@@ -70,7 +70,7 @@ module _ (p : List ℕ) (h : IsBtree p) where
   front_at : (i : ℕ) → i < pd_upper p → byte m i ≡ btree_front p i
   front_at i lt = let here : nat_lt i (pd_upper p) ≡ true = grind (arith, nat_tests) in at i (omega (arith, h.head.high, h.head.top)) ∙ btree_open p i ∙ rw here refl
 
-  back_at : (i : ℕ) → pd_upper p ≤ i → i < 8192 → byte m i ≡ (if i == 8188 then byte p i / 128 * 128 + byte p i % 32 else if nat_le 8190 i then 0 else byte p i)
+  back_at : (i : ℕ) → pd_upper p ≤ i → i < 8192 → byte m i ≡ (if i == 8188 then shown_flags (byte p i) else if nat_le 8190 i then 0 else byte p i)
   back_at i le lt = let past : nat_lt i (pd_upper p) ≡ false = grind (arith, nat_tests) in at i lt ∙ btree_open p i ∙ rw past refl
 
   ten_m : byte m 10 / 8 * 8 ≡ byte p 10 / 8 * 8
@@ -79,15 +79,14 @@ module _ (p : List ℕ) (h : IsBtree p) where
   leaf_m : byte m 8188 % 2 ≡ byte p 8188 % 2
   leaf_m = ap (λ b. b % 2) (back_at 8188 (omega (arith, h.head.high, h.special)) (omega arith)) ∙ odd (byte p 8188)
     where
-      odd : (b : ℕ) → (b / 128 * 128 + b % 32) % 2 ≡ b % 2
+      odd : (b : ℕ) → shown_flags b % 2 ≡ b % 2
       odd b = omega arith
 
   in_front : (i : ℕ) → i < pd_upper p → btree_front m i ≡ byte m i
   in_front i lt = btree_front_open m i ∙ rw (ten_m, leaf_m, btree_lower p h, front_at i lt, btree_front_open p i)
       (chain_twice (nat_lt i 10) (i == 10) (nat_lt i 20) (nat_lt i 24) (nat_lt i (pd_lower p)) (byte p 8188 % 2 == 1 && i % 4 == 1) (byte p 8188 % 2 == 1 && i % 4 == 2) (byte p 10 / 8 * 8) (byte p i))
 
-  back_twice : (a b : Bool) (x : ℕ) → (if a then (if a then x / 128 * 128 + x % 32 else if b then 0 else x) / 128 * 128 + (if a then x / 128 * 128 + x % 32 else if b then 0 else x) % 32
-      else if b then 0 else (if a then x / 128 * 128 + x % 32 else if b then 0 else x)) ≡ (if a then x / 128 * 128 + x % 32 else if b then 0 else x)
+  back_twice : (a b : Bool) (x : ℕ) → (if a then shown_flags (if a then shown_flags x else if b then 0 else x) else if b then 0 else (if a then shown_flags x else if b then 0 else x)) ≡ (if a then shown_flags x else if b then 0 else x)
   back_twice true b x = omega arith
   back_twice false true x = refl
   back_twice false false x = refl

@@ -9,9 +9,9 @@ use Rattle.page_layout.proofs.ShapeLemmas.{line_fits_at, trimmed_count-le, lines
 use Rattle.page_layout.proofs.Front as Front
 use Rattle.page_layout.proofs.Front.{SameFront}
 use Rattle.page_masks.specs.Mask.{mask}
-use Rattle.page_masks.specs.Shapes.{HeapPage, IsHeap}
+use Rattle.page_masks.specs.Shapes.{HeapPage, IsHeap, OnlyHead}
 use Rattle.page_layout.specs.Apart.{AreApart}
-use Rattle.page_masks.proofs.Alike.{heap_mask}
+use Rattle.page_masks.proofs.Holders.{heap_mask}
 use Rattle.page_masks.proofs.Unshown.{SameShown, masks_same, heap_mask_is, is_heap}
 
 pub trimmed_twice : (p : List ℕ) (n : ℕ) → trimmed_count p (trimmed_count p n) ≡ trimmed_count p n
@@ -132,45 +132,6 @@ module _ (p : List ℕ) (h : IsHeap p) where
       let le = trimmed_count-le p (count p) in
       rw (off_q j, len_q j, off_q k, len_q k) (apart j k lt (omega (arith, count_q)) (omega (arith, len_q j)) (omega (arith, len_q k)))
 
--- a page whose first ten bytes, three flags and prune xid alone differ
-pub record OnlyHead (p q : List ℕ) : Type 0 where
-  pub size : length q ≡ 8192
-  pub ten : byte q 10 / 8 * 8 ≡ byte p 10 / 8 * 8
-  pub head : (i : ℕ) → 11 ≤ i → i < 20 → byte q i ≡ byte p i
-  pub rest : (i : ℕ) → 24 ≤ i → byte q i ≡ byte p i
-
-pub head_front : (p q : List ℕ) → OnlyHead p q → SameFront p q
-head_front p q o = record { head = o.head; lines = λ i le lt. o.rest i le }
-
-module _ (p q : List ℕ) (h : HeapPage p) (o : OnlyHead p q) where
-  same : SameFront p q
-  same = head_front p q o
-
-  n_is : count q ≡ count p
-  n_is = Front.count_same p q h.head same
-
-  pub only_head_page : HeapPage q
-  only_head_page = record {
-    size = o.size;
-    head = Front.head_stays p q h.head same;
-    lines = ap (lines_fit q) n_is ∙ Front.lines_fit_same p q h.head same (count p) (omega arith) ∙ h.lines;
-    heap = Front.special_same p q h.head same ∙ h.heap;
-    trimmed = rw n_is (Front.trimmed_same p q h.head same (count p) (omega arith) ∙ h.trimmed);
-  }
-
-  only_head_shown : SameShown p q
-  only_head_shown = record {
-    upper = Front.upper_same p q h.head same;
-    shown = only_head_page.trimmed ∙ n_is ∙ sym h.trimmed;
-    ten = o.ten;
-    eleven = o.head 11 (omega arith) (omega arith);
-    head = λ i le lt. o.head i (omega arith) lt;
-    rest = o.rest;
-  }
-
-  pub only_head_mask : (block : ℕ) → heap_mask block q ≡ heap_mask block p
-  only_head_mask block = masks_same block p q (is_heap p h) o.size only_head_shown
-
 -- a page with the same front is a trimmed heap page too
 pub heap_stays : (p q : List ℕ) → HeapPage p → length q ≡ 8192 → SameFront p q → HeapPage q
 heap_stays p q h size same =
@@ -182,3 +143,19 @@ heap_stays p q h size same =
       heap = Front.special_same p q h.head same ∙ h.heap;
       trimmed = rw n (Front.trimmed_same p q h.head same (count p) (omega arith) ∙ h.trimmed);
     }
+
+pub head_front : (p q : List ℕ) → OnlyHead p q → SameFront p q
+head_front p q o = record { head = o.head; lines = λ i le lt. o.rest i le }
+
+pub only_head_page : (p q : List ℕ) → HeapPage p → OnlyHead p q → HeapPage q
+only_head_page p q h o = heap_stays p q h o.size (head_front p q o)
+
+pub only_head_mask : (p q : List ℕ) → HeapPage p → OnlyHead p q → (block : ℕ) → heap_mask block q ≡ heap_mask block p
+only_head_mask p q h o block = masks_same block p q (is_heap p h) o.size (record {
+  upper = Front.upper_same p q h.head (head_front p q o);
+  shown = (only_head_page p q h o).trimmed ∙ Front.count_same p q h.head (head_front p q o) ∙ sym h.trimmed;
+  ten = o.flags;
+  eleven = o.head 11 (omega arith) (omega arith);
+  head = λ i le lt. o.head i (omega arith) lt;
+  rest = o.rest;
+})

@@ -13,7 +13,7 @@ use Rattle.page_masks.specs.Kind.{kind_of, is_zero}
 use Rattle.page_masks.specs.Mask.{masked_held, holder, by_holder, shown_count, shown_lower, masked_front, heap_byte, mask, masked_by}
 use Rattle.page_masks.specs.Shapes.{HeapPage, IsHeap}
 use Rattle.page_masks.proofs.HeapLaid.{heap_open, front_open}
-use Rattle.page_masks.proofs.Alike.{heap_mask, holder_same, holder_is, held_long, from_bytes}
+use Rattle.page_masks.proofs.Holders.{heap_mask, holder_same, holder_is, held_long, from_bytes}
 
 -- the page's kind
 pub zero_byte : (p : List ℕ) (i : ℕ) → list_all (λ b. b == 0) p ≡ true → byte p i ≡ 0
@@ -25,7 +25,7 @@ zero_byte (x ∷ xs) (suc i) e = zero_byte xs i (rest (x == 0) (list_all (λ b. 
     rest true b h = h
     rest false b h = cc h
 
-not_zero : (p : List ℕ) → u16_at p 18 ≡ 8196 → is_zero p ≡ false
+pub not_zero : (p : List ℕ) → u16_at p 18 ≡ 8196 → is_zero p ≡ false
 not_zero p e = by_case (is_zero p) refl
   where
     by_case : (b : Bool) → is_zero p ≡ b → is_zero p ≡ false

@@ -65,9 +65,16 @@ masked_front p i =
 unfoldable pub heap_byte : ℕ → List ℕ → ℕ → ℕ
 heap_byte block p i = if nat_lt i (pd_upper p) then masked_front p i else by_holder block p (byte p i) i (holder p (shown_count p) i)
 
--- byte i of an index page's lines: on a leaf their kinds don't show
 abbrev pub is_leaf : List ℕ → Bool
 is_leaf p = byte p 8188 % 2 == 1
+
+-- byte i of an index page's lines: on a leaf their kinds don't show
+abbrev pub shown_line : Bool → ℕ → ℕ → ℕ
+shown_line leaf i b = if leaf && i % 4 == 1 then b % 128 else if leaf && i % 4 == 2 then b / 2 * 2 else b
+
+-- an index page's flags without BTP_SPLIT_END and BTP_HAS_GARBAGE
+abbrev pub shown_flags : ℕ → ℕ
+shown_flags b = b / 128 * 128 + b % 32
 
 unfoldable pub btree_front : List ℕ → ℕ → ℕ
 btree_front p i =
@@ -75,16 +82,13 @@ btree_front p i =
     else if i == 10 then byte p 10 / 8 * 8
     else if nat_lt i 20 then byte p i
     else if nat_lt i 24 then 0
-    else if nat_lt i (pd_lower p) then
-    (if is_leaf p && i % 4 == 1 then byte p i % 128
-    else if is_leaf p && i % 4 == 2 then byte p i / 2 * 2
-    else byte p i)
+    else if nat_lt i (pd_lower p) then shown_line (is_leaf p) i (byte p i)
     else 0
 
 unfoldable pub btree_byte : List ℕ → ℕ → ℕ
 btree_byte p i =
     if nat_lt i (pd_upper p) then btree_front p i
-    else if i == 8188 then byte p i / 128 * 128 + byte p i % 32
+    else if i == 8188 then shown_flags (byte p i)
     else if nat_le 8190 i then 0
     else byte p i
 

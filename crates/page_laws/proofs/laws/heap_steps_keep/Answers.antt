@@ -1,4 +1,4 @@
-use Rattle.page_laws.proofs.HeapSteps.{head_keeps, edit_keeps, add_keeps_heap, line_keeps, prune_keeps}
+use Rattle.page_laws.proofs.HeapSteps.{head_keeps, edit_keeps, add_keeps_heap}
 use Rattle.page_laws.proofs.laws.heap_steps_keep.Goals as goal
 
 pub returns-clause-head : goal.returns-clause-head
@@ -9,9 +9,3 @@ returns-clause-edit c = edit_keeps
 
 pub returns-clause-add : goal.returns-clause-add
 returns-clause-add c = add_keeps_heap
-
-pub returns-clause-empty_line : goal.returns-clause-empty_line
-returns-clause-empty_line c = line_keeps
-
-pub returns-clause-prune : goal.returns-clause-prune
-returns-clause-prune c = prune_keeps
