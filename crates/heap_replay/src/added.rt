@@ -10,7 +10,7 @@ ghost use Rattle.heap_tuples.specs.Heap.{on_heap};
 ghost use Rattle.heap_pages.specs.Insert.{insert_page};
 ghost use Rattle.heap_pages.specs.MultiInsert.{multi_insert_page};
 ghost use Rattle.heap_pages.specs.Update.{update_page, update_new_page};
-ghost use Rattle.heap_replay.specs.Added.{insert_operation, multi_insert_operation, old_parts, on_one_page, update_first, update_new_operation, update_old_operation, update_operation};
+ghost use Rattle.heap_replay.specs.Added.{insert_operation, multi_insert_operation, old_parts, on_one_page, update_first, update_old_operation, update_operation};
 
 use crate::given::{bytes_for, number_at};
 use block_layouts::{
@@ -219,30 +219,6 @@ fn update_first(
     update_one(page, init, xid, block, op, whole)
 }
 
-// The new tuple's page, which may be the old one's too.
-fn update_new(
-    rec: &Record,
-    parts: &Parts,
-    id: u8,
-    init: bool,
-    kind: UpdateKind,
-    page: &mut [u8],
-) -> Result<(), RedoWhy>
-    requires parts { ArePartsOf rec.now parts.now }
-    requires size { length page.old ≡ 8192 }
-    ensures { Makes (update_new_operation init kind rec.now parts.now id page.old) result page.new }
-{
-    let Some(op) = HeapUpdate::read(parts.main_bytes(rec)) else {
-        return Err(RedoWhy::Layout);
-    };
-    let bytes = bytes_for(rec, parts, id)?;
-    let Some(tuple) = update_tuple(bytes, old_parts(&op)) else {
-        return Err(RedoWhy::Layout);
-    };
-    let block = number_at(parts, id)?;
-    update_first(rec, parts, init, kind, &op, tuple, block, page)
-}
-
 // The page of the old tuple alone.
 fn update_old(rec: &Record, parts: &Parts, kind: UpdateKind, page: &mut [u8]) -> Result<(), RedoWhy>
     requires parts { ArePartsOf rec.now parts.now }
@@ -261,7 +237,7 @@ fn update_old(rec: &Record, parts: &Parts, kind: UpdateKind, page: &mut [u8]) ->
     redo_update_old(page, rec.header().xid, kind, block, &op)
 }
 
-/// UPDATE and HOT_UPDATE.
+/// UPDATE and HOT_UPDATE: the old tuple's page is block 1, or block 0 with the new tuple's.
 pub fn update(
     rec: &Record,
     parts: &Parts,
@@ -275,8 +251,15 @@ pub fn update(
     ensures { Makes (update_operation init kind rec.now parts.now id page.old) result page.new }
 {
     if id == 1 {
-        update_old(rec, parts, kind, page)
-    } else {
-        update_new(rec, parts, id, init, kind, page)
+        return update_old(rec, parts, kind, page);
     }
+    let Some(op) = HeapUpdate::read(parts.main_bytes(rec)) else {
+        return Err(RedoWhy::Layout);
+    };
+    let bytes = bytes_for(rec, parts, id)?;
+    let Some(tuple) = update_tuple(bytes, old_parts(&op)) else {
+        return Err(RedoWhy::Layout);
+    };
+    let block = number_at(parts, id)?;
+    update_first(rec, parts, init, kind, &op, tuple, block, page)
 }
