@@ -17,7 +17,7 @@ use Rattle.cluster_tree.proofs.NamesLemmas.{names_listing, listing_names}
 use Rattle.cluster_tree.proofs.OrderLemmas.{same_path}
 use Rattle.file_edits.specs.Alike.{AlikeEntries, Neither, Folders, Files, Links, Alike, moved_path, AlikeAnswers, SameAnswers}
 use Rattle.file_edits.specs.Asking.{file_asked, folder_asked, root_refusal, size_asked, names_asked, filled_from, read_of, read_asked}
-use Rattle.file_edits.specs.Edits.{folder_left, folder_made, folders_made, folders_between, way_made, way_for, edited, file_edited, without, file_removed}
+use Rattle.file_edits.specs.Edits.{folder_left, folder_made, folders_made, folders_between, way_made, way_for, edited, file_edited, cut_to, file_cut, without, file_removed}
 use Rattle.file_edits.proofs.EditLemmas.{same_or_other}
 use Rattle.file_edits.proofs.LawLemmas.{rootless}
 
@@ -153,6 +153,17 @@ removed_by like root other parts c d o p some Links alike = ap (λ x. fault.Link
 pub removed-alike : (like : List (List ℕ) → List ℕ → List ℕ → Bool) (root other : PathValue) (parts : List (List ℕ)) (c d : Contents) → 0 < length parts → Alike like c root d other → AlikeAnswers like root other (file_removed (below root parts) c) (file_removed (below other parts) d)
 unfolding file_removed
 removed-alike like root other parts c d some alike = removed_by like root other parts c d (entry_at c (below root parts)) (entry_at d (below other parts)) some (alike parts) alike
+
+cut_by : (like : List (List ℕ) → List ℕ → List ℕ → Bool) (root other : PathValue) (parts : List (List ℕ)) (size : ℕ) (c d : Contents) (o p : Option Entry) → ((a b : List ℕ) → like parts a b ≡ true → like parts (take size a) (take size b) ≡ true) → AlikeEntries (like parts) o p → Alike like c root d other
+    → AlikeAnswers like root other (given (file_asked (below root parts) o) (cut_to (below root parts) size c)) (given (file_asked (below other parts) p) (cut_to (below other parts) size d))
+cut_by like root other parts size c d o p cuts Neither alike = alike
+cut_by like root other parts size c d o p cuts (Folders bad) alike = ap (λ x. fault.IsFolder x) (moved_below root other parts)
+cut_by like root other parts size c d o p cuts (Files a b is) alike = put_alike like c d root other parts (FileEntry (take size a)) (FileEntry (take size b)) alike (Files (take size a) (take size b) (cuts a b is))
+cut_by like root other parts size c d o p cuts Links alike = ap (λ x. fault.Link x) (moved_below root other parts)
+
+pub cut-alike : (like : List (List ℕ) → List ℕ → List ℕ → Bool) (root other : PathValue) (parts : List (List ℕ)) (size : ℕ) (c d : Contents) → ((a b : List ℕ) → like parts a b ≡ true → like parts (take size a) (take size b) ≡ true) → Alike like c root d other → AlikeAnswers like root other (file_cut (below root parts) size c) (file_cut (below other parts) size d)
+unfolding file_cut
+cut-alike like root other parts size c d cuts alike = cut_by like root other parts size c d (entry_at c (below root parts)) (entry_at d (below other parts)) cuts (alike parts) alike
 
 -- what is asked
 

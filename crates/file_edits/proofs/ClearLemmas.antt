@@ -1,12 +1,13 @@
 -- Folders that are removed with all that they hold.
 use Rattle.std.proofs.Common.{◌≡◌, ◌⊎◌, ℕ, zero, suc, ◌+◌, ◌-◌, ◌<◌, ◌≤◌, ◌==◌, Bool, true, false, ◌||◌, List, [], ◌∷◌, ◌++◌, length, take, drop, get_or, bytes_eq, Option, None, Some, Result, Ok, Err, is_some, refl, ap, ap₂, sym, ◌∙◌, inl, inr, ⊎_elim, arith, true≢false}
 use Rattle.std.specs.Prelude.{if◌then◌else◌}
+use Rattle.std.proofs.lemmas.Bool.{and_parts}
 use Rattle.std.proofs.lemmas.Bool.Decides.{nat_tests}
 use Rattle.std.proofs.lemmas.Grind.{common_steps}
 use Rattle.std.proofs.lemmas.List.{length-append, length-take}
 use Rattle.std.specs.Cmp.Lexicographic.{bytes_decides}
 use Rattle.std.specs.FinMap.{get, remove}
-use Rattle.std.specs.List.{list_any}
+use Rattle.std.specs.List.{list_all, list_any}
 use Rattle.cluster_tree.specs.Apart.{is_held}
 use Rattle.cluster_tree.specs.PathValue.{PathValue, Holds, below}
 use Rattle.cluster_tree.specs.PathOrder.{path_eq}
@@ -249,6 +250,11 @@ clear-unrefused deeper folder names c d some there asked turn =
 
 pub next : (names : List (List ℕ)) (i : ℕ) → i < length names → drop i names ≡ get_or names i [] ∷ drop (i + 1) names
 next names i l = grind (arith, common_steps)
+
+pub all-at : (test : List ℕ → Bool) (names : List (List ℕ)) (i : ℕ) → list_all test names ≡ true → i < length names → test (get_or names i []) ≡ true
+all-at test [] i h l = absurd (omega arith)
+all-at test (name ∷ names) zero h l = (and_parts (test name) (list_all test names) h).0
+all-at test (name ∷ names) (suc i) h l = all-at test names i (and_parts (test name) (list_all test names) h).1 (omega arith)
 
 pub turn-end : (step : List ℕ → Contents → Result Contents FileFault) (names : List (List ℕ)) (i : ℕ) (c : Contents) → length names ≤ i → in_turn step (drop i names) c ≡ Ok c
 unfolding in_turn

@@ -22,7 +22,7 @@ use Rattle.file_edits.proofs.WayLemmas.{unrefused, way-ready, way-unchanged}
 
 -- what was asked of a file
 
-size-there : (path : PathValue) (o : Option Entry) (n : ℕ) → size_asked (file_asked path o) ≡ Ok (Some n) → size_of (file_of o) ≡ Ok n
+pub size-there : (path : PathValue) (o : Option Entry) (n : ℕ) → size_asked (file_asked path o) ≡ Ok (Some n) → size_of (file_of o) ≡ Ok n
 size-there path None n e = absurd cc
 size-there path (Some (FolderEntry bad)) n e = absurd cc
 size-there path (Some (FileEntry bytes)) n e = let same : length bytes ≡ n = cc in ap (λ k. Ok k) same
@@ -34,19 +34,19 @@ none_asked path (Some (FolderEntry bad)) e = absurd cc
 none_asked path (Some (FileEntry bytes)) e = absurd cc
 none_asked path (Some LinkEntry) e = absurd cc
 
-bytes_there : (o : Option Entry) (n : ℕ) → size_of (file_of o) ≡ Ok n → o ≡ Some (FileEntry (bytes_in o))
+pub bytes_there : (o : Option Entry) (n : ℕ) → size_of (file_of o) ≡ Ok n → o ≡ Some (FileEntry (bytes_in o))
 bytes_there None n e = absurd cc
 bytes_there (Some (FolderEntry bad)) n e = absurd cc
 bytes_there (Some (FileEntry bytes)) n e = refl
 bytes_there (Some LinkEntry) n e = absurd cc
 
-size_is : (o : Option Entry) (n : ℕ) → size_of (file_of o) ≡ Ok n → length (bytes_in o) ≡ n
+pub size_is : (o : Option Entry) (n : ℕ) → size_of (file_of o) ≡ Ok n → length (bytes_in o) ≡ n
 size_is None n e = absurd cc
 size_is (Some (FolderEntry bad)) n e = absurd cc
 size_is (Some (FileEntry bytes)) n e = cc
 size_is (Some LinkEntry) n e = absurd cc
 
-refused_asked : (path : PathValue) (o : Option Entry) (e : FileFault) → size_asked (file_asked path o) ≡ Err e → file_asked path o ≡ Err e
+pub refused_asked : (path : PathValue) (o : Option Entry) (e : FileFault) → size_asked (file_asked path o) ≡ Err e → file_asked path o ≡ Err e
 refused_asked path None e is = absurd cc
 refused_asked path (Some (FolderEntry bad)) e is = let same : fault.IsFolder path ≡ e = cc in ap (λ x. Err x) same
 refused_asked path (Some (FileEntry bytes)) e is = absurd cc
@@ -83,7 +83,7 @@ pub edited-refused : (root path : PathValue) (edit : List ℕ → List ℕ) (c :
 unfolding file_edited
 edited-refused root path edit c e is = ap (λ r. given (given r (way_for root path c)) (λ d. Ok (edited path edit d))) (refused_asked path (entry_at c path) e is)
 
-file_there : (path : PathValue) (o : Option Entry) → o ≡ Some (FileEntry (bytes_in o)) → file_asked path o ≡ Ok (Some (bytes_in o))
+pub file_there : (path : PathValue) (o : Option Entry) → o ≡ Some (FileEntry (bytes_in o)) → file_asked path o ≡ Ok (Some (bytes_in o))
 file_there path None e = absurd cc
 file_there path (Some (FolderEntry bad)) e = absurd cc
 file_there path (Some (FileEntry bytes)) e = refl
@@ -96,7 +96,7 @@ edited-there root path c n is =
     ap (λ r. given (given r (way_for root path c)) (λ d. Ok (edited path (λ bytes. bytes) d))) (file_there path (entry_at c path) there)
     ∙ ap (λ d. Ok d) (put-same c path (bytes_at c path) there)
 
-none_is : (path : PathValue) (o : Option Entry) → size_asked (file_asked path o) ≡ Ok None → file_asked path o ≡ Ok None
+pub none_is : (path : PathValue) (o : Option Entry) → size_asked (file_asked path o) ≡ Ok None → file_asked path o ≡ Ok None
 none_is path o e = ap (file_asked path) (none_asked path o e)
 
 pub edited-no_way : (root path : PathValue) (edit : List ℕ → List ℕ) (c : Contents) (e : FileFault) → size_asked (file_asked path (entry_at c path)) ≡ Ok None → way_made root path c ≡ Err e → file_edited root path edit c ≡ Err e
@@ -152,7 +152,7 @@ unpadded path c size to sized l =
     ap (λ b. insert c path (FileEntry b)) (enough (bytes_at c path) to (omega (arith, size_is (entry_at c path) size sized)))
     ∙ put-same c path (bytes_at c path) (bytes_there (entry_at c path) size sized)
 
-past_end : (o : Option Entry) (n at : ℕ) → size_of (file_of o) ≡ Ok n → at ≤ n → refusal_past (file_of o) at ≡ None
+pub past_end : (o : Option Entry) (n at : ℕ) → size_of (file_of o) ≡ Ok n → at ≤ n → refusal_past (file_of o) at ≡ None
 past_end None n at e l = absurd cc
 past_end (Some (FolderEntry bad)) n at e l = absurd cc
 past_end (Some (FileEntry bytes)) n at e l = let same : length bytes ≡ n = cc in grind (arith, rules)

@@ -50,7 +50,7 @@ all_made (suc k) n path c d q made =
       | Err f ↦ λ one rest. absurd cc
     ] refl made
 
-way_left : (root path : PathValue) (c d : Contents) (q : PathValue) → way_made root path c ≡ Ok d → LeftOrMade c d q (on_way root path q)
+pub way_left : (root path : PathValue) (c d : Contents) (q : PathValue) → way_made root path c ≡ Ok d → LeftOrMade c d q (on_way root path q)
 unfolding way_made
 way_left root path c d q made =
     elim (root_refusal root (entry_at c root)) as (λ r. unless r (folders_made (folders_between root path) (length root.parts + 1) path c) ≡ Ok d → LeftOrMade c d q (on_way root path q)) [

@@ -4,6 +4,9 @@ pub mod AskLemmas
 pub mod ReadLemmas
 pub mod WayLemmas
 pub mod EditLemmas
+pub mod TwiceLemmas
+pub mod LaidLemmas
+pub mod CutLemmas
 pub mod LawLemmas
 pub mod AlikeLemmas
 pub mod ClearLemmas

@@ -1,5 +1,5 @@
--- Files that are edited and removed, and the folders on the way to them. Own: "Folders on the way", "Edits of files say where they go".
-use Rattle.std.specs.Prelude.{ℕ, zero, suc, ◌+◌, ◌-◌, Bool, true, false, ◌||◌, List, ◌++◌, length, replicate, Option, None, Some, Result, Ok}
+-- Files that are edited, cut and removed, and the folders on the way to them. Own: "Folders on the way", "Edits of files say where they go".
+use Rattle.std.specs.Prelude.{ℕ, zero, suc, ◌+◌, ◌-◌, Bool, true, false, ◌||◌, List, ◌++◌, length, take, replicate, Option, None, Some, Result, Ok}
 use Rattle.std.specs.FinMap.{insert, remove}
 use Rattle.layout.specs.Splice.{splice}
 use Rattle.cluster_tree.specs.PathValue.{PathValue, front}
@@ -59,6 +59,14 @@ without path c (Some bytes) = Ok (remove c path)
 
 unfoldable pub file_removed : PathValue → Contents → Result Contents FileFault
 file_removed path c = given (file_asked path (entry_at c path)) (without path c)
+
+-- a file cut to a size in bytes where it is longer
+abbrev pub cut_to : PathValue → ℕ → Contents → Option (List ℕ) → Result Contents FileFault
+cut_to path size c None = Ok c
+cut_to path size c (Some bytes) = Ok (insert c path (FileEntry (take size bytes)))
+
+unfoldable pub file_cut : PathValue → ℕ → Contents → Result Contents FileFault
+file_cut path size c = given (file_asked path (entry_at c path)) (cut_to path size c)
 
 -- whether a path is one of the folders on the way to another, so many from the one of so many parts on, or that path itself
 unfoldable pub leads : (count parts : ℕ) → PathValue → PathValue → Bool

@@ -1,15 +1,15 @@
 -- What follows from the definitions, for callers. Own: "Edits of files say where they go", "Alike trees".
-use Rattle.std.specs.Prelude.{◌≡◌, ◌≢◌, ◌⊎◌, ℕ, ◌<◌, Bool, true, false, List, [], length, None, Some, Ok}
+use Rattle.std.specs.Prelude.{◌≡◌, ◌≢◌, ◌⊎◌, ℕ, ◌<◌, Bool, true, false, List, [], length, take, None, Some, Ok}
 use Rattle.cluster_tree.specs.Apart.{is_held}
 use Rattle.cluster_tree.specs.PathValue.{PathValue, Holds, below}
-use Rattle.cluster_tree.specs.Contents.{Contents, FileEntry, FolderEntry, IsTree, entry_at}
+use Rattle.cluster_tree.specs.Contents.{Contents, FileEntry, FolderEntry, IsTree, entry_at, is_folder, parent}
 use Rattle.cluster_tree.specs.Run.{State, Run}
 use Rattle.cluster_tree.specs.Tree.{bytes_at}
 use Rattle.cluster_tree.specs.declared.tree.ChangeCall.{ChangeCall}
 use Rattle.file_edits.specs.Alike.{Alike, AlikeAnswers, AsDeep, SameAnswers}
 use Rattle.file_edits.specs.Asking.{file_asked, folder_asked, size_asked, names_asked, read_asked}
 use Rattle.file_edits.specs.Clearing.{tree_removed}
-use Rattle.file_edits.specs.Edits.{file_edited, file_removed, on_way, way_made}
+use Rattle.file_edits.specs.Edits.{file_cut, file_edited, file_removed, on_way, way_made}
 use Rattle.file_edits.specs.Own.{GoesOn}
 
 -- an edited file is what the edit makes of its bytes
@@ -19,6 +19,26 @@ EditedStands = (root path : PathValue) (edit : List ℕ → List ℕ) (c d : Con
 -- every other path holds what it held, but for folders on the way that weren't there
 abbrev pub EditedElsewhere : Type 0
 EditedElsewhere = (root path : PathValue) (edit : List ℕ → List ℕ) (c d : Contents) (q : PathValue) → file_edited root path edit c ≡ Ok d → q ≢ path → (entry_at d q ≡ entry_at c q) ⊎ ((on_way root path q ≡ true) × (entry_at c q ≡ None) × (entry_at d q ≡ Some (FolderEntry false)))
+
+-- where the folders on the way were made, a path below the root holds what it held, in a folder
+abbrev pub WayStands : Type 0
+WayStands = (root path : PathValue) (c d : Contents) → Holds root path → length root.parts < length path.parts → way_made root path c ≡ Ok d → (entry_at d path ≡ entry_at c path) × (is_folder (entry_at d (parent path)) ≡ true)
+
+-- and every other path what it held, but for folders on the way that weren't there
+abbrev pub WayElsewhere : Type 0
+WayElsewhere = (root path : PathValue) (c d : Contents) (q : PathValue) → way_made root path c ≡ Ok d → (entry_at d q ≡ entry_at c q) ⊎ ((on_way root path q ≡ true) × (entry_at c q ≡ None) × (entry_at d q ≡ Some (FolderEntry false)))
+
+-- a file that was cut has its first bytes
+abbrev pub CutStands : Type 0
+CutStands = (path : PathValue) (size : ℕ) (bytes : List ℕ) (c d : Contents) → entry_at c path ≡ Some (FileEntry bytes) → file_cut path size c ≡ Ok d → entry_at d path ≡ Some (FileEntry (take size bytes))
+
+-- where none stands nothing is cut
+abbrev pub CutOfNone : Type 0
+CutOfNone = (path : PathValue) (size : ℕ) (c : Contents) → entry_at c path ≡ None → file_cut path size c ≡ Ok c
+
+-- and every other path holds what it held
+abbrev pub CutElsewhere : Type 0
+CutElsewhere = (path : PathValue) (size : ℕ) (c d : Contents) (q : PathValue) → file_cut path size c ≡ Ok d → q ≢ path → entry_at d q ≡ entry_at c q
 
 -- nothing stands where a file was removed
 abbrev pub RemovedIsGone : Type 0
@@ -55,6 +75,10 @@ EditedAlike = (like : List (List ℕ) → List ℕ → List ℕ → Bool) (root 
 -- so does making the folders on the way
 abbrev pub WayAlike : Type 0
 WayAlike = (like : List (List ℕ) → List ℕ → List ℕ → Bool) (root other : PathValue) (parts : List (List ℕ)) (c d : Contents) → Alike like c root d other → AlikeAnswers like root other (way_made root (below root parts) c) (way_made other (below other parts) d)
+
+-- so does a cut, where the first bytes of alike ones are alike
+abbrev pub CutAlike : Type 0
+CutAlike = (like : List (List ℕ) → List ℕ → List ℕ → Bool) (root other : PathValue) (parts : List (List ℕ)) (size : ℕ) (c d : Contents) → ((a b : List ℕ) → like parts a b ≡ true → like parts (take size a) (take size b) ≡ true) → Alike like c root d other → AlikeAnswers like root other (file_cut (below root parts) size c) (file_cut (below other parts) size d)
 
 -- so does the removal of a file
 abbrev pub RemovedAlike : Type 0

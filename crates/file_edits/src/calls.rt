@@ -3,7 +3,7 @@ ghost use Rattle.std.specs.Prelude.{◌≡◌, ◌≢◌, ◌⊎◌, [], false, 
 ghost use Rattle.std.specs.FinMap.{insert, remove};
 ghost use Rattle.cluster_tree.specs.PathOrder.{path_eq};
 ghost use Rattle.cluster_tree.specs.Contents.{FileEntry, FolderEntry};
-ghost use Rattle.cluster_tree.specs.Tree.{make_refusal, write_refusal, written};
+ghost use Rattle.cluster_tree.specs.Tree.{cut_refusal, make_refusal, shortened, write_refusal, written};
 ghost use Rattle.cluster_tree.specs.Folders.{remove_refusal};
 ghost use Rattle.cluster_tree.specs.Causes.{Rose};
 ghost use Rattle.cluster_tree.specs.Frame.{Came};
@@ -94,5 +94,25 @@ pub(crate) fn remove<F: Tree>(alloc: Global, tree: &mut F, path: &Path) -> Resul
         Rose (F.failed_changes tree.old) (F.failed_changes tree.new) }
 {
     let done = tree.remove(path);
+    settled(alloc, path, done)
+}
+
+/// Cuts a file to a size in bytes. Answers `Changed` where the tree refuses it.
+pub(crate) fn cut<F: Tree>(
+    alloc: Global,
+    tree: &mut F,
+    path: &Path,
+    size: u64,
+) -> Result<(), FileFault>
+    ensures exact { IsTrue F.tells → cut_refusal (F.contents tree.old) path.now size ≡ None →
+        Does (Ok (shortened (F.contents tree.old) path.now size)) (F.contents tree.new) result }
+    ensures frame { Came F.Tree tree.old tree.new }
+    ensures own { IsTrue F.tells →
+        OnOwn F.calls (λ q. path_eq q path.now) tree.old tree.new }
+    ensures read_fault { result ≢ Err FileFault.ReadFault }
+    ensures write_fault { IsErrOf result FileFault.WriteFault →
+        Rose (F.failed_changes tree.old) (F.failed_changes tree.new) }
+{
+    let done = tree.cut(path, size);
     settled(alloc, path, done)
 }

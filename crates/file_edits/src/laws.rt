@@ -1,11 +1,16 @@
 // What follows from the definitions, for callers: each function's contract is a law.
-ghost use Rattle.file_edits.specs.Laws.{EditedAlike, EditedElsewhere, EditedStands, FolderAlike, NamesAlike, OwnElsewhere, OwnInTurn, OwnIsWider, ReadAlike, RemovedAlike, RemovedElsewhere, RemovedIsGone, SizeAlike, TreeAlike, TreeAnswersAlike, TreeElsewhere, TreeIsGone, WayAlike};
+ghost use Rattle.file_edits.specs.Laws.{CutAlike, CutElsewhere, CutOfNone, CutStands, EditedAlike, EditedElsewhere, EditedStands, FolderAlike, NamesAlike, OwnElsewhere, OwnInTurn, OwnIsWider, ReadAlike, RemovedAlike, RemovedElsewhere, RemovedIsGone, SizeAlike, TreeAlike, TreeAnswersAlike, TreeElsewhere, TreeIsGone, WayAlike, WayElsewhere, WayStands};
 
-/// What stands at a path, and at every other, after a file was edited or removed there, or
-/// a folder with all that it holds.
+/// What stands at a path, and at every other, after a file was edited, cut or removed there, or
+/// a folder with all that it holds, or after the folders on the way were made.
 pub fn edit_laws()
     ensures edited { EditedStands }
     ensures edited_elsewhere { EditedElsewhere }
+    ensures way { WayStands }
+    ensures way_elsewhere { WayElsewhere }
+    ensures cut { CutStands }
+    ensures cut_none { CutOfNone }
+    ensures cut_elsewhere { CutElsewhere }
     ensures removed { RemovedIsGone }
     ensures removed_elsewhere { RemovedElsewhere }
     ensures tree { TreeIsGone }
@@ -27,6 +32,7 @@ pub fn own_laws()
 pub fn alike_laws()
     ensures edited { EditedAlike }
     ensures way { WayAlike }
+    ensures cut { CutAlike }
     ensures removed { RemovedAlike }
     ensures tree { TreeAlike }
     ensures tree_answers { TreeAnswersAlike }

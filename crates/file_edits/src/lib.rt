@@ -8,6 +8,7 @@ mod editing;
 mod laws;
 mod reading;
 mod removing;
+mod shortening;
 mod ways;
 
 pub use asking::{file_size, is_folder, name_at, names_of};
@@ -16,4 +17,5 @@ pub use editing::{ensure_file, lay};
 pub use laws::{alike_laws, edit_laws, own_laws};
 pub use reading::read_or_zeros;
 pub use removing::remove_file;
+pub use shortening::shorten;
 pub use ways::make_way;

@@ -6,10 +6,9 @@ use Rattle.cluster_tree.specs.PathValue.{PathValue}
 use Rattle.cluster_tree.specs.Contents.{Contents}
 use Rattle.cluster_tree.specs.Causes.{given}
 use Rattle.cluster_tree.specs.declared.file_fault.FileFault.{FileFault}
-use Rattle.cluster_tree.specs.declared.file_fault.FileFault.TheVariants as fault
 use Rattle.file_edits.specs.Answers.{Does}
 use Rattle.file_edits.specs.Edits.{file_edited, laid}
-use Rattle.file_edits.proofs.EditLemmas.{edited-unchanged}
+use Rattle.file_edits.proofs.AnswerLemmas.{given-ok}
 use Rattle.record_layouts.specs.declared.kinds.Member.{Member}
 use Rattle.record_layouts.specs.declared.multixact.MultiXactCreate.{MultiXactCreate}
 use Rattle.slru_replay.specs.Area.{page_file, page_start, page_end, page_laid, is_of_area}
@@ -29,25 +28,13 @@ laid-exact root path area page start at place bytes c new r is begins wide done 
 pub first-refused : (meant : Result Contents FileFault) (next : Contents → Result Contents FileFault) (e : FileFault) → meant ≡ Err e → given meant next ≡ Err e
 first-refused meant next e is = ap (λ r. given r next) is
 
-pub then-meant : (meant : Result Contents FileFault) (next : Contents → Result Contents FileFault) (d : Contents) → meant ≡ Ok d → given meant next ≡ next d
-then-meant meant next d is = ap (λ r. given r next) is
-
-pub given-unchanged : (meant : Result Contents FileFault) (next : Contents → Result Contents FileFault) (p : PathValue) → (meant ≡ Err (fault.Changed p) → ⊥) → ((d : Contents) → next d ≡ Err (fault.Changed p) → ⊥) → given meant next ≡ Err (fault.Changed p) → ⊥
-given-unchanged (Ok d) next p first then is = then d is
-given-unchanged (Err e) next p first then is = let same : e ≡ fault.Changed p = cc in first (ap (λ x. Err x) same)
-
 pub member-first : (root : PathValue) (offset : ℕ) (member : Member) (c : Contents) (e : FileFault) → flags_set root offset member c ≡ Err e → member_set root offset member c ≡ Err e
 unfolding member_set
 member-first root offset member c e is = first-refused (flags_set root offset member c) (xid_set root offset member) e is
 
 pub member-then : (root : PathValue) (offset : ℕ) (member : Member) (c d : Contents) → flags_set root offset member c ≡ Ok d → member_set root offset member c ≡ xid_set root offset member d
 unfolding member_set
-member-then root offset member c d is = then-meant (flags_set root offset member c) (xid_set root offset member) d is
-
-pub member-unchanged : (root : PathValue) (offset : ℕ) (member : Member) (c : Contents) (p : PathValue) → member_set root offset member c ≡ Err (fault.Changed p) → ⊥
-unfolding member_set
-member-unchanged root offset member c p is =
-    given-unchanged (flags_set root offset member c) (xid_set root offset member) p (edited-unchanged root _ _ c p) (λ d. edited-unchanged root _ _ d p) is
+member-then root offset member c d is = given-ok (flags_set root offset member c) (xid_set root offset member) d is
 
 next : (members : List Member) (i : ℕ) (member : Member) → slice_get members i ≡ Some member → drop i members ≡ member ∷ drop (i + 1) members
 next [] i member is = absurd cc
@@ -62,7 +49,7 @@ pub members-more : (root : PathValue) (offset after : ℕ) (members : List Membe
 unfolding members_set
 members-more root offset after members i member c d at is done =
     ap (λ ms. members_set root offset ms c) (next members i member at)
-    ∙ then-meant (member_set root offset member c) (members_set root ((offset + 1) % 2 ^ 32) (drop (i + 1) members)) d done
+    ∙ given-ok (member_set root offset member c) (members_set root ((offset + 1) % 2 ^ 32) (drop (i + 1) members)) d done
     ∙ ap (λ o. members_set root o (drop (i + 1) members) d) (sym is)
 
 pub members-refused : (root : PathValue) (offset : ℕ) (members : List Member) (i : ℕ) (member : Member) (c : Contents) (e : FileFault) → slice_get members i ≡ Some member → member_set root offset member c ≡ Err e → members_set root offset (drop i members) c ≡ Err e
@@ -70,12 +57,6 @@ unfolding members_set
 members-refused root offset members i member c e at done =
     ap (λ ms. members_set root offset ms c) (next members i member at)
     ∙ first-refused (member_set root offset member c) (members_set root ((offset + 1) % 2 ^ 32) (drop (i + 1) members)) e done
-
-members-unchanged : (root : PathValue) (offset : ℕ) (members : List Member) (c : Contents) (p : PathValue) → members_set root offset members c ≡ Err (fault.Changed p) → ⊥
-unfolding members_set
-members-unchanged root offset [] c p is = absurd cc
-members-unchanged root offset (member ∷ members) c p is =
-    given-unchanged (member_set root offset member c) (members_set root ((offset + 1) % 2 ^ 32) members) p (member-unchanged root offset member c p) (λ d. members-unchanged root ((offset + 1) % 2 ^ 32) members d p) is
 
 pub multi-short : (root : PathValue) (create : Option MultiXactCreate) (c : Contents) → create ≡ None → multi_added root create c ≡ Ok c
 unfolding multi_added
@@ -87,13 +68,7 @@ multi-first root o create c e is refused = ap (λ x. multi_added root x c) is �
 
 pub multi-then : (root : PathValue) (o : Option MultiXactCreate) (create : MultiXactCreate) (c d : Contents) → o ≡ Some create → offset_set root create.multi create.offset c ≡ Ok d → multi_added root o c ≡ members_set root create.offset create.members d
 unfolding multi_added
-multi-then root o create c d is done = ap (λ x. multi_added root x c) is ∙ then-meant (offset_set root create.multi create.offset c) (members_set root create.offset create.members) d done
-
-pub multi-unchanged : (root : PathValue) (o : Option MultiXactCreate) (c : Contents) (p : PathValue) → multi_added root o c ≡ Err (fault.Changed p) → ⊥
-unfolding multi_added
-multi-unchanged root None c p is = absurd cc
-multi-unchanged root (Some create) c p is =
-    given-unchanged (offset_set root create.multi create.offset c) (members_set root create.offset create.members) p (edited-unchanged root _ _ c p) (λ d. members-unchanged root create.offset create.members d p) is
+multi-then root o create c d is done = ap (λ x. multi_added root x c) is ∙ given-ok (offset_set root create.multi create.offset c) (members_set root create.offset create.members) d done
 
 pub of-offsets : (root q : PathValue) → is_of_area root Offsets q ≡ true → is_of_multixacts root q ≡ true
 of-offsets root q e = or_left (is_of_area root Offsets q) (is_of_area root Members q) e

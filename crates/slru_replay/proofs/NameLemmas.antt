@@ -1,5 +1,6 @@
 -- Names of folders and files are parts of paths.
-use Rattle.std.proofs.Common.{◌≡◌, ℕ, zero, suc, ◌+◌, ◌-◌, ◌/◌, ◌<◌, ◌≤◌, ◌^◌, ◌==◌, Bool, true, false, not, cond, ◌&&◌, nat_lt, List, [], ◌∷◌, ◌++◌, length, replicate, codes, Ok, Err, refl, ap, ap₂, sym, ◌∙◌, subst, append_assoc, arith, true≢false}
+use Rattle.std.proofs.Common.{◌≡◌, ℕ, zero, suc, ◌+◌, ◌-◌, ◌/◌, ◌<◌, ◌≤◌, ◌^◌, ◌==◌, true, false, not, cond, ◌&&◌, nat_lt, List, [], ◌∷◌, ◌++◌, length, replicate, codes, Ok, Err, refl, ap, ap₂, sym, ◌∙◌, subst, append_assoc, arith}
+use Rattle.std.proofs.lemmas.Bool.{and_from, and_parts}
 use Rattle.std.proofs.lemmas.Bool.Decides.{nat_tests}
 use Rattle.std.proofs.lemmas.List.{length-append, length-replicate}
 use Rattle.std.proofs.lemmas.List.Folds.{list_all-append}
@@ -57,13 +58,6 @@ folder-held root area = holds-below root (folder_parts area)
 
 -- names of hexadecimal digits
 
-and_parts : (a b : Bool) → (a && b) ≡ true → (a ≡ true) × (b ≡ true)
-and_parts true b h = (refl, h)
-and_parts false b h = absurd (true≢false (sym h))
-
-and_both : (a b : Bool) → a ≡ true → b ≡ true → (a && b) ≡ true
-and_both a b h k = ap (λ x. x && b) h ∙ k
-
 not_slash : (b : ℕ) → is_ascii_hexdigit b ≡ true → (b == 47) ≡ false
 not_slash b h = grind (arith, nat_tests)
 
@@ -100,7 +94,7 @@ name_part n h =
     let zeros : List ℕ = replicate (4 - length text) 48 in
     let size : length (zeros ++ text) ≡ (4 - length text) + length text = length-append zeros text ∙ ap (λ k. k + length text) (length-replicate (4 - length text) 48) in
     digits_part (zeros ++ text) (omega (arith, size))
-    (list_all-append is_ascii_hexdigit zeros text ∙ and_both (list_all is_ascii_hexdigit zeros) (list_all is_ascii_hexdigit text) (zeros_hex (4 - length text)) (word_hex text (is_hex_word-hex_text n h)))
+    (list_all-append is_ascii_hexdigit zeros text ∙ and_from (list_all is_ascii_hexdigit zeros) (list_all is_ascii_hexdigit text) (zeros_hex (4 - length text)) (word_hex text (is_hex_word-hex_text n h)))
 
 pub name_admitted : (have n : ℕ) → have ≤ 63 → n < 2 ^ 32 → checked have (file_name n) ≡ Ok tt
 name_admitted have n h k = part_admitted have (file_name n) h (name_part n k)

@@ -1,5 +1,6 @@
 -- Numbers of files, read from their names.
-use Rattle.std.proofs.Common.{◌≡◌, ℕ, ◌<◌, ◌≤◌, ◌^◌, ◌==◌, Bool, true, false, cond, ◌&&◌, nat_le, List, [], ◌∷◌, length, drop, Some, None, Result, refl, ap, sym, ◌∙◌, subst, arith, true≢false}
+use Rattle.std.proofs.Common.{◌≡◌, ℕ, ◌<◌, ◌≤◌, ◌^◌, ◌==◌, true, false, cond, ◌&&◌, nat_le, List, [], ◌∷◌, length, drop, Some, None, Result, refl, ap, sym, ◌∙◌, subst, arith}
+use Rattle.std.proofs.lemmas.Bool.{and_parts}
 use Rattle.std.proofs.lemmas.Bool.Decides.{nat_tests}
 use Rattle.std.proofs.lemmas.Result.{Ok-from_Ok_iff}
 use Rattle.std.specs.Prelude.{if◌then◌else◌}
@@ -9,10 +10,6 @@ use Rattle.std.specs.Str.Parse.{ParsesUnsigned, AllDigits, digits_value, without
 use Rattle.wal_base.specs.Hex.{hex_value, is_upper_hex}
 use Rattle.wal_base.proofs.HexDigits.{digits_from_hex, all_hex_from_upper, value_below}
 use Rattle.slru_replay.specs.Cutting.{is_name_length, is_file_name, file_number}
-
-and_parts : (a b : Bool) → (a && b) ≡ true → (a ≡ true) × (b ≡ true)
-and_parts true b h = (refl, h)
-and_parts false b h = absurd (true≢false (sym h))
 
 record IsNumber (name : List ℕ) : Type 0 where
   upper : list_all is_upper_hex name ≡ true

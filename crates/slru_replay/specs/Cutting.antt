@@ -8,6 +8,7 @@ use Rattle.cluster_tree.specs.Contents.{Contents, entry_at}
 use Rattle.cluster_tree.specs.Causes.{given}
 use Rattle.cluster_tree.specs.declared.file_fault.FileFault.{FileFault}
 use Rattle.file_edits.specs.Asking.{names_asked}
+use Rattle.file_edits.specs.Clearing.{in_turn}
 use Rattle.file_edits.specs.Edits.{file_removed}
 use Rattle.slru_replay.specs.Area.{folder_of}
 use Rattle.slru_replay.specs.declared.area.Area.{Area}
@@ -58,11 +59,6 @@ name_cut area first last name = number_cut area first last (file_number name)
 unfoldable pub file_cut : Area → (first last : ℕ) → PathValue → List ℕ → Contents → Result Contents FileFault
 file_cut area first last folder name c = if name_cut area first last name then file_removed (below folder (name ∷ [])) c else Ok c
 
--- those of these names, in turn
-unfoldable pub files_cut : Area → (first last : ℕ) → PathValue → List (List ℕ) → Contents → Result Contents FileFault
-files_cut area first last folder [] c = Ok c
-files_cut area first last folder (name ∷ names) c = given (file_cut area first last folder name c) (files_cut area first last folder names)
-
--- an area without the files that go
+-- an area without the files that go, each in turn
 unfoldable pub area_cut : PathValue → Area → (first last : ℕ) → Contents → Result Contents FileFault
-area_cut root area first last c = given (names_asked c (folder_of root area) (entry_at c (folder_of root area))) (λ names. files_cut area first last (folder_of root area) names c)
+area_cut root area first last c = given (names_asked c (folder_of root area) (entry_at c (folder_of root area))) (λ names. in_turn (file_cut area first last (folder_of root area)) names c)

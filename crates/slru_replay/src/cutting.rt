@@ -6,9 +6,10 @@ ghost use Rattle.cluster_tree.specs.Folders.{lies_in};
 ghost use Rattle.cluster_tree.specs.Causes.{Rose};
 ghost use Rattle.cluster_tree.specs.Frame.{Came};
 ghost use Rattle.file_edits.specs.Answers.{Does};
+ghost use Rattle.file_edits.specs.Clearing.{in_turn};
 ghost use Rattle.file_edits.specs.Own.{OnOwn};
 ghost use Rattle.slru_replay.specs.Area.{is_of_area};
-ghost use Rattle.slru_replay.specs.Cutting.{area_cut, file_cut, files_cut, file_precedes, is_cut, members_cut, name_cut, precedes};
+ghost use Rattle.slru_replay.specs.Cutting.{area_cut, file_cut, file_precedes, is_cut, members_cut, name_cut, precedes};
 
 use crate::area::Area;
 use crate::names::{FILE_PAGES, file_number, folder_of};
@@ -120,7 +121,7 @@ fn cut_files<F: Tree>(
 ) -> Result<(), FileFault>
     requires room { length folder.now.parts ≤ 63 }
     requires parts { list_all is_part names.now ≡ true }
-    ensures exact { IsTrue F.tells → Does (files_cut area first last folder.now names.now
+    ensures exact { IsTrue F.tells → Does (in_turn (file_cut area first last folder.now) names.now
         (F.contents tree.old)) (F.contents tree.new) result }
     ensures frame { Came F.Tree tree.old tree.new }
     ensures own { IsTrue F.tells → OnOwn F.calls (lies_in folder.now) tree.old tree.new }

@@ -1,5 +1,5 @@
 -- Files that become given bytes, and versions of databases.
-use Rattle.std.proofs.Common.{◌≡◌, ℕ, Bool, true, ◌+◌, ◌-◌, ◌<◌, ◌≤◌, List, [], ◌∷◌, ◌++◌, length, take, drop, replicate, Option, None, Some, Result, Ok, Err, is_some, refl, ap, sym, subst, ◌∙◌, inl, inr, arith}
+use Rattle.std.proofs.Common.{◌≡◌, ℕ, true, List, length, take, Option, None, Some, Result, Ok, Err, refl, ap, sym, subst, ◌∙◌, inl, inr, arith}
 use Rattle.std.proofs.lemmas.Grind.{common_steps}
 use Rattle.std.specs.FinMap.{insert}
 use Rattle.layout.specs.Splice.{splice}
@@ -11,13 +11,13 @@ use Rattle.cluster_tree.specs.declared.file_fault.FileFault.{FileFault}
 use Rattle.cluster_tree.proofs.ContentsLemmas.{entry-put}
 use Rattle.file_edits.specs.Answers.{Does}
 use Rattle.file_edits.specs.Asking.{file_asked, size_asked}
-use Rattle.file_edits.specs.Edits.{edited, file_edited, laid, on_way, padded, way_for}
+use Rattle.file_edits.specs.Edits.{edited, file_edited, laid, on_way, way_for}
 use Rattle.record_layouts.specs.declared.relmap.RelMapUpdate.{RelMapUpdate}
 use Rattle.storage_databases.specs.Databases.{version_file, version_by, version_text, database_made}
 use Rattle.storage_databases.specs.RelationMap.{is_of_map, map_file, map_written}
-use Rattle.storage_replay.specs.Cutting.{cut_to, file_cut}
-use Rattle.storage_replay.proofs.AnswerLemmas.{Why, does-is, given-ok, why-first}
-use Rattle.storage_replay.proofs.TwiceLemmas.{edited-again, edited-fails}
+use Rattle.file_edits.specs.Edits.{cut_to, file_cut}
+use Rattle.file_edits.proofs.AnswerLemmas.{Why, does-is}
+use Rattle.file_edits.proofs.TwiceLemmas.{edited-again, edited-fails}
 
 -- bytes laid at the front, and the rest cut off
 

@@ -1,4 +1,5 @@
 -- The folders of databases: PostgreSQL 16, src/backend/commands/dbcommands.c, dbase_redo and CreateDirAndVersionFile.
+-- Own: "Databases and maps in replay".
 use Rattle.std.specs.Prelude.{ℕ, List, [], ◌∷◌, codes, Option, None, Some, Result, Ok}
 use Rattle.cluster_tree.specs.PathValue.{PathValue, below}
 use Rattle.cluster_tree.specs.Contents.{Contents, entry_at}

@@ -1,4 +1,5 @@
 -- Relation maps: PostgreSQL 16, src/backend/utils/cache/relmapper.c, relmap_redo and write_relmap_file.
+-- Own: "Databases and maps in replay".
 use Rattle.std.specs.Prelude.{ℕ, ◌==◌, Bool, false, List, [], ◌∷◌, codes, Option, None, Some, Result, Ok, if◌then◌else◌}
 use Rattle.block_refs.specs.Bytes.{main_bytes}
 use Rattle.block_refs.specs.Parts.{PartsView}

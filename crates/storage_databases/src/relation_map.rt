@@ -11,11 +11,10 @@ ghost use Rattle.storage_databases.specs.RelationMap.{is_of_map, map_file, map_p
 
 use block_refs::Parts;
 use cluster_tree::{FileFault, OutOfMemory, Path, Tree};
-use file_edits::lay;
+use file_edits::{lay, shorten};
 use record_layouts::RelMapUpdate;
 use relation_files::database_folder;
 use std::alloc::Global;
-use storage_replay::shorten;
 use wal_records::Record;
 
 // The folder of a map: the shared one lies in `global`.

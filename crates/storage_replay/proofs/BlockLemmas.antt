@@ -16,9 +16,9 @@ use Rattle.file_edits.proofs.OwnLemmas.{own-wider}
 use Rattle.relation_files.specs.Paths.{relation_file}
 use Rattle.storage_replay.specs.Blocks.{grown, file_filled, files_filled, block_laid, block_in_file, block_put}
 use Rattle.storage_replay.specs.Files.{is_of_relation}
-use Rattle.storage_replay.proofs.AnswerLemmas.{Why, why-first, given-ok, does-is}
+use Rattle.file_edits.proofs.AnswerLemmas.{Why, why-first, given-ok, does-is}
 use Rattle.storage_replay.proofs.OwnLemmas.{file-way, file-own}
-use Rattle.storage_replay.proofs.TwiceLemmas.{edited-again, edited-fails}
+use Rattle.file_edits.proofs.TwiceLemmas.{edited-again, edited-fails}
 
 -- what is done at a path that is a file's
 

@@ -1,5 +1,5 @@
 -- Relations that are truncated.
-use Rattle.std.proofs.Common.{◌≡◌, ℕ, Bool, true, false, Result, Ok, ap, sym}
+use Rattle.std.proofs.Common.{◌≡◌, ℕ, true, false, Result, Ok, ap, ◌∙◌}
 use Rattle.std.specs.Prelude.{if◌then◌else◌}
 use Rattle.block_refs.specs.declared.names.Fork.TheVariants.{Main}
 use Rattle.block_refs.specs.declared.names.RelName.{RelName}
@@ -7,31 +7,37 @@ use Rattle.cluster_tree.specs.PathValue.{PathValue}
 use Rattle.cluster_tree.specs.Contents.{Contents}
 use Rattle.cluster_tree.specs.declared.file_fault.FileFault.{FileFault}
 use Rattle.file_edits.specs.Answers.{Does}
-use Rattle.storage_replay.specs.Changes.{created, main_cut, main_by, map_by, truncated}
+use Rattle.storage_replay.specs.Changes.{created, cuts_main, cuts_map, main_cut, main_by, map_by, truncated}
 use Rattle.storage_replay.specs.Cutting.{fork_cut}
-use Rattle.storage_replay.proofs.AnswerLemmas.{Why, why-first, given-ok, does-is}
+use Rattle.storage_replay.specs.MapBits.{map_cut}
+use Rattle.file_edits.proofs.AnswerLemmas.{Why, why-first, why-is, given-ok, does-is}
 
--- what a flag says
+module _ (root : PathValue) (per : ℕ) (rel : RelName) (blocks : ℕ) (c : Contents) (flags : ℕ) where
+  pub main-unset : cuts_main flags ≡ false → main_by root per rel blocks flags c ≡ Ok c
+  main-unset unset = ap (λ b. if b then main_cut root per rel blocks c else Ok c) unset
 
-pub flag-set : {A : Type 0} (b : Bool) (meant : Result Contents FileFault) (c new : Contents) (r : Result A FileFault) → true ≡ b → Does meant new r → Does (if b then meant else Ok c) new r
-flag-set b meant c new r is done = does-is meant _ new r (ap (λ x. if x then meant else Ok c) (sym is)) done
+  main_set : cuts_main flags ≡ true → main_by root per rel blocks flags c ≡ main_cut root per rel blocks c
+  main_set set = ap (λ b. if b then main_cut root per rel blocks c else Ok c) set
 
-pub flag-unset : (b : Bool) (meant : Result Contents FileFault) (c : Contents) → false ≡ b → (if b then meant else Ok c) ≡ Ok c
-flag-unset b meant c is = ap (λ x. if x then meant else Ok c) (sym is)
-
-module _ (root : PathValue) (per : ℕ) (rel : RelName) (blocks : ℕ) (c : Contents) where
-  pub main-refused : (e : FileFault) → Why (created root rel Main c) e → Why (main_cut root per rel blocks c) e
+  pub main-refused : cuts_main flags ≡ true → (e : FileFault) → Why (created root rel Main c) e → Why (main_by root per rel blocks flags c) e
   unfolding main_cut
-  main-refused e why = why-first (created root rel Main c) (fork_cut root per rel Main blocks) e why
+  main-refused set e why = why-is _ _ e (main_set set) (why-first (created root rel Main c) (fork_cut root per rel Main blocks) e why)
 
-  pub main-then : {A : Type 0} (d new : Contents) (r : Result A FileFault) → created root rel Main c ≡ Ok d → Does (fork_cut root per rel Main blocks d) new r → Does (main_cut root per rel blocks c) new r
+  pub main-then : {A : Type 0} → cuts_main flags ≡ true → (d new : Contents) (r : Result A FileFault) → created root rel Main c ≡ Ok d → Does (fork_cut root per rel Main blocks d) new r → Does (main_by root per rel blocks flags c) new r
   unfolding main_cut
-  main-then d new r is done = does-is (fork_cut root per rel Main blocks d) _ new r (given-ok (created root rel Main c) (fork_cut root per rel Main blocks) d is) done
+  main-then set d new r is done = does-is (fork_cut root per rel Main blocks d) _ new r (main_set set ∙ given-ok (created root rel Main c) (fork_cut root per rel Main blocks) d is) done
 
-  pub truncated-refused : (flags : ℕ) (e : FileFault) → Why (main_by root per rel blocks flags c) e → Why (truncated root per rel blocks flags c) e
+  pub truncated-refused : (e : FileFault) → Why (main_by root per rel blocks flags c) e → Why (truncated root per rel blocks flags c) e
   unfolding truncated
-  truncated-refused flags e why = why-first (main_by root per rel blocks flags c) (map_by root per rel blocks flags) e why
+  truncated-refused e why = why-first (main_by root per rel blocks flags c) (map_by root per rel blocks flags) e why
 
-  pub truncated-then : {A : Type 0} (flags : ℕ) (d new : Contents) (r : Result A FileFault) → main_by root per rel blocks flags c ≡ Ok d → Does (map_by root per rel blocks flags d) new r → Does (truncated root per rel blocks flags c) new r
+  by_map : (d : Contents) → main_by root per rel blocks flags c ≡ Ok d → truncated root per rel blocks flags c ≡ map_by root per rel blocks flags d
   unfolding truncated
-  truncated-then flags d new r is done = does-is (map_by root per rel blocks flags d) _ new r (given-ok (main_by root per rel blocks flags c) (map_by root per rel blocks flags) d is) done
+  by_map d is = given-ok (main_by root per rel blocks flags c) (map_by root per rel blocks flags) d is
+
+  pub truncated-unset : (d : Contents) → cuts_map flags ≡ false → main_by root per rel blocks flags c ≡ Ok d → truncated root per rel blocks flags c ≡ Ok d
+  truncated-unset d unset is = by_map d is ∙ ap (λ b. if b then map_cut root per rel blocks d else Ok d) unset
+
+  pub truncated-then : {A : Type 0} (d new : Contents) (r : Result A FileFault) → cuts_map flags ≡ true → main_by root per rel blocks flags c ≡ Ok d → Does (map_cut root per rel blocks d) new r → Does (truncated root per rel blocks flags c) new r
+  truncated-then d new r set is done =
+      does-is (map_cut root per rel blocks d) _ new r (by_map d is ∙ ap (λ b. if b then map_cut root per rel blocks d else Ok d) set) done

@@ -1,79 +1,24 @@
--- Files that are cut, and swept from a folder.
-use Rattle.std.proofs.Common.{◌≡◌, ℕ, zero, suc, ◌*◌, ◌/◌, ◌%◌, ◌<◌, ◌≤◌, ◌==◌, Bool, true, false, cond, ◌&&◌, nat_lt, List, [], ◌∷◌, length, take, get_or, unwrap_or, Option, None, Some, Result, Ok, Err, refl, ap, subst, ◌∙◌, inl, inr, arith}
+-- Files that are swept from a folder, and forks that are cut.
+use Rattle.std.proofs.Common.{◌≡◌, ℕ, ◌*◌, ◌/◌, ◌%◌, ◌==◌, Bool, true, false, List, [], ◌∷◌, Option, None, Some, Result, Ok, ap, subst, ◌∙◌}
 use Rattle.std.specs.Prelude.{if◌then◌else◌}
-use Rattle.std.specs.FinMap.{insert}
-use Rattle.std.specs.List.{list_all}
-use Rattle.std.proofs.lemmas.Bool.Decides.{nat_tests}
-use Rattle.std.proofs.lemmas.Grind.{common_steps}
+use Rattle.std.proofs.lemmas.Bool.{and_parts}
 use Rattle.block_refs.specs.declared.names.Fork.{Fork}
 use Rattle.block_refs.specs.declared.names.RelName.{RelName}
 use Rattle.cluster_tree.specs.PathValue.{PathValue, below}
-use Rattle.cluster_tree.specs.Causes.{given}
-use Rattle.cluster_tree.specs.Contents.{Contents, Entry, FolderEntry, FileEntry, LinkEntry, entry_at}
-use Rattle.cluster_tree.specs.Tree.{bytes_in, cut_refusal, refusal_past, file_of, shortened}
-use Rattle.cluster_tree.specs.declared.tree.TreeFault.TheVariants as tree_fault
+use Rattle.cluster_tree.specs.Contents.{Contents, entry_at}
 use Rattle.cluster_tree.specs.declared.file_fault.FileFault.{FileFault}
-use Rattle.cluster_tree.specs.declared.file_fault.FileFault.TheVariants as fault
 use Rattle.file_edits.specs.Answers.{Does}
-use Rattle.file_edits.specs.Asking.{file_asked, size_asked, names_asked}
+use Rattle.file_edits.specs.Asking.{names_asked}
 use Rattle.file_edits.specs.Clearing.{in_turn}
-use Rattle.file_edits.proofs.EditLemmas.{put-same}
+use Rattle.file_edits.specs.Edits.{file_cut}
 use Rattle.relation_files.specs.Paths.{relation_file, relation_folder}
 use Rattle.relation_files.specs.Reading.{file_named, file_of_number}
 use Rattle.relation_files.specs.declared.file_name.FileName.{FileName}
-use Rattle.storage_replay.specs.Cutting.{cut_to, file_cut, name_swept, swept, entry_swept, files_swept, files_cut, fork_cut, is_longer}
+use Rattle.storage_replay.specs.Cutting.{name_swept, swept, entry_swept, files_swept, files_cut, fork_cut, is_longer}
 use Rattle.storage_replay.specs.Lengths.{fork_length}
 use Rattle.storage_replay.specs.declared.sweep.Sweep.{Sweep}
 use Rattle.storage_replay.specs.declared.sweep.Sweep.TheVariants.{Remove, Empty}
-use Rattle.storage_replay.proofs.AnswerLemmas.{Why, why-first, given-ok, does-is}
-
--- a file that is cut
-
-pub cut-refused : (path : PathValue) (size : ℕ) (c : Contents) (e : FileFault) → Why (size_asked (file_asked path (entry_at c path))) e → Why (file_cut path size c) e
-unfolding file_cut
-cut-refused path size c e (inl free) = inl free
-cut-refused path size c e (inr is) = inr (by (entry_at c path) is)
-  where
-    by : (o : Option Entry) → size_asked (file_asked path o) ≡ Err e → given (file_asked path o) (cut_to path size c) ≡ Err e
-    by None is = absurd cc
-    by (Some (FolderEntry bad)) is = let same : fault.IsFolder path ≡ e = cc in ap (λ x. Err x) same
-    by (Some (FileEntry bytes)) is = absurd cc
-    by (Some LinkEntry) is = let same : fault.Link path ≡ e = cc in ap (λ x. Err x) same
-
-pub cut-whole : (path : PathValue) (size : ℕ) (c : Contents) (found : Option ℕ) → size_asked (file_asked path (entry_at c path)) ≡ Ok found → unwrap_or found 0 ≤ size → file_cut path size c ≡ Ok c
-unfolding file_cut
-cut-whole path size c found is l = by (entry_at c path) refl is
-  where
-    by : (o : Option Entry) → entry_at c path ≡ o → size_asked (file_asked path o) ≡ Ok found → given (file_asked path o) (cut_to path size c) ≡ Ok c
-    by None at is = refl
-    by (Some (FolderEntry bad)) at is = absurd cc
-    by (Some (FileEntry bytes)) at is =
-        let len : Some (length bytes) ≡ found = cc in
-        let few : length bytes ≤ size = omega (arith, ap (λ o. unwrap_or o 0) len) in
-        let all : take size bytes ≡ bytes = grind (arith, common_steps) in
-        ap (λ b. Ok (insert c path (FileEntry b))) all ∙ ap (λ d. Ok d) (put-same c path bytes at)
-    by (Some LinkEntry) at is = absurd cc
-
-past : (bytes : List ℕ) (size : ℕ) → size ≤ length bytes → refusal_past (Ok bytes) size ≡ None
-past bytes size few = let within : nat_lt (length bytes) size ≡ false = grind (arith, nat_tests) in ap (λ b. cond b (Some tree_fault.PastEnd) None) within
-
-record IsCut (path : PathValue) (size : ℕ) (c : Contents) (o : Option Entry) : Type 0 where
-  free : refusal_past (file_of o) size ≡ None
-  meant : given (file_asked path o) (cut_to path size c) ≡ Ok (insert c path (FileEntry (take size (bytes_in o))))
-
-is_cut : (path : PathValue) (size : ℕ) (c : Contents) (found : Option ℕ) (o : Option Entry) → size_asked (file_asked path o) ≡ Ok found → size < unwrap_or found 0 → IsCut path size c o
-is_cut path size c found None is l = absurd (omega (arith, ap (λ o. unwrap_or o 0) (let none : None ≡ found = cc in none)))
-is_cut path size c found (Some (FolderEntry bad)) is l = absurd cc
-is_cut path size c found (Some (FileEntry bytes)) is l =
-    let len : Some (length bytes) ≡ found = cc in
-    record { free = past bytes size (omega (arith, ap (λ o. unwrap_or o 0) len)); meant = refl }
-is_cut path size c found (Some LinkEntry) is l = absurd cc
-
-pub cut-longer : {A : Type 0} (path : PathValue) (size : ℕ) (c new : Contents) (r : Result A FileFault) (found : Option ℕ) → size_asked (file_asked path (entry_at c path)) ≡ Ok found → size < unwrap_or found 0 → (cut_refusal c path size ≡ None → Does (Ok (shortened c path size)) new r) → Does (file_cut path size c) new r
-unfolding file_cut
-cut-longer path size c new r found is l done =
-    let two = is_cut path size c found (entry_at c path) is l in
-    does-is (Ok (shortened c path size)) _ new r two.meant (done two.free)
+use Rattle.file_edits.proofs.AnswerLemmas.{Why, why-first, given-ok, does-is}
 
 -- an entry that is swept
 
@@ -86,26 +31,13 @@ unfolding entry_swept
 entry-goes sweep relation folder path name c new r h is done =
     does-is (swept sweep (below folder (name ∷ [])) c) _ new r (ap (λ b. if b then swept sweep (below folder (name ∷ [])) c else Ok c) h) (subst (λ p. Does (swept sweep p c) new r) is done)
 
-first : (a b : Bool) → (a && b) ≡ true → a ≡ true
-first true b h = refl
-first false b h = absurd cc
-
 swept_number : (sweep : Sweep) (relation : ℕ) (o : Option FileName) → name_swept sweep relation o ≡ true → file_of_number relation o ≡ true
 swept_number sweep relation None h = absurd cc
 swept_number Remove relation (Some file) h = h
-swept_number (Empty fork segment) relation (Some file) h = first (file.relation == relation) _ (first _ _ h)
+swept_number (Empty fork segment) relation (Some file) h = (and_parts (file.relation == relation) _ (and_parts _ _ h).0).0
 
 pub swept-number : (sweep : Sweep) (relation : ℕ) (name : List ℕ) → name_swept sweep relation (file_named name) ≡ true → file_of_number relation (file_named name) ≡ true
 swept-number sweep relation name h = swept_number sweep relation (file_named name) h
-
-and_parts : (a b : Bool) → (a && b) ≡ true → (a ≡ true) × (b ≡ true)
-and_parts true b h = (refl, h)
-and_parts false b h = absurd cc
-
-pub all-at : (test : List ℕ → Bool) (names : List (List ℕ)) (i : ℕ) → list_all test names ≡ true → i < length names → test (get_or names i []) ≡ true
-all-at test [] i h l = absurd (omega arith)
-all-at test (name ∷ names) zero h l = (and_parts (test name) (list_all test names) h).0
-all-at test (name ∷ names) (suc i) h l = all-at test names i (and_parts (test name) (list_all test names) h).1 (omega arith)
 
 -- a folder that is swept
 

@@ -1,74 +1,25 @@
 -- Bytes of the map that are edited.
-use Rattle.std.proofs.Common.{◌≡◌, ℕ, zero, suc, ◌+◌, ◌<◌, Bool, true, false, List, [], ◌∷◌, ◌++◌, length, take, drop, get_or, slice_index, replicate, Option, None, Some, Result, Ok, Err, refl, ap, sym, subst, ◌∙◌, inl, inr, arith}
+use Rattle.std.proofs.Common.{◌≡◌, ℕ, zero, suc, ◌+◌, ◌<◌, Bool, true, false, List, ◌∷◌, length, take, slice_index, replicate, Result, Ok, ap, sym, subst, ◌∙◌, inl, inr, arith}
 use Rattle.std.specs.Prelude.{if◌then◌else◌}
-use Rattle.std.proofs.lemmas.Grind.{common_steps}
 use Rattle.std.proofs.lemmas.List.{take-replicate}
 use Rattle.std.proofs.Math.ListN.{set}
-use Rattle.std.specs.FinMap.{insert}
 use Rattle.block_refs.specs.declared.names.Fork.TheVariants.{Visibility}
 use Rattle.block_refs.specs.declared.names.RelName.{RelName}
 use Rattle.cluster_tree.specs.PathValue.{PathValue, Holds}
 use Rattle.cluster_tree.specs.Causes.{given}
-use Rattle.cluster_tree.specs.Contents.{Contents, Entry, FolderEntry, FileEntry, LinkEntry, entry_at}
-use Rattle.cluster_tree.specs.Tree.{bytes_in, bytes_at}
+use Rattle.cluster_tree.specs.Contents.{Contents}
+use Rattle.cluster_tree.specs.Tree.{bytes_at}
 use Rattle.cluster_tree.specs.declared.file_fault.FileFault.{FileFault}
-use Rattle.cluster_tree.specs.declared.file_fault.FileFault.TheVariants as fault
 use Rattle.file_edits.specs.Answers.{Does}
-use Rattle.file_edits.specs.Asking.{file_asked, filled_from, read_of, read_asked}
-use Rattle.file_edits.specs.Edits.{edited, file_edited, laid, way_for, way_made}
-use Rattle.file_edits.proofs.WayLemmas.{way-ready}
+use Rattle.file_edits.specs.Asking.{read_asked}
+use Rattle.file_edits.specs.Edits.{file_edited, laid}
+use Rattle.file_edits.proofs.LaidLemmas.{made-laid}
 use Rattle.storage_replay.specs.Cutting.{fork_cut}
 use Rattle.storage_replay.specs.Lengths.{has_block}
 use Rattle.storage_replay.specs.MapBits.{fill_pages, map_at, map_page, new_byte, zeros_behind, bits_edited, map_in_file, map_edited, map_cut, map_cut_in_page}
 use Rattle.storage_replay.specs.declared.map_edit.MapEdit.{MapEdit}
 use Rattle.storage_replay.specs.declared.map_edit.MapEdit.TheVariants.{Cut}
-use Rattle.storage_replay.proofs.AnswerLemmas.{Why, why-first, given-ok, does-is}
-
--- edits that make the same of the file that is there are the same
-edited-same : (root path : PathValue) (edit other : List ℕ → List ℕ) (c : Contents) → Holds root path → length root.parts < length path.parts → edit (bytes_at c path) ≡ other (bytes_at c path) → file_edited root path edit c ≡ file_edited root path other c
-unfolding file_edited
-edited-same root path edit other c held deeper same =
-    elim (file_asked path (entry_at c path)) as (λ r. given (given r (way_for root path c)) (λ d. Ok (edited path edit d)) ≡ given (given r (way_for root path c)) (λ d. Ok (edited path other d))) [
-      | Ok found ↦ elim found as (λ o. given (way_for root path c o) (λ d. Ok (edited path edit d)) ≡ given (way_for root path c o) (λ d. Ok (edited path other d))) [
-        | Some bytes ↦ ap (λ b. Ok (insert c path (FileEntry b))) same
-        | None ↦ elim (way_made root path c) as (λ w. way_made root path c ≡ w → given w (λ d. Ok (edited path edit d)) ≡ given w (λ d. Ok (edited path other d))) [
-          | Ok d ↦ λ made.
-              let still = ap bytes_in (way-ready root path c d held deeper made).0 in
-              ap (λ b. Ok (insert d path (FileEntry b))) (ap edit still ∙ same ∙ ap other (sym still))
-          | Err f ↦ λ made. refl
-        ] refl
-      ]
-      | Err f ↦ refl
-    ]
-
--- the byte that was read
-
-one_front : (xs : List ℕ) → take 1 (xs ++ replicate 1 0) ≡ get_or xs 0 0 ∷ []
-one_front [] = refl
-one_front (x ∷ xs) = refl
-
-first_drop : (at : ℕ) (xs : List ℕ) → get_or (drop at xs) 0 0 ≡ get_or xs at 0
-first_drop at xs = grind (arith, common_steps)
-
-one_byte : (at : ℕ) (xs : List ℕ) → filled_from at 1 xs ≡ slice_index xs at ∷ []
-one_byte at xs = one_front (drop at xs) ∙ ap (λ b. b ∷ []) (first_drop at xs)
-
-pub read_into : (o : Option Entry) (path : PathValue) (at n : ℕ) (into : List ℕ) → read_of at n (bytes_in o) (file_asked path o) ≡ Ok into → into ≡ filled_from at n (bytes_in o)
-read_into None path at n into is = cc
-read_into (Some (FolderEntry bad)) path at n into is = absurd cc
-read_into (Some (FileEntry bytes)) path at n into is = cc
-read_into (Some LinkEntry) path at n into is = absurd cc
-
-refused : (o : Option Entry) (path : PathValue) (at n : ℕ) (e : FileFault) → read_of at n (bytes_in o) (file_asked path o) ≡ Err e → file_asked path o ≡ Err e
-refused None path at n e is = absurd cc
-refused (Some (FolderEntry bad)) path at n e is = let same : fault.IsFolder path ≡ e = cc in ap (λ x. Err x) same
-refused (Some (FileEntry bytes)) path at n e is = absurd cc
-refused (Some LinkEntry) path at n e is = let same : fault.Link path ≡ e = cc in ap (λ x. Err x) same
-
-pub read-refused : (root path : PathValue) (edit : List ℕ → List ℕ) (c : Contents) (at n : ℕ) (e : FileFault) → Why (read_asked c path at n) e → Why (file_edited root path edit c) e
-unfolding file_edited
-read-refused root path edit c at n e (inl free) = inl free
-read-refused root path edit c at n e (inr is) = inr (ap (λ r. given (given r (way_for root path c)) (λ d. Ok (edited path edit d))) (refused (entry_at c path) path at n e is))
+use Rattle.file_edits.proofs.AnswerLemmas.{Why, why-first, given-ok, does-is}
 
 -- a byte and the zeros of a buffer behind it
 pub byte-zeros : (n k count b : ℕ) → count ≡ k + 1 → k < n → take count (set (replicate n 0) 0 b) ≡ b ∷ replicate k 0
@@ -82,13 +33,10 @@ pub bits-exact : {A : Type 0} (root path : PathValue) (per block : ℕ) (edit : 
     → Holds root path → length root.parts < length path.parts → at ≡ map_at per block → read_asked c path at 1 ≡ Ok into → b ≡ new_byte edit block (slice_index into 0) → bytes ≡ b ∷ replicate (zeros_behind edit block) 0 → d ≡ c
     → Does (file_edited root path (laid at at bytes) d) new r → Does (file_edited root path (bits_edited per block edit) c) new r
 bits-exact root path per block edit at b into bytes c d new r held deeper place read byte whole still done =
-    let got : into ≡ slice_index (bytes_at c path) at ∷ [] = read_into (entry_at c path) path at 1 into read ∙ one_byte at (bytes_at c path) in
-    let bits : b ≡ new_byte edit block (slice_index (bytes_at c path) at) = byte ∙ ap (λ (xs : List ℕ). new_byte edit block (slice_index xs 0)) got in
-    let same : bits_edited per block edit (bytes_at c path) ≡ laid at at bytes (bytes_at c path) =
-    sym (ap (λ bs. laid at at bs (bytes_at c path)) (whole ∙ ap (λ x. x ∷ replicate (zeros_behind edit block) 0) bits)
-    ∙ ap (λ a. laid a a (new_byte edit block (slice_index (bytes_at c path) a) ∷ replicate (zeros_behind edit block) 0) (bytes_at c path)) place) in
-    does-is (file_edited root path (laid at at bytes) c) _ new r (edited-same root path (bits_edited per block edit) (laid at at bytes) c held deeper same)
-    (subst (λ x. Does (file_edited root path (laid at at bytes) x) new r) still done)
+    let make : ℕ → List ℕ = λ old. new_byte edit block old ∷ replicate (zeros_behind edit block) 0 in
+    made-laid root path (bits_edited per block edit) make at at into bytes c d new r held deeper read
+    (whole ∙ ap (λ x. x ∷ replicate (zeros_behind edit block) 0) byte) still
+    (ap (λ a. laid a a (make (slice_index (bytes_at c path) a)) (bytes_at c path)) (sym place)) done
 
 -- where the map has the page
 

@@ -6,7 +6,7 @@ use Rattle.cluster_tree.specs.Causes.{given}
 use Rattle.cluster_tree.specs.Contents.{Contents}
 use Rattle.cluster_tree.specs.declared.file_fault.FileFault.{FileFault}
 use Rattle.storage_replay.specs.Lengths.{blocks_of, counted}
-use Rattle.storage_replay.proofs.AnswerLemmas.{Why}
+use Rattle.file_edits.proofs.AnswerLemmas.{Why}
 
 module _ (sizes : Contents → ℕ → Result (Option ℕ) FileFault) (c d : Contents) (per files file : ℕ) where
   next : Option ℕ → Result ℕ FileFault

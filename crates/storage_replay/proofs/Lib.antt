@@ -1,4 +1,3 @@
-pub mod AnswerLemmas
 pub mod BlockLemmas
 pub mod ChangeLemmas
 pub mod CutLemmas
@@ -8,4 +7,3 @@ pub mod LengthLemmas
 pub mod MapLemmas
 pub mod OwnLemmas
 pub mod ReadLemmas
-pub mod TwiceLemmas

@@ -1,5 +1,6 @@
 -- Where calls on the files of a relation go.
 use Rattle.std.proofs.Common.{◌≡◌, ℕ, zero, suc, ◌+◌, ◌<◌, ◌≤◌, ◌^◌, ◌==◌, Bool, true, false, ◌&&◌, ◌||◌, List, [], ◌∷◌, ◌++◌, length, take, refl, ap, sym, ◌∙◌, arith}
+use Rattle.std.proofs.lemmas.Bool.{or_right}
 use Rattle.std.proofs.lemmas.Bool.Decides.{nat_tests}
 use Rattle.std.proofs.lemmas.Grind.{common_steps}
 use Rattle.std.proofs.lemmas.List.{length-append}
@@ -17,10 +18,6 @@ use Rattle.relation_files.specs.Reading.{file_of_number, is_of_number}
 use Rattle.relation_files.proofs.NameLemmas.{named-written}
 use Rattle.relation_files.proofs.PathLemmas.{length-relation_folder}
 use Rattle.storage_replay.specs.Files.{is_file_in, is_of_relation}
-
-or_right : (a b : Bool) → b ≡ true → (a || b) ≡ true
-or_right true b e = refl
-or_right false b e = e
 
 or_both : (a b c d : Bool) → (b ≡ true → (c || d) ≡ true) → (a || b) ≡ true → ((a || c) || d) ≡ true
 or_both true b c d next e = refl

@@ -16,8 +16,8 @@ use Rattle.storage_replay.specs.Lengths.{has_block}
 use Rattle.storage_replay.specs.Reading.{Reading, found_in, page_read, block_from_file, block_read, ReadsBlock}
 use Rattle.storage_replay.specs.declared.found.Found.{Found}
 use Rattle.storage_replay.specs.declared.found.Found.TheVariants as found
-use Rattle.storage_replay.proofs.AnswerLemmas.{Why, why-first, given-ok}
-use Rattle.storage_replay.proofs.EditLemmas.{read_into}
+use Rattle.file_edits.proofs.AnswerLemmas.{Why, why-first, given-ok}
+use Rattle.file_edits.proofs.LaidLemmas.{read_into}
 
 pub handed-read : (meant : Result Reading FileFault) (new : List ℕ) (r : Result Found FileFault) (e : FileFault) → ((f : FileFault) × (r ≡ Err f) × (f ≡ e)) → Why meant e → ReadsBlock meant new r
 handed-read meant new r e p why = subst (ReadsBlock meant new) (sym (p.1 ∙ ap (λ x. Err x) p.2)) why

@@ -1,31 +1,22 @@
 -- Forks that are cut: PostgreSQL 16, src/backend/storage/smgr/md.c, mdtruncate; src/backend/catalog/storage.c, smgr_redo.
 -- Own: "Cutting forks".
-use Rattle.std.specs.Prelude.{ℕ, ◌*◌, ◌/◌, ◌%◌, ◌==◌, Bool, false, ◌&&◌, nat_lt, List, [], ◌∷◌, take, Option, None, Some, Result, Ok, if◌then◌else◌}
-use Rattle.std.specs.FinMap.{insert}
+use Rattle.std.specs.Prelude.{ℕ, ◌*◌, ◌/◌, ◌%◌, ◌==◌, Bool, false, ◌&&◌, nat_lt, List, [], ◌∷◌, Option, None, Some, Result, Ok, if◌then◌else◌}
 use Rattle.block_refs.specs.declared.names.Fork.{Fork}
 use Rattle.block_refs.specs.declared.names.RelName.{RelName}
 use Rattle.block_refs.specs.Names.{fork_number}
 use Rattle.cluster_tree.specs.PathValue.{PathValue, below}
-use Rattle.cluster_tree.specs.Contents.{Contents, FileEntry, entry_at}
+use Rattle.cluster_tree.specs.Contents.{Contents, entry_at}
 use Rattle.cluster_tree.specs.Causes.{given}
 use Rattle.cluster_tree.specs.declared.file_fault.FileFault.{FileFault}
-use Rattle.file_edits.specs.Asking.{file_asked, names_asked}
+use Rattle.file_edits.specs.Asking.{names_asked}
 use Rattle.file_edits.specs.Clearing.{in_turn}
-use Rattle.file_edits.specs.Edits.{file_removed}
+use Rattle.file_edits.specs.Edits.{file_cut, file_removed}
 use Rattle.relation_files.specs.Paths.{relation_file, relation_folder}
 use Rattle.relation_files.specs.Reading.{file_named}
 use Rattle.relation_files.specs.declared.file_name.FileName.{FileName}
 use Rattle.storage_replay.specs.Lengths.{fork_length}
 use Rattle.storage_replay.specs.declared.sweep.Sweep.{Sweep}
 use Rattle.storage_replay.specs.declared.sweep.Sweep.TheVariants.{Remove, Empty}
-
--- a file that is cut to a size in bytes where it is longer
-abbrev pub cut_to : PathValue → ℕ → Contents → Option (List ℕ) → Result Contents FileFault
-cut_to path size c None = Ok c
-cut_to path size c (Some bytes) = Ok (insert c path (FileEntry (take size bytes)))
-
-unfoldable pub file_cut : PathValue → ℕ → Contents → Result Contents FileFault
-file_cut path size c = given (file_asked path (entry_at c path)) (cut_to path size c)
 
 abbrev pub same_fork : Fork → Fork → Bool
 same_fork a b = fork_number a == fork_number b

@@ -1,5 +1,5 @@
 // Forks that are cut, and files that are swept from a folder.
-ghost use Rattle.std.specs.Prelude.{◌≡◌, ◌≢◌, ◌≤◌, ◌<◌, length, slice_index_or, [], true, IsTrue, Err, IsErrOf};
+ghost use Rattle.std.specs.Prelude.{◌≡◌, ◌≢◌, ◌≤◌, ◌<◌, length, true, IsTrue, Err, IsErrOf};
 ghost use Rattle.std.specs.List.{list_all};
 ghost use Rattle.cluster_tree.specs.PathValue.{PathValue, is_part};
 ghost use Rattle.cluster_tree.specs.PathOrder.{path_eq};
@@ -7,19 +7,19 @@ ghost use Rattle.cluster_tree.specs.Causes.{Rose};
 ghost use Rattle.cluster_tree.specs.Frame.{Came};
 ghost use Rattle.file_edits.specs.Answers.{Does};
 ghost use Rattle.file_edits.specs.Clearing.{in_turn};
+ghost use Rattle.file_edits.specs.Edits.{file_cut};
 ghost use Rattle.file_edits.specs.Own.{OnOwn};
 ghost use Rattle.relation_files.specs.Paths.{relation_file};
 ghost use Rattle.relation_files.specs.Reading.{file_named};
-ghost use Rattle.storage_replay.specs.Cutting.{entry_swept, file_cut, file_swept, files_cut, files_swept, fork_cut, is_longer, name_swept, same_fork, swept};
+ghost use Rattle.storage_replay.specs.Cutting.{entry_swept, file_swept, files_cut, files_swept, fork_cut, is_longer, name_swept, same_fork, swept};
 ghost use Rattle.storage_replay.specs.Files.{AreFit, is_file_in, is_of_relation};
 
 use crate::files::Files;
 use crate::lengths::{BLOCK, length};
-use crate::shortening::shorten;
 use crate::sweep::Sweep;
 use block_refs::{Fork, RelName};
 use cluster_tree::{FileFault, Names, Path, Tree};
-use file_edits::{names_of, remove_file};
+use file_edits::{name_at, names_of, remove_file, shorten};
 use relation_files::{FileName, relation_file, relation_folder};
 use std::alloc::Global;
 
@@ -100,18 +100,6 @@ fn sweep_entry<F: Tree>(
     }
     let path = folder.below(alloc, name)?;
     sweep_file(alloc, tree, sweep, &path)
-}
-
-// The name at a place of a list.
-#[tactic(auto, using(std::proofs::lemmas::Option::gets))]
-fn name_at(names: &Names, at: usize) -> &str
-    requires { at < length names.now }
-    ensures { result.now ≡ slice_index_or names.now at [] }
-{
-    match names.get(at) {
-        Some(name) => name,
-        None => unreachable!(),
-    }
 }
 
 // Does it to the entries of these names.

@@ -8,7 +8,6 @@ mod found;
 mod lengths;
 mod map_edit;
 mod relations;
-mod shortening;
 mod sweep;
 mod visibility;
 
@@ -17,5 +16,4 @@ pub use files::Files;
 pub use found::Found;
 pub use lengths::length;
 pub use relations::{create, drop_relation, truncate};
-pub use shortening::shorten;
 pub use visibility::map_bits;

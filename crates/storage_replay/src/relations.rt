@@ -5,7 +5,7 @@ ghost use Rattle.cluster_tree.specs.Causes.{Rose};
 ghost use Rattle.cluster_tree.specs.Frame.{Came};
 ghost use Rattle.file_edits.specs.Answers.{Does};
 ghost use Rattle.file_edits.specs.Own.{OnOwn};
-ghost use Rattle.storage_replay.specs.Changes.{created, cuts_main, cuts_map, main_by, main_cut, map_by, relation_dropped, truncated};
+ghost use Rattle.storage_replay.specs.Changes.{created, cuts_main, cuts_map, main_by, relation_dropped, truncated};
 ghost use Rattle.storage_replay.specs.Files.{AreFit, is_of_relation};
 
 use crate::cutting::{cut_fork, sweep_files};
@@ -46,30 +46,6 @@ pub fn create<F: Tree>(
     Ok(())
 }
 
-// Makes the main fork, and cuts it.
-fn cut_main<F: Tree>(
-    alloc: Global,
-    tree: &mut F,
-    at: &Files,
-    rel: RelName,
-    blocks: u32,
-) -> Result<(), FileFault>
-    requires fit { AreFit at.now }
-    ensures exact { IsTrue F.tells → Does (main_cut at.now.root at.now.per_file rel blocks
-        (F.contents tree.old)) (F.contents tree.new) result }
-    ensures frame { Came F.Tree tree.old tree.new }
-    ensures own { IsTrue F.tells →
-        OnOwn F.calls (is_of_relation at.now.root rel) tree.old tree.new }
-    ensures read_fault { IsErrOf result FileFault.ReadFault →
-        Rose (F.failed_reads tree.old) (F.failed_reads tree.new) }
-    ensures write_fault { IsErrOf result FileFault.WriteFault →
-        Rose (F.failed_changes tree.old) (F.failed_changes tree.new) }
-    ensures changed { IsTrue F.tells → (p : PathValue) → result ≢ Err (FileFault.Changed p) }
-{
-    create(alloc, tree, at, rel, Fork::Main)?;
-    cut_fork(alloc, tree, at, rel, Fork::Main, blocks)
-}
-
 // Whether the flags of a truncation say that the main fork is cut.
 fn cuts_main(flags: u32) -> bool
     ensures { result ≡ cuts_main flags }
@@ -85,7 +61,7 @@ fn cuts_map(flags: u32) -> bool
 }
 
 // Makes and cuts the main fork where the flags say it.
-fn cut_main_by<F: Tree>(
+fn cut_main<F: Tree>(
     alloc: Global,
     tree: &mut F,
     at: &Files,
@@ -105,39 +81,11 @@ fn cut_main_by<F: Tree>(
         Rose (F.failed_changes tree.old) (F.failed_changes tree.new) }
     ensures changed { IsTrue F.tells → (p : PathValue) → result ≢ Err (FileFault.Changed p) }
 {
-    if cuts_main(flags) {
-        cut_main(alloc, tree, at, rel, blocks)
-    } else {
-        Ok(())
+    if !cuts_main(flags) {
+        return Ok(());
     }
-}
-
-// Cuts the map where the flags say it.
-fn cut_map_by<F: Tree>(
-    alloc: Global,
-    tree: &mut F,
-    at: &Files,
-    rel: RelName,
-    blocks: u32,
-    flags: u32,
-) -> Result<(), FileFault>
-    requires fit { AreFit at.now }
-    ensures exact { IsTrue F.tells → Does (map_by at.now.root at.now.per_file rel blocks flags
-        (F.contents tree.old)) (F.contents tree.new) result }
-    ensures frame { Came F.Tree tree.old tree.new }
-    ensures own { IsTrue F.tells →
-        OnOwn F.calls (is_of_relation at.now.root rel) tree.old tree.new }
-    ensures read_fault { IsErrOf result FileFault.ReadFault →
-        Rose (F.failed_reads tree.old) (F.failed_reads tree.new) }
-    ensures write_fault { IsErrOf result FileFault.WriteFault →
-        Rose (F.failed_changes tree.old) (F.failed_changes tree.new) }
-    ensures changed { IsTrue F.tells → (p : PathValue) → result ≢ Err (FileFault.Changed p) }
-{
-    if cuts_map(flags) {
-        cut_map(alloc, tree, at, rel, blocks)
-    } else {
-        Ok(())
-    }
+    create(alloc, tree, at, rel, Fork::Main)?;
+    cut_fork(alloc, tree, at, rel, Fork::Main, blocks)
 }
 
 /// Cuts a relation to so many blocks. With flag 1 the main fork's first file is made where nothing
@@ -169,8 +117,11 @@ pub fn truncate<F: Tree>(
         Rose (F.failed_changes tree.old) (F.failed_changes tree.new) }
     ensures changed { IsTrue F.tells → (p : PathValue) → result ≢ Err (FileFault.Changed p) }
 {
-    cut_main_by(alloc, tree, at, rel, blocks, flags)?;
-    cut_map_by(alloc, tree, at, rel, blocks, flags)
+    cut_main(alloc, tree, at, rel, blocks, flags)?;
+    if !cuts_map(flags) {
+        return Ok(());
+    }
+    cut_map(alloc, tree, at, rel, blocks)
 }
 
 /// Removes every file of every fork of a relation that its folder lists.

@@ -1,4 +1,4 @@
-use Rattle.file_edits.proofs.AlikeLemmas.{way_alike, edited-alike, removed-alike, folder-same, size-same, names-alike, read-alike}
+use Rattle.file_edits.proofs.AlikeLemmas.{way_alike, edited-alike, cut-alike, removed-alike, folder-same, size-same, names-alike, read-alike}
 use Rattle.file_edits.proofs.ClearAlikeLemmas.{tree-alike, tree-answers}
 use Rattle.file_edits.proofs.laws.alike_laws.Goals as goal
 
@@ -28,3 +28,6 @@ returns-clause-folder c = folder-same
 
 pub returns-clause-size : goal.returns-clause-size
 returns-clause-size c = size-same
+
+pub returns-clause-cut : goal.returns-clause-cut
+returns-clause-cut c = cut-alike

@@ -1,4 +1,6 @@
-use Rattle.file_edits.proofs.LawLemmas.{edited-stands, edited-elsewhere, removed-gone, removed-elsewhere}
+use Rattle.file_edits.proofs.CutLemmas.{cut-stands, cut-none, cut-elsewhere}
+use Rattle.file_edits.proofs.LawLemmas.{edited-stands, edited-elsewhere, removed-gone, removed-elsewhere, way_left}
+use Rattle.file_edits.proofs.WayLemmas.{way-ready}
 use Rattle.file_edits.proofs.ClearLemmas.{tree-empty, tree-elsewhere}
 use Rattle.file_edits.proofs.laws.edit_laws.Goals as goal
 
@@ -19,3 +21,18 @@ returns-clause-tree c = tree-empty
 
 pub returns-clause-tree_elsewhere : goal.returns-clause-tree_elsewhere
 returns-clause-tree_elsewhere c = tree-elsewhere
+
+pub returns-clause-way : goal.returns-clause-way
+returns-clause-way c = way-ready
+
+pub returns-clause-way_elsewhere : goal.returns-clause-way_elsewhere
+returns-clause-way_elsewhere c = way_left
+
+pub returns-clause-cut : goal.returns-clause-cut
+returns-clause-cut c = cut-stands
+
+pub returns-clause-cut_none : goal.returns-clause-cut_none
+returns-clause-cut_none c = cut-none
+
+pub returns-clause-cut_elsewhere : goal.returns-clause-cut_elsewhere
+returns-clause-cut_elsewhere c = cut-elsewhere

@@ -3,7 +3,7 @@ use Rattle.std.proofs.lemmas.Result.{err_from_is_err_and}
 use Rattle.file_edits.proofs.OwnLemmas.{own-read, own-on}
 use Rattle.file_edits.specs.Edits.{on_way}
 use Rattle.file_edits.specs.Own.{OnOwn}
-use Rattle.storage_replay.proofs.AnswerLemmas.{handed-on}
+use Rattle.file_edits.proofs.AnswerLemmas.{handed-on}
 use Rattle.storage_databases.proofs.WholeLemmas.{made-refused, made-there, made-new}
 use Rattle.storage_databases.proofs.databases.make_database.Goals as goal
 

@@ -1,4 +1,4 @@
-use Rattle.storage_databases.proofs.PathLemmas.{version-room, version-in}
+use Rattle.storage_databases.proofs.PathLemmas.{version-room}
 use Rattle.storage_databases.proofs.databases.version_file.Goals as goal
 
 pub below-requires : goal.below-requires

@@ -1,4 +1,4 @@
-use Rattle.storage_databases.proofs.PathLemmas.{map-room, map-in}
+use Rattle.storage_databases.proofs.PathLemmas.{map-room}
 use Rattle.storage_databases.proofs.relation_map.map_file.Goals as goal
 
 pub below-requires : goal.below-requires

@@ -1,4 +1,4 @@
-use Rattle.std.proofs.Common.{List, ℕ, subst}
+use Rattle.std.proofs.Common.{subst}
 use Rattle.file_edits.specs.Answers.{Does}
 use Rattle.file_edits.specs.Edits.{file_edited, on_way}
 use Rattle.file_edits.specs.Own.{OnOwn}

@@ -4,7 +4,7 @@ use Rattle.file_edits.specs.Edits.{on_way}
 use Rattle.file_edits.proofs.OwnLemmas.{own-wider}
 use Rattle.record_layouts.specs.RelMap.{relmap_update_of}
 use Rattle.storage_databases.specs.RelationMap.{is_of_map, map_file, map_written, update_in}
-use Rattle.storage_replay.proofs.AnswerLemmas.{handed-on}
+use Rattle.file_edits.proofs.AnswerLemmas.{handed-on}
 use Rattle.storage_databases.proofs.WholeLemmas.{map-refused, map-done, map-own}
 use Rattle.storage_databases.proofs.relation_map.write_relation_map.Goals as goal
 

@@ -1,10 +1,10 @@
-use Rattle.std.proofs.Common.{rules, arith}
+use Rattle.std.proofs.Common.{rules}
 use Rattle.std.proofs.lemmas.Result.{err_from_is_err_and}
 use Rattle.cluster_tree.specs.PathOrder.{path_eq}
 use Rattle.file_edits.specs.Edits.{on_way}
 use Rattle.file_edits.proofs.OwnLemmas.{own-on, own-wider}
 use Rattle.file_edits.proofs.WayLemmas.{way-own}
-use Rattle.storage_replay.proofs.AnswerLemmas.{handed-on}
+use Rattle.file_edits.proofs.AnswerLemmas.{handed-on}
 use Rattle.storage_databases.proofs.WholeLemmas.{whole-exact, whole-refused}
 use Rattle.storage_databases.proofs.relation_map.write_whole.Goals as goal
 

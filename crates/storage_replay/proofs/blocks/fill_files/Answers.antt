@@ -1,7 +1,7 @@
 use Rattle.std.proofs.Common.{sym, ◌∙◌, arith}
 use Rattle.std.proofs.lemmas.Result.{err_from_is_err_and}
 use Rattle.file_edits.proofs.OwnLemmas.{own-on, came-on}
-use Rattle.storage_replay.proofs.AnswerLemmas.{handed-on}
+use Rattle.file_edits.proofs.AnswerLemmas.{handed-on}
 use Rattle.storage_replay.proofs.BlockLemmas.{filled-more, filled-refused, filled-end}
 use Rattle.storage_replay.proofs.blocks.fill_files.Goals as goal
 

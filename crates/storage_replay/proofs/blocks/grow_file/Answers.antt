@@ -2,7 +2,7 @@ use Rattle.std.proofs.Common.{inl, inr, ⊎_elim, arith}
 use Rattle.std.proofs.lemmas.Result.{err_from_is_err_and}
 use Rattle.file_edits.proofs.EditLemmas.{edited-stays}
 use Rattle.storage_replay.specs.Blocks.{grown}
-use Rattle.storage_replay.proofs.AnswerLemmas.{handed-on}
+use Rattle.file_edits.proofs.AnswerLemmas.{handed-on}
 use Rattle.storage_replay.proofs.GrowLemmas.{grown-whole, grown-laid}
 use Rattle.storage_replay.proofs.blocks.grow_file.Goals as goal
 

@@ -1,6 +1,6 @@
 use Rattle.std.proofs.Common.{sym, ◌∙◌, subst}
 use Rattle.std.proofs.lemmas.Result.{err_from_is_err_and}
-use Rattle.storage_replay.proofs.AnswerLemmas.{Why}
+use Rattle.file_edits.proofs.AnswerLemmas.{Why}
 use Rattle.storage_replay.proofs.ReadLemmas.{handed-read, page-refused, page-found, from-file}
 use Rattle.storage_replay.proofs.blocks.read_in_file.Goals as goal
 

@@ -1,6 +1,6 @@
 use Rattle.std.proofs.Common.{subst, rules}
 use Rattle.file_edits.specs.Answers.{Does}
-use Rattle.storage_replay.specs.Cutting.{file_cut}
+use Rattle.file_edits.specs.Edits.{file_cut}
 use Rattle.storage_replay.proofs.BlockLemmas.{own-here}
 use Rattle.storage_replay.proofs.cutting.cut_file.Goals as goal
 

@@ -1,7 +1,7 @@
 use Rattle.std.proofs.Common.{Ok, ap, sym, ◌∙◌}
 use Rattle.std.proofs.lemmas.Result.{err_from_is_err_and}
 use Rattle.file_edits.proofs.OwnLemmas.{own-read, own-on}
-use Rattle.storage_replay.proofs.AnswerLemmas.{handed-on}
+use Rattle.file_edits.proofs.AnswerLemmas.{handed-on}
 use Rattle.storage_replay.proofs.CutLemmas.{fork-refused, fork-short, fork-longer}
 use Rattle.storage_replay.proofs.cutting.cut_fork.Goals as goal
 

@@ -4,7 +4,7 @@ use Rattle.cluster_tree.specs.PathValue.{PathValue}
 use Rattle.file_edits.proofs.OwnLemmas.{own-read, own-on, own-wider}
 use Rattle.relation_files.proofs.PathLemmas.{length-relation_folder}
 use Rattle.storage_replay.specs.Files.{is_file_in, is_of_relation}
-use Rattle.storage_replay.proofs.AnswerLemmas.{handed-on}
+use Rattle.file_edits.proofs.AnswerLemmas.{handed-on}
 use Rattle.storage_replay.proofs.CutLemmas.{sweep-refused, sweep-listed}
 use Rattle.storage_replay.proofs.OwnLemmas.{in-relation}
 use Rattle.storage_replay.proofs.cutting.sweep_files.Goals as goal

@@ -1,11 +1,10 @@
 use Rattle.std.proofs.Common.{◌≡◌, List, ℕ, true, sym, ◌∙◌, inl, inr, ⊎_elim, subst, arith}
 use Rattle.std.proofs.lemmas.Result.{err_from_is_err_and}
 use Rattle.cluster_tree.specs.PathValue.{is_part}
-use Rattle.file_edits.proofs.ClearLemmas.{turn-end, turn-more, turn-refused}
+use Rattle.file_edits.proofs.ClearLemmas.{all-at, turn-end, turn-more, turn-refused}
 use Rattle.file_edits.proofs.OwnLemmas.{own-on, came-on}
 use Rattle.storage_replay.specs.Cutting.{entry_swept}
-use Rattle.storage_replay.proofs.AnswerLemmas.{handed-on}
-use Rattle.storage_replay.proofs.CutLemmas.{all-at}
+use Rattle.file_edits.proofs.AnswerLemmas.{handed-on}
 use Rattle.storage_replay.proofs.cutting.sweep_names.Goals as goal
 
 pub sweep_entry-requires-clause-part : goal.sweep_entry-requires-clause-part

@@ -1,7 +1,7 @@
 use Rattle.std.proofs.Common.{◌≡◌, ◌*◌, ◌+◌, Ok, ap, ap₂, ◌∙◌, sym, rules, arith}
 use Rattle.std.proofs.lemmas.Result.{err_from_is_err_and}
 use Rattle.storage_replay.specs.Lengths.{file_size}
-use Rattle.storage_replay.proofs.AnswerLemmas.{handed}
+use Rattle.file_edits.proofs.AnswerLemmas.{handed}
 use Rattle.storage_replay.proofs.LengthLemmas.{counted-refused, counted-short, counted-full, counted-end}
 use Rattle.storage_replay.proofs.lengths.counted.Goals as goal
 

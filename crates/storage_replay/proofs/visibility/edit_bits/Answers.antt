@@ -2,8 +2,9 @@ use Rattle.std.proofs.Common.{◌+◌, ap, arith}
 use Rattle.std.proofs.lemmas.Result.{err_from_is_err_and}
 use Rattle.file_edits.proofs.OwnLemmas.{own-read, own-on}
 use Rattle.storage_replay.specs.MapBits.{bits_edited, zeros_behind}
-use Rattle.storage_replay.proofs.AnswerLemmas.{handed-on}
-use Rattle.storage_replay.proofs.EditLemmas.{read-refused, bits-exact, byte-zeros}
+use Rattle.file_edits.proofs.AnswerLemmas.{handed-on}
+use Rattle.file_edits.proofs.LaidLemmas.{read-refused}
+use Rattle.storage_replay.proofs.EditLemmas.{bits-exact, byte-zeros}
 use Rattle.storage_replay.proofs.visibility.edit_bits.Goals as goal
 
 pub returns-in_err-read_or_zeros-clause-exact : goal.returns-in_err-read_or_zeros-clause-exact

@@ -1,7 +1,7 @@
 use Rattle.cluster_tree.specs.declared.tree.ChangeCall.TheVariants as call
 use Rattle.file_edits.proofs.OwnLemmas.{own-made, at-own}
 use Rattle.file_edits.proofs.AnswerLemmas.{settled-exact}
-use Rattle.storage_replay.proofs.shortening.cut.Goals as goal
+use Rattle.file_edits.proofs.calls.cut.Goals as goal
 
 pub returns-clause-exact : goal.returns-clause-exact
 returns-clause-exact g c told none = settled-exact _ _ _ _ _ none (c.cut-done.ensures.cut told) (c.cut-done.ensures.refused told) c.settled.ensures.ok c.settled.ensures.failed

@@ -1,9 +1,9 @@
 use Rattle.std.proofs.Common.{Ok, ap, ◌∙◌, sym, rules}
 use Rattle.std.proofs.lemmas.Result.{err_from_is_err_and}
 use Rattle.file_edits.proofs.OwnLemmas.{own-read, own-on}
-use Rattle.storage_replay.proofs.AnswerLemmas.{handed-on}
-use Rattle.storage_replay.proofs.CutLemmas.{cut-refused, cut-whole, cut-longer}
-use Rattle.storage_replay.proofs.shortening.shorten.Goals as goal
+use Rattle.file_edits.proofs.AnswerLemmas.{handed-on}
+use Rattle.file_edits.proofs.CutLemmas.{cut-refused, cut-whole, cut-longer}
+use Rattle.file_edits.proofs.shortening.shorten.Goals as goal
 
 pub returns-in_err-file_size-clause-exact : goal.returns-in_err-file_size-clause-exact
 returns-in_err-file_size-clause-exact g c told =

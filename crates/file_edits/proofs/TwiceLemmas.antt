@@ -1,14 +1,34 @@
--- A file that is edited twice.
-use Rattle.std.proofs.Common.{◌≡◌, ℕ, List, Ok, Err, ap, sym, ◌∙◌}
+-- Edits of one file that make the same of it, and one edit after another.
+use Rattle.std.proofs.Common.{◌≡◌, ℕ, ◌<◌, List, length, Some, None, Ok, Err, refl, ap, sym, ◌∙◌}
 use Rattle.std.specs.FinMap.{insert}
-use Rattle.cluster_tree.specs.PathValue.{PathValue}
+use Rattle.cluster_tree.specs.PathValue.{PathValue, Holds}
 use Rattle.cluster_tree.specs.Causes.{given}
 use Rattle.cluster_tree.specs.Contents.{Contents, FileEntry, entry_at}
 use Rattle.cluster_tree.specs.Tree.{bytes_in, bytes_at}
 use Rattle.cluster_tree.specs.declared.file_fault.FileFault.{FileFault}
 use Rattle.cluster_tree.proofs.ContentsLemmas.{entry-put, put-put}
 use Rattle.file_edits.specs.Asking.{file_asked}
-use Rattle.file_edits.specs.Edits.{edited, file_edited, way_for}
+use Rattle.file_edits.specs.Edits.{edited, file_edited, way_for, way_made}
+use Rattle.file_edits.proofs.WayLemmas.{way-ready}
+
+-- edits that make the same of the file that is there are the same
+pub edited-same : (root path : PathValue) (edit other : List ℕ → List ℕ) (c : Contents) → Holds root path → length root.parts < length path.parts → edit (bytes_at c path) ≡ other (bytes_at c path) → file_edited root path edit c ≡ file_edited root path other c
+unfolding file_edited
+edited-same root path edit other c held deeper same =
+    elim (file_asked path (entry_at c path)) as (λ r. given (given r (way_for root path c)) (λ d. Ok (edited path edit d)) ≡ given (given r (way_for root path c)) (λ d. Ok (edited path other d))) [
+      | Ok found ↦ elim found as (λ o. given (way_for root path c o) (λ d. Ok (edited path edit d)) ≡ given (way_for root path c o) (λ d. Ok (edited path other d))) [
+        | Some bytes ↦ ap (λ b. Ok (insert c path (FileEntry b))) same
+        | None ↦ elim (way_made root path c) as (λ w. way_made root path c ≡ w → given w (λ d. Ok (edited path edit d)) ≡ given w (λ d. Ok (edited path other d))) [
+          | Ok d ↦ λ made.
+              let still = ap bytes_in (way-ready root path c d held deeper made).0 in
+              ap (λ b. Ok (insert d path (FileEntry b))) (ap edit still ∙ same ∙ ap other (sym still))
+          | Err f ↦ λ made. refl
+        ] refl
+      ]
+      | Err f ↦ refl
+    ]
+
+-- one edit after another
 
 put-edited : (root path : PathValue) (g : List ℕ → List ℕ) (e : Contents) (bytes : List ℕ) → file_edited root path g (insert e path (FileEntry bytes)) ≡ Ok (insert e path (FileEntry (g bytes)))
 unfolding file_edited
