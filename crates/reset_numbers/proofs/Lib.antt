@@ -1,0 +1,4 @@
+pub mod ControlLemmas
+pub mod NameLemmas
+pub mod OptionLemmas
+pub mod SegmentLemmas

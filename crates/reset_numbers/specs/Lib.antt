@@ -1,0 +1,4 @@
+pub mod Options
+pub mod Names
+pub mod NewControl
+pub mod Behind
