@@ -1,5 +1,5 @@
 -- Faults of clusters as faults of a reset.
-use Rattle.std.proofs.Common.{◌≡◌, ◌⊎◌, inl, inr, Option, Some, Result, Err, option_map, refl, ap}
+use Rattle.std.proofs.Common.{◌≡◌, ◌≢◌, ◌⊎◌, inl, inr, Option, Some, Result, Err, option_map, refl, ap}
 use Rattle.cluster_tree.specs.PathValue.{PathValue}
 use Rattle.clusters.specs.Faults.{IsFree}
 use Rattle.clusters.specs.declared.fault.ClusterFault.{ClusterFault}
@@ -53,4 +53,20 @@ changed-by cluster.ReadFault p h = absurd (cc h)
 changed-by (cluster.Changed path) p h = cc h
 changed-by cluster.OutOfMemory p h = absurd (cc h)
 
-pub ruleset fault_steps = (refused-by, told-err, read-by, changed-by)
+-- nothing is written
+pub write-by : (e : ClusterFault) → of_cluster e ≢ fault.WriteFault
+write-by (cluster.Unfinished path) = λ h. cc h
+write-by (cluster.ControlMissing root) = λ h. cc h
+write-by (cluster.Size root n) = λ h. cc h
+write-by (cluster.Crc root n k) = λ h. cc h
+write-by (cluster.Version root n) = λ h. cc h
+write-by (cluster.Catalog root n) = λ h. cc h
+write-by (cluster.Shape root field n) = λ h. cc h
+write-by (cluster.HistoryMissing root n) = λ h. cc h
+write-by (cluster.BadLine root n k) = λ h. cc h
+write-by (cluster.NotRising root n k) = λ h. cc h
+write-by cluster.ReadFault = λ h. cc h
+write-by (cluster.Changed path) = λ h. cc h
+write-by cluster.OutOfMemory = λ h. cc h
+
+pub ruleset fault_steps = (refused-by, told-err, read-by, changed-by, write-by)

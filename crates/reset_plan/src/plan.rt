@@ -100,6 +100,7 @@ fn both_gone<F: Tree>(
     ensures reads { Reads F.Tree tree.old tree.new }
     ensures read_fault { IsErrOf result ResetFault.ReadFault →
         Rose (F.failed_reads tree.old) (F.failed_reads tree.new) }
+    ensures write_fault { result ≢ Err ResetFault.WriteFault }
     ensures changed { IsTrue F.tells → (p : PathValue) → result ≢ Err (ResetFault.Changed p) }
 {
     let mut gone = VecDeque::new(alloc);
@@ -133,6 +134,7 @@ fn files_gone<F: Tree>(
     ensures reads { Reads F.Tree tree.old tree.new }
     ensures read_fault { IsErrOf result ResetFault.ReadFault →
         Rose (F.failed_reads tree.old) (F.failed_reads tree.new) }
+    ensures write_fault { result ≢ Err ResetFault.WriteFault }
     ensures changed { IsTrue F.tells → (p : PathValue) → result ≢ Err (ResetFault.Changed p) }
 {
     let folder = match status_folder(alloc, wal) {
@@ -228,6 +230,7 @@ fn unclean(alloc: Global, root: &Path, state: u32) -> ResetFault
     ensures value { (result ≡ ResetFault.NotClean root.now state)
         ⊎ (result ≡ ResetFault.OutOfMemory) }
     ensures read { result ≢ ResetFault.ReadFault }
+    ensures write_fault { result ≢ ResetFault.WriteFault }
     ensures changed { (p : PathValue) → result ≢ ResetFault.Changed p }
 {
     match root.copy(alloc) {
@@ -245,6 +248,7 @@ pub(crate) fn check_clean(
 ) -> Result<(), ResetFault>
     ensures answer { Passes IsFree (not_clean root.now old.now options.now.force) result }
     ensures read_fault { result ≢ Err ResetFault.ReadFault }
+    ensures write_fault { result ≢ Err ResetFault.WriteFault }
     ensures changed { (p : PathValue) → result ≢ Err (ResetFault.Changed p) }
 {
     if may_reset(old, options) {
@@ -304,6 +308,7 @@ pub(crate) fn make_ready<F: Tree>(
     ensures reads { Reads F.Tree tree.old tree.new }
     ensures read_fault { IsErrOf result ResetFault.ReadFault →
         Rose (F.failed_reads tree.old) (F.failed_reads tree.new) }
+    ensures write_fault { result ≢ Err ResetFault.WriteFault }
     ensures changed { IsTrue F.tells → (p : PathValue) → result ≢ Err (ResetFault.Changed p) }
 {
     let gone = match files_gone(alloc, tree, wal, names) {

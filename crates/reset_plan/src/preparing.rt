@@ -45,6 +45,7 @@ fn wal_names<F: Tree>(alloc: Global, tree: &mut F, wal: &Path) -> Result<Names, 
     ensures reads { Reads F.Tree tree.old tree.new }
     ensures read_fault { IsErrOf result ResetFault.ReadFault →
         Rose (F.failed_reads tree.old) (F.failed_reads tree.new) }
+    ensures write_fault { result ≢ Err ResetFault.WriteFault }
     ensures changed { (p : PathValue) → result ≢ Err (ResetFault.Changed p) }
 {
     match tree.list(alloc, wal) {
@@ -57,6 +58,7 @@ fn wal_names<F: Tree>(alloc: Global, tree: &mut F, wal: &Path) -> Result<Names, 
 fn no_segment(alloc: Global, wal: &Path) -> ResetFault
     ensures value { (result ≡ ResetFault.BadSegment wal.now) ⊎ (result ≡ ResetFault.OutOfMemory) }
     ensures read { result ≢ ResetFault.ReadFault }
+    ensures write_fault { result ≢ ResetFault.WriteFault }
     ensures changed { (p : PathValue) → result ≢ ResetFault.Changed p }
 {
     match wal.copy(alloc) {
@@ -79,6 +81,7 @@ fn segment_of(
         (segment_found wal.now (new_segment options.now old.now names.now)) result }
     ensures low { IfOk result (λ segment. segment.number * bytes_of segment.size < 2 ^ 63) }
     ensures read_fault { result ≢ Err ResetFault.ReadFault }
+    ensures write_fault { result ≢ Err ResetFault.WriteFault }
     ensures changed { (p : PathValue) → result ≢ Err (ResetFault.Changed p) }
 {
     match new_segment(options, old, names) {
@@ -125,6 +128,7 @@ fn prepare_to<F: Tree>(
     ensures reads { Reads F.Tree tree.old tree.new }
     ensures read_fault { IsErrOf result ResetFault.ReadFault →
         Rose (F.failed_reads tree.old) (F.failed_reads tree.new) }
+    ensures write_fault { result ≢ Err ResetFault.WriteFault }
     ensures changed { IsTrue F.tells → (p : PathValue) → result ≢ Err (ResetFault.Changed p) }
 {
     if options.dry.is_some() {
@@ -161,6 +165,7 @@ fn prepare_known<F: Tree>(
     ensures reads { Reads F.Tree tree.old tree.new }
     ensures read_fault { IsErrOf result ResetFault.ReadFault →
         Rose (F.failed_reads tree.old) (F.failed_reads tree.new) }
+    ensures write_fault { result ≢ Err ResetFault.WriteFault }
     ensures changed { IsTrue F.tells → (p : PathValue) → result ≢ Err (ResetFault.Changed p) }
 {
     let wal = match wal_folder(alloc, root) {
@@ -201,6 +206,7 @@ pub fn prepare<F: Tree>(
     ensures reads { Reads F.Tree tree.old tree.new }
     ensures read_fault { IsErrOf result ResetFault.ReadFault →
         Rose (F.failed_reads tree.old) (F.failed_reads tree.new) }
+    ensures write_fault { result ≢ Err ResetFault.WriteFault }
     ensures changed { IsTrue F.tells → (p : PathValue) → result ≢ Err (ResetFault.Changed p) }
 {
     match check_marks(alloc, tree, root) {

@@ -43,6 +43,7 @@ fn file_at<F: Tree>(tree: &mut F, path: Path) -> Result<Path, ResetFault>
     ensures reads { Reads F.Tree tree.old tree.new }
     ensures read_fault { IsErrOf result ResetFault.ReadFault →
         Rose (F.failed_reads tree.old) (F.failed_reads tree.new) }
+    ensures write_fault { result ≢ Err ResetFault.WriteFault }
     ensures changed { IsTrue F.tells → (p : PathValue) → result ≢ Err (ResetFault.Changed p) }
 {
     match tree.kind(&path) {
@@ -62,6 +63,7 @@ fn add_file<F: Tree>(tree: &mut F, gone: &mut VecDeque<Path>, path: Path) -> Res
     ensures reads { Reads F.Tree tree.old tree.new }
     ensures read_fault { IsErrOf result ResetFault.ReadFault →
         Rose (F.failed_reads tree.old) (F.failed_reads tree.new) }
+    ensures write_fault { result ≢ Err ResetFault.WriteFault }
     ensures changed { IsTrue F.tells → (p : PathValue) → result ≢ Err (ResetFault.Changed p) }
 {
     let path = file_at(tree, path)?;
@@ -103,6 +105,7 @@ fn add<F: Tree>(
     ensures reads { Reads F.Tree tree.old tree.new }
     ensures read_fault { IsErrOf result ResetFault.ReadFault →
         Rose (F.failed_reads tree.old) (F.failed_reads tree.new) }
+    ensures write_fault { result ≢ Err ResetFault.WriteFault }
     ensures changed { IsTrue F.tells → (p : PathValue) → result ≢ Err (ResetFault.Changed p) }
 {
     if !goes(area, name.as_bytes()) {
@@ -135,6 +138,7 @@ pub(crate) fn add_all<F: Tree>(
     ensures reads { Reads F.Tree tree.old tree.new }
     ensures read_fault { IsErrOf result ResetFault.ReadFault →
         Rose (F.failed_reads tree.old) (F.failed_reads tree.new) }
+    ensures write_fault { result ≢ Err ResetFault.WriteFault }
     ensures changed { IsTrue F.tells → (p : PathValue) → result ≢ Err (ResetFault.Changed p) }
 {
     for at in 0..names.len() {
@@ -153,6 +157,7 @@ pub(crate) fn add_all<F: Tree>(
 fn unlisted(alloc: Global, folder: &Path, fault: TreeFault) -> Result<Names, ResetFault>
     ensures told { Meets (λ e. e ≡ ResetFault.OutOfMemory) (unlisted folder.now fault) result }
     ensures read { IsErrOf result ResetFault.ReadFault → fault ≡ TreeFault.Failed }
+    ensures write_fault { result ≢ Err ResetFault.WriteFault }
     ensures changed { (p : PathValue) → result ≢ Err (ResetFault.Changed p) }
     ensures none { IfOk result (λ names. names ≡ []) }
 {
@@ -176,6 +181,7 @@ pub(crate) fn status_names<F: Tree>(
     ensures reads { Reads F.Tree tree.old tree.new }
     ensures read_fault { IsErrOf result ResetFault.ReadFault →
         Rose (F.failed_reads tree.old) (F.failed_reads tree.new) }
+    ensures write_fault { result ≢ Err ResetFault.WriteFault }
     ensures changed { (p : PathValue) → result ≢ Err (ResetFault.Changed p) }
 {
     match tree.list(alloc, folder) {

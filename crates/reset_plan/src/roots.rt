@@ -49,6 +49,7 @@ pub(crate) fn check_marks<F: Tree>(
     ensures reads { Reads F.Tree tree.old tree.new }
     ensures read_fault { IsErrOf result ResetFault.ReadFault →
         Rose (F.failed_reads tree.old) (F.failed_reads tree.new) }
+    ensures write_fault { result ≢ Err ResetFault.WriteFault }
     ensures changed { IsTrue F.tells → (p : PathValue) → result ≢ Err (ResetFault.Changed p) }
 {
     match clusters::check_marks(alloc, tree, root) {
@@ -71,6 +72,7 @@ pub(crate) fn control_at<F: Tree>(
     ensures reads { Reads F.Tree tree.old tree.new }
     ensures read_fault { IsErrOf result ResetFault.ReadFault →
         Rose (F.failed_reads tree.old) (F.failed_reads tree.new) }
+    ensures write_fault { result ≢ Err ResetFault.WriteFault }
     ensures changed { IsTrue F.tells → (p : PathValue) → result ≢ Err (ResetFault.Changed p) }
 {
     match clusters::control_at(alloc, tree, root) {
@@ -96,6 +98,7 @@ fn folder_fault(folder: Path, fault: TreeFault) -> ResetFault
 pub(crate) fn listing_fault(alloc: Global, folder: &Path, fault: TreeFault) -> ResetFault
     ensures value { (result ≡ folder_fault folder.now fault) ⊎ (result ≡ ResetFault.OutOfMemory) }
     ensures read { result ≡ ResetFault.ReadFault → fault ≡ TreeFault.Failed }
+    ensures write_fault { result ≢ ResetFault.WriteFault }
     ensures changed { (p : PathValue) → result ≢ ResetFault.Changed p }
 {
     match folder.copy(alloc) {
