@@ -1,1 +1,10 @@
-mod FileLemmas
+pub mod FileLemmas
+pub mod PerformLemmas
+pub mod UnderLemmas
+pub mod GoneLemmas
+pub mod UnrefusedLemmas
+pub mod FoundLemmas
+pub mod TruthLemmas
+pub mod AfterLemmas
+pub mod MeantLemmas
+pub mod ResetLemmas

@@ -1,0 +1,15 @@
+use Rattle.std.proofs.Common.{◌++◌, ap, codes, Err}
+use Rattle.marked_runs.specs.Runs.{begun, ended}
+use Rattle.reset_plan.specs.Plan.{body_changes}
+use Rattle.marked_runs.proofs.CarriedLemmas.{performs-broken, performs-done, performs-front, performs-then}
+use Rattle.reset_cleanup.proofs.performing.perform.Goals as goal
+
+pub returns-in-Ok-clause-performs : goal.returns-in-Ok-clause-performs
+returns-in-Ok-clause-performs g c =
+    performs-then g.F.Tree (begun c.args.plan.mark (codes "pg_resetwal 1\n")) (body_changes c.args.plan.body ++ ended c.args.plan.mark) _ _ _ _ _
+    (performs-done g.F.Tree (begun c.args.plan.mark (codes "pg_resetwal 1\n")) _ _ _ c.in-Ok.ensures.carries) c.put_marked.ensures.performs
+
+pub returns-in-Err-clause-performs : goal.returns-in-Err-clause-performs
+returns-in-Err-clause-performs g c =
+    performs-front g.F.Tree (begun c.args.plan.mark (codes "pg_resetwal 1\n")) (body_changes c.args.plan.body ++ ended c.args.plan.mark) _ _ _
+    (performs-broken g.F.Tree (begun c.args.plan.mark (codes "pg_resetwal 1\n")) _ _ c.in-Err.fault c.args.plan.mark _ (ap Err c.about.ensures) c.in-Err.ensures.carries)

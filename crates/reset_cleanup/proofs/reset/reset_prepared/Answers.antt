@@ -1,0 +1,12 @@
+use Rattle.std.proofs.Common.{subst, sym, true}
+use Rattle.marked_runs.specs.Runs.{Runs}
+use Rattle.reset_plan.specs.Prepared.{reset_by}
+use Rattle.reset_plan.specs.declared.plan.Prepared.{Prepared}
+use Rattle.reset_cleanup.proofs.ResetLemmas.{runs-nothing}
+use Rattle.reset_cleanup.proofs.reset.reset_prepared.Goals as goal
+
+pub returns-in-Dry-clause-runs : goal.returns-in-Dry-clause-runs
+returns-in-Dry-clause-runs g c told none =
+    let k = g.F.Tree.calls c.args.tree.now in
+    let d = g.F.Tree.contents c.args.tree.now in
+    subst (λ (p : Prepared). Runs (reset_by p).changes k k d d true) (sym c.in-Dry.is) (runs-nothing k d)
