@@ -92,20 +92,14 @@ pub(crate) fn path(alloc: Global, text: &str, rt: &impl Abort) -> Path {
     Path::parse(alloc, text).expect(rt, "a path")
 }
 
-/// Makes a folder.
-pub(crate) fn make_folder(alloc: Global, tree: &mut MemoryTree, text: &str, rt: &impl Abort) {
+// Makes a folder.
+fn make_folder(alloc: Global, tree: &mut MemoryTree, text: &str, rt: &impl Abort) {
     let made = tree.make_folder(&path(alloc, text, rt));
     assert_eq!(rt; made, Ok(()), "{text}");
 }
 
-/// Makes a file with these bytes.
-pub(crate) fn make_file(
-    alloc: Global,
-    tree: &mut MemoryTree,
-    text: &str,
-    bytes: &[u8],
-    rt: &impl Abort,
-) {
+// Makes a file with these bytes.
+fn make_file(alloc: Global, tree: &mut MemoryTree, text: &str, bytes: &[u8], rt: &impl Abort) {
     let file = path(alloc, text, rt);
     let made = tree.make_file(&file);
     assert_eq!(rt; made, Ok(()), "{text}");
@@ -128,6 +122,54 @@ pub(crate) fn cluster(
     make_file(alloc, &mut tree, "t/global/pg_control", &control, rt);
     for file in files {
         make_file(alloc, &mut tree, file, b"x", rt);
+    }
+    tree
+}
+
+/// What stands in a cluster beside its control file.
+#[derive(Clone, Copy)]
+pub(crate) enum Had<'a> {
+    Folder(&'a str),
+    /// Of one byte.
+    File(&'a str),
+    Link(&'a str),
+    /// A folder that holds a name that isn't UTF-8.
+    BadName(&'a str),
+}
+
+fn put_had(alloc: Global, tree: &mut MemoryTree, had: Had<'_>, rt: &impl Abort) {
+    match had {
+        Had::Folder(text) => make_folder(alloc, tree, text, rt),
+        Had::File(text) => make_file(alloc, tree, text, b"x", rt),
+        Had::Link(text) => {
+            let added = tree.add_link(&path(alloc, text, rt));
+            assert_eq!(rt; added, Ok(()), "{text}");
+        }
+        Had::BadName(text) => {
+            make_folder(alloc, tree, text, rt);
+            let added = tree.add_bad_name(&path(alloc, text, rt));
+            assert_eq!(rt; added, Ok(()), "{text}");
+        }
+    }
+}
+
+/// A cluster `t` with these fields of its control file, where it has one, and these beside it.
+pub(crate) fn cluster_of(
+    alloc: Global,
+    control: Option<&[(usize, usize, u64)]>,
+    had: &[Had<'_>],
+    rt: &impl Abort,
+) -> MemoryTree {
+    let mut tree = MemoryTree::new(alloc);
+    for folder in ["t", "t/global"] {
+        make_folder(alloc, &mut tree, folder, rt);
+    }
+    if let Some(edits) = control {
+        let bytes = control_bytes(edits);
+        make_file(alloc, &mut tree, "t/global/pg_control", &bytes, rt);
+    }
+    for one in had {
+        put_had(alloc, &mut tree, *one, rt);
     }
     tree
 }

@@ -4,4 +4,12 @@
 #[cfg(test)]
 mod cluster;
 #[cfg(test)]
+mod faults;
+#[cfg(test)]
 mod numbers;
+#[cfg(test)]
+mod refusals;
+#[cfg(test)]
+mod resets;
+#[cfg(test)]
+mod told;
