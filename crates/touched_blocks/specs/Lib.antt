@@ -4,3 +4,4 @@ pub mod FieldNames
 pub mod Touched
 pub mod Set
 pub mod Chunk
+pub mod Layouts

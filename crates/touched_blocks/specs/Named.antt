@@ -1,5 +1,5 @@
 -- Blocks that are named: PostgreSQL 16, src/bin/pg_rewind/parsexlog.c, extractPageInfo.
-use Rattle.std.specs.Prelude.{List, [], ◌∷◌, Option, None, Some, ℕ, ◌-◌, ◌^◌, ◌==◌, ◌&&◌, Bool, min, nat_le}
+use Rattle.std.specs.Prelude.{List, [], ◌∷◌, Option, None, Some, ℕ, ◌==◌, ◌&&◌, Bool, nat_le}
 use Rattle.block_refs.specs.declared.names.RelName.{RelName}
 use Rattle.touched_blocks.specs.declared.named.Named.{Named}
 use Rattle.touched_blocks.specs.declared.named.Named.TheVariants.{OneBlock, BlocksFrom, AllOf}
@@ -22,7 +22,3 @@ whole_rel rel = BlocksFrom rel 0 ∷ []
 abbrev pub named_if_there : {X : Type 0} → (X → List Named) → Option X → List Named
 named_if_there names None = []
 named_if_there names (Some x) = names x
-
--- The number of a block in a set. A file can have blocks past the last number: they are touched where that one is.
-abbrev pub capped : ℕ → ℕ
-capped block = min block (2 ^ 32 - 1)
