@@ -1,9 +1,9 @@
 -- Adding an item to B-tree pages, the later lines moved up: the same refusal, or pages that the mask can't tell apart.
-use Rattle.std.proofs.Common.{◌≡◌, ℕ, ◌+◌, ◌-◌, ◌*◌, ◌/◌, ◌%◌, ◌<◌, ◌≤◌, ◌==◌, inl, inr, ⊎_elim, List, ◌++◌, Bool, true, false, length, refl, sym, ◌∙◌, ap, subst, arith}
+use Rattle.std.proofs.Common.{◌≡◌, ℕ, ◌+◌, ◌-◌, ◌*◌, ◌/◌, ◌%◌, ◌<◌, ◌≤◌, ◌==◌, inl, inr, ⊎_elim, List, ◌++◌, true, false, length, sym, ◌∙◌, ap, subst, arith}
 use Rattle.std.specs.Prelude.{nat_le, replicate}
 use Rattle.std.proofs.lemmas.Bool.Decides.{leb_tells}
 use Rattle.page_layout.specs.Bytes.{byte, u16_bytes, up8}
-use Rattle.page_layout.specs.Page.{pd_lower, pd_upper, pd_special, count, IsFormed}
+use Rattle.page_layout.specs.Page.{pd_lower, pd_upper, pd_special, IsFormed}
 use Rattle.page_layout.specs.Edits.{opened_at, added_at, added, add_refusal, add_item}
 use Rattle.page_layout.proofs.LineViews.{line_bytes}
 use Rattle.page_masks.specs.Mask.{mask, is_leaf, shown_line, shown_flags}

@@ -7,7 +7,7 @@ use Rattle.page_layout.specs.Bytes.{byte, up8}
 use Rattle.page_layout.specs.Deletes.{are_places, without_line, without_lines, closed_up, without_item, without_items, is_apart, apart_below, all_apart, packed_if_room, deleted, delete_items}
 use Rattle.page_layout.specs.Edits.{refuse_or}
 use Rattle.page_layout.specs.Pack.{room_refusal, packed}
-use Rattle.page_layout.specs.Page.{pd_upper, pd_special, count, lp_off, lp_len, IsFormed}
+use Rattle.page_layout.specs.Page.{pd_upper, count, lp_off, lp_len, IsFormed}
 use Rattle.page_layout.specs.declared.refusal.PageRefusal.{PageRefusal}
 use Rattle.page_layout.specs.declared.refusal.PageRefusal.TheVariants.{BadPlace, NoRoom}
 use Rattle.page_layout.proofs.ApartLemmas.{test_apart}

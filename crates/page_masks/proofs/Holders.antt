@@ -1,16 +1,14 @@
 -- Which line holds a byte of a heap page, and what the mask shows there.
-use Rattle.std.proofs.Common.{◌≡◌, ◌≢◌, ℕ, zero, suc, ◌+◌, ◌-◌, ◌*◌, ◌/◌, ◌%◌, ◌<◌, ◌≤◌, ◌==◌, ◌&&◌, ⊎_elim, List, ◌++◌, Bool, true, false, Option, Some, None, refl, sym, ◌∙◌, ap, subst, arith}
-use Rattle.std.specs.Prelude.{if◌then◌else◌, nat_lt, nat_le, replicate}
-use Rattle.std.proofs.lemmas.Bool.Decides.{nat_tests, eqb_tells, leb_tells}
-use Rattle.std.proofs.lemmas.List.{get_or_append_left, ext_get_or}
-use Rattle.page_layout.specs.Bytes.{byte, u16_at, up8, page_of}
-use Rattle.page_layout.specs.Page.{pd_lower, pd_upper, count, lp_off, lp_flags, lp_len, item}
-use Rattle.page_layout.proofs.BytesLemmas.{length-cut, byte-page_of, length-page_of, same_pages}
+use Rattle.std.proofs.Common.{◌≡◌, ◌≢◌, ℕ, zero, suc, ◌+◌, ◌-◌, ◌/◌, ◌%◌, ◌<◌, ◌≤◌, ◌==◌, ◌&&◌, ⊎_elim, List, Bool, true, false, Some, None, refl, sym, ◌∙◌, ap, subst, arith}
+use Rattle.std.specs.Prelude.{if◌then◌else◌, nat_lt, nat_le}
+use Rattle.std.proofs.lemmas.Bool.Decides.{nat_tests, eqb_tells}
+use Rattle.page_layout.specs.Bytes.{byte, up8, page_of}
+use Rattle.page_layout.specs.Page.{pd_upper, count, lp_off, lp_len}
+use Rattle.page_layout.proofs.BytesLemmas.{byte-page_of, length-page_of, same_pages}
 use Rattle.page_layout.proofs.ShapeLemmas.{item_in, line_fits_at}
-use Rattle.page_masks.specs.Mask.{masked_item, masked_held, holds, holder, by_holder, shown_lower, masked_front, heap_byte}
+use Rattle.page_masks.specs.Mask.{masked_held, holds, holder, by_holder, shown_lower, masked_front, heap_byte}
 use Rattle.page_masks.specs.Shapes.{HeapPage}
 use Rattle.page_layout.specs.Apart.{AreApart}
-use Rattle.page_masks.proofs.Laid.{length-masked_item}
 use Rattle.page_masks.proofs.HeapLaid.{Fit, heap_open}
 
 -- the mask of a heap page
