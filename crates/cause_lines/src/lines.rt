@@ -120,6 +120,24 @@ fn control_line(
     }
 }
 
+// The line of clusters or files that are unfit.
+fn unfit_line(
+    alloc: Global,
+    name: Option<CommandName>,
+    unfit: &RewindCause,
+) -> Result<String, AllocError>
+    ensures { IfOk result (λ line. string_bytes line ≡
+        line_of name (Cause.Rewind unfit.now)) }
+{
+    match unfit {
+        RewindCause::SystemsDiffer(target, source) => systems_line(alloc, name, *target, *source),
+        RewindCause::NotClean(root, state) => {
+            number_line(alloc, name, "NotClean", root, u64::from(*state))
+        }
+        RewindCause::KindsDiffer(path) => path_line(alloc, name, "KindsDiffer", path),
+    }
+}
+
 fn why_name(why: Why) -> &'static str
     ensures { result.now ≡ why_name why }
 {
@@ -231,14 +249,10 @@ pub fn line_of(alloc: Global, name: Option<CommandName>, cause: &Cause) -> Resul
         Cause::SinkFault => Line::Known(Fixed::SinkFault),
         Cause::OutOfMemory => Line::Known(Fixed::OutOfMemory),
         Cause::Changed(path) => Line::Made(path_line(alloc, name, "Changed", path)?),
+        Cause::Unfinished(path) => Line::Made(path_line(alloc, name, "Unfinished", path)?),
         Cause::Paths(paths) => path_cause_line(alloc, name, paths)?,
         Cause::Control(control) => Line::Made(control_line(alloc, name, control)?),
-        Cause::Rewind(RewindCause::SystemsDiffer(target, source)) => {
-            Line::Made(systems_line(alloc, name, *target, *source)?)
-        }
-        Cause::Rewind(RewindCause::KindsDiffer(path)) => {
-            Line::Made(path_line(alloc, name, "KindsDiffer", path)?)
-        }
+        Cause::Rewind(unfit) => Line::Made(unfit_line(alloc, name, unfit)?),
         Cause::Log(log) => Line::Made(log_line(alloc, name, log)?),
     })
 }

@@ -23,11 +23,13 @@ pub enum Cause {
     OutOfMemory,
     /// The tree contradicted, about this path, what it had answered earlier in the run.
     Changed(Path),
+    /// The mark of a run that wasn't finished stands at this path.
+    Unfinished(Path),
     /// A path is refused.
     Paths(PathCause),
     /// A control file is refused.
     Control(ControlCause),
-    /// Two clusters are unfit for a rewind.
+    /// Clusters or files are unfit for what is to be done with them.
     Rewind(RewindCause),
     /// A log or a segment of one is refused.
     Log(LogCause),
@@ -45,7 +47,7 @@ pub enum PathCause {
     PathsOverlap,
     /// What has to be a folder isn't there, or is a file.
     NotFolder(Path),
-    /// What has to be a folder is a link or a special file.
+    /// What has to be a folder, or a file that is to be removed, is a link or a special file.
     Link(Path),
     /// A folder holds a name that isn't text.
     NameNotText(Path),
@@ -68,11 +70,13 @@ pub enum ControlCause {
     Shape(Path, Field, u64),
 }
 
-/// Why two clusters are unfit for a rewind, or files for what is to be done with them.
+/// Why clusters or files are unfit for what is to be done with them.
 #[derive(Drop)]
 pub enum RewindCause {
     /// The target's system identifier, and the source's.
     SystemsDiffer(u64, u64),
+    /// The root of a cluster that wasn't shut down, and its state.
+    NotClean(Path, u32),
     /// A folder stands in the place of a file.
     KindsDiffer(Path),
 }
@@ -91,7 +95,8 @@ pub enum LogCause {
     NoRecordAt(Lsn),
     /// The folder, where the log isn't found.
     NoWal(Path),
-    /// The file, whose first 40 bytes aren't the header of a segment.
+    /// The file, whose first 40 bytes aren't the header of a segment; or pg_wal, where no new segment
+    /// can be.
     BadSegment(Path),
 }
 

@@ -27,6 +27,7 @@ impl Exit {
             Cause::Usage
             | Cause::NotBuilt
             | Cause::Changed(_)
+            | Cause::Unfinished(_)
             | Cause::Paths(_)
             | Cause::Control(_)
             | Cause::Rewind(_)
