@@ -1,4 +1,4 @@
--- The paths that a command's words give. Own: "Roots of at most 61 parts", "The folder of a dump", "The names of an archive".
+-- The paths that a command's words give. Own: "Roots of at most 61 parts", "The folder of a dump", "The names of an archive", "The numbers of a reset".
 use Rattle.std.specs.Prelude.{◌≡◌, ◌≤◌, true, is_some, length}
 use Rattle.archive_names.specs.Cleanup.{kept_of}
 use Rattle.cluster_tree.specs.Apart.{AreApart}
@@ -6,8 +6,10 @@ use Rattle.cluster_tree.specs.PathValue.{PathValue}
 use Rattle.commands.specs.declared.archivecleanup.ArchivecleanupWords.{ArchivecleanupWords}
 use Rattle.commands.specs.declared.command.Command.{Command}
 use Rattle.commands.specs.declared.command.Command.TheVariants as command
+use Rattle.commands.specs.declared.resetwal.ResetwalWords.{ResetwalWords}
 use Rattle.commands.specs.declared.waldump.WaldumpWords.{WaldumpWords}
 use Rattle.commands.specs.declared.waldump.WaldumpWords.TheVariants as waldump
+use Rattle.reset_numbers.specs.Options.{IsFit as AreFitOptions}
 
 -- a cluster's root leaves room for the files below it, up to the 64 parts of a path
 abbrev pub IsFitRoot : PathValue → Type 0
@@ -32,9 +34,15 @@ pub record IsFitArchivecleanup (words : ArchivecleanupWords) : Type 0 where
   pub depth : IsFitFolder words.folder
   pub kept : is_some (kept_of words.extension words.kept) ≡ true
 
+-- the root of a cluster, and options that break no rule on their values
+pub record IsFitResetwal (words : ResetwalWords) : Type 0 where
+  pub depth : IsFitRoot words.root
+  pub options : AreFitOptions words.options
+
 -- what a command may be carried out on
 abbrev pub IsFit : Command → Type 0
 IsFit (command.Rewind words) = AreFitRoots words.target words.source
 IsFit (command.Controldata words) = IsFitRoot words.root
 IsFit (command.Waldump words) = IsFitWaldump words
+IsFit (command.Resetwal words) = IsFitResetwal words
 IsFit (command.Archivecleanup words) = IsFitArchivecleanup words

@@ -1,5 +1,5 @@
 // A command with what its words ask for.
-use crate::{ArchivecleanupWords, ControldataWords, RewindWords, WaldumpWords};
+use crate::{ArchivecleanupWords, ControldataWords, ResetwalWords, RewindWords, WaldumpWords};
 
 /// A command with what its words ask for. Each command that is built has a variant.
 #[derive(Drop)]
@@ -10,6 +10,8 @@ pub enum Command {
     Waldump(WaldumpWords),
     /// pg_controldata.
     Controldata(ControldataWords),
+    /// pg_resetwal.
+    Resetwal(ResetwalWords),
     /// pg_archivecleanup.
     Archivecleanup(ArchivecleanupWords),
 }

@@ -6,6 +6,7 @@ mod command;
 mod controldata;
 mod fault;
 mod name;
+mod resetwal;
 mod rewind;
 mod waldump;
 
@@ -14,5 +15,6 @@ pub use command::Command;
 pub use controldata::ControldataWords;
 pub use fault::CommandFault;
 pub use name::{CommandName, name_of, name_text, named};
+pub use resetwal::ResetwalWords;
 pub use rewind::RewindWords;
 pub use waldump::{DumpWords, Filters, WaldumpWords};

@@ -1,7 +1,9 @@
 mod CleanupLemmas
 mod DumpLemmas
+mod FitLemmas
 mod FrontLemmas
 mod GrammarLemmas
+mod NumberLemmas
 mod PathLemmas
 mod PieceLemmas
 mod RootLemmas

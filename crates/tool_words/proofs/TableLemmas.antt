@@ -5,6 +5,7 @@ use Rattle.clap.proofs.OnLiterals.{clap_on_literals}
 use Rattle.command_words.specs.Table.{command_with}
 use Rattle.tool_words.specs.Archivecleanup.{archivecleanup_table}
 use Rattle.tool_words.specs.Controldata.{controldata_table}
+use Rattle.tool_words.specs.Resetwal.{resetwal_table}
 use Rattle.tool_words.specs.Rewind.{rewind_table}
 use Rattle.tool_words.specs.Waldump.{waldump_table}
 
@@ -23,3 +24,7 @@ waldump_is_simple = refl
 pub archivecleanup_is_simple : is_simple_and_free (command_with archivecleanup_table) ≡ true
 unfolding archivecleanup_table clap_on_literals
 archivecleanup_is_simple = refl
+
+pub resetwal_is_simple : is_simple_and_free (command_with resetwal_table) ≡ true
+unfolding resetwal_table clap_on_literals
+resetwal_is_simple = refl

@@ -1,4 +1,4 @@
--- What the program's words ask for: PostgreSQL 16 manual, reference pages of pg_rewind, pg_controldata, pg_waldump and pg_archivecleanup. Own: "The order of what
+-- What the program's words ask for: PostgreSQL 16 manual, reference pages of pg_rewind, pg_controldata, pg_waldump, pg_resetwal and pg_archivecleanup. Own: "The order of what
 -- is wrong with roots", "The folder of a dump".
 use Rattle.std.specs.Prelude.{ℕ, ◌==◌, ◌||◌, Bool, true, false, if◌then◌else◌, List, length, codes, Option, None, Some, unwrap_or, option_map, Result, Ok, Err}
 use Rattle.cluster_tree.specs.Apart.{overlap}
@@ -18,9 +18,11 @@ use Rattle.commands.specs.declared.waldump.WaldumpWords.TheVariants as asked
 use Rattle.tool_words.specs.Archivecleanup.{archivecleanup_of}
 use Rattle.tool_words.specs.Controldata.{controldata_of}
 use Rattle.tool_words.specs.Paths.{root_named, folder_named}
+use Rattle.tool_words.specs.Resetwal.{resetwal_of}
 use Rattle.tool_words.specs.Rewind.{rewind_of}
 use Rattle.tool_words.specs.Waldump.{waldump_of}
 use Rattle.tool_words.specs.declared.archivecleanup.ArchivecleanupTexts.{ArchivecleanupTexts}
+use Rattle.tool_words.specs.declared.resetwal.ResetwalTexts.{ResetwalTexts}
 use Rattle.tool_words.specs.declared.rewind.RewindTexts.{RewindTexts}
 use Rattle.tool_words.specs.declared.waldump.DumpTexts.{DumpTexts}
 use Rattle.tool_words.specs.declared.waldump.SegmentWord.{SegmentWord}
@@ -87,6 +89,11 @@ waldump_asked None = Err fault.Usage
 waldump_asked (Some texts.Managers) = Ok (command.Waldump asked.Managers)
 waldump_asked (Some (texts.Dump words)) = given (folder_named (folder_text words)) (λ folder. Ok (dump_in_folder words folder))
 
+-- pg_resetwal, at its root
+abbrev pub resetwal_asked : Option ResetwalTexts → Result Command CommandFault
+resetwal_asked None = Err fault.Usage
+resetwal_asked (Some words) = given (root_named words.root) (λ root. Ok (command.Resetwal (record { root = root; options = words.options })))
+
 -- pg_archivecleanup in a folder
 abbrev pub cleanup_in_folder : ArchivecleanupTexts → PathValue → Command
 cleanup_in_folder words folder = command.Archivecleanup (record {
@@ -107,7 +114,7 @@ command_named None words = Err fault.Usage
 command_named (Some name.PgRewind) words = rewind_asked (rewind_of words)
 command_named (Some name.PgWaldump) words = waldump_asked (waldump_of words)
 command_named (Some name.PgControldata) words = controldata_asked (controldata_of words)
-command_named (Some name.PgResetwal) words = Err fault.NotBuilt
+command_named (Some name.PgResetwal) words = resetwal_asked (resetwal_of words)
 command_named (Some name.PgArchivecleanup) words = archivecleanup_asked (archivecleanup_of words)
 command_named (Some name.PgWalreplay) words = Err fault.NotBuilt
 command_named (Some name.PgWalcompare) words = Err fault.NotBuilt

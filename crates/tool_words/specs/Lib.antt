@@ -4,6 +4,8 @@ pub mod Controldata
 pub mod Rewind
 pub mod Archivecleanup
 pub mod Forms
+pub mod Numbers
+pub mod Resetwal
 pub mod Waldump
 pub mod Command
 pub mod Laws

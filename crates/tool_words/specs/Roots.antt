@@ -1,5 +1,6 @@
 -- The roots of clusters in words. Own: "An empty root is a faulty command line".
-use Rattle.std.specs.Prelude.{ℕ, List, [], ◌∷◌, Option, Some, None, option_and_then}
+use Rattle.std.specs.Prelude.{ℕ, List, [], ◌∷◌, Option, Some, None, codes, option_and_then}
+use Rattle.clap.specs.Walk.{Row, first_of}
 
 -- the one that is given, where it is one of the two alone
 abbrev pub exactly_one : Option (List ℕ) → Option (List ℕ) → Option (List ℕ)
@@ -15,3 +16,7 @@ root_of (c ∷ cs) = Some (c ∷ cs)
 -- the root given by an option or a word, where it is given
 abbrev pub root_given : Option (List ℕ) → Option (List ℕ)
 root_given = option_and_then root_of
+
+-- and by the option -D or the word DIR, which is given once
+abbrev pub one_root : List Row → Option (List ℕ)
+one_root rows = root_given (exactly_one (first_of (codes "pgdata") rows) (first_of (codes "DIR") rows))

@@ -3,9 +3,11 @@ ghost use Rattle.std.specs.Prelude.{◌≡◌, map, string_bytes, IfOk};
 ghost use Rattle.cluster_tree.specs.Causes.{Meets};
 ghost use Rattle.commands.specs.Faults.{IsFree};
 ghost use Rattle.commands.specs.Fit.{IsFit};
-ghost use Rattle.tool_words.specs.Command.{archivecleanup_asked, command_of, controldata_asked, rewind_asked, waldump_asked};
+ghost use Rattle.tool_words.specs.Command.{archivecleanup_asked, command_of, controldata_asked, resetwal_asked};
+ghost use Rattle.tool_words.specs.Command.{rewind_asked, waldump_asked};
 ghost use Rattle.tool_words.specs.Archivecleanup.{archivecleanup_of};
 ghost use Rattle.tool_words.specs.Controldata.{controldata_of};
+ghost use Rattle.tool_words.specs.Resetwal.{resetwal_of};
 ghost use Rattle.tool_words.specs.Rewind.{rewind_of};
 ghost use Rattle.tool_words.specs.Waldump.{waldump_of};
 
@@ -13,13 +15,14 @@ use crate::archivecleanup::archivecleanup_words;
 use crate::controldata::controldata_words;
 use crate::dump::dump_asked;
 use crate::paths::{MOST_OF_FOLDER, MOST_OF_ROOT, path_named};
+use crate::resetwal::resetwal_words;
 use crate::rewind::rewind_words;
 use crate::roots::two_roots;
 use crate::waldump::{WaldumpTexts, waldump_words};
 use command_words::WordsFault;
 use commands::{
-    ArchivecleanupWords, Command, CommandFault, CommandName, ControldataWords, WaldumpWords,
-    name_of,
+    ArchivecleanupWords, Command, CommandFault, CommandName, ControldataWords, ResetwalWords,
+    WaldumpWords, name_of,
 };
 use std::alloc::Global;
 
@@ -64,6 +67,22 @@ fn waldump_asked(alloc: Global, words: &[String]) -> Result<Command, CommandFaul
     }
 }
 
+#[tactic(auto, using(crate::proofs::FitLemmas::fit_steps))]
+fn resetwal_asked(alloc: Global, words: &[String]) -> Result<Command, CommandFault>
+    ensures answer { Meets IsFree (resetwal_asked (resetwal_of (map string_bytes words.now))) result }
+    ensures fit { IfOk result IsFit }
+{
+    match resetwal_words(alloc, words) {
+        Ok(texts) => {
+            let root = path_named(alloc, MOST_OF_ROOT, texts.root.as_str())?;
+            let options = texts.options;
+            Ok(Command::Resetwal(ResetwalWords { root, options }))
+        }
+        Err(WordsFault::Usage) => Err(CommandFault::Usage),
+        Err(WordsFault::OutOfMemory) => Err(CommandFault::OutOfMemory),
+    }
+}
+
 #[tactic(auto, using(crate::proofs::CleanupLemmas::words_steps))]
 fn archivecleanup_asked(alloc: Global, words: &[String]) -> Result<Command, CommandFault>
     ensures answer { Meets IsFree (archivecleanup_asked (archivecleanup_of (map string_bytes words.now))) result }
@@ -100,12 +119,10 @@ pub fn read_command(alloc: Global, words: &[String]) -> Result<Command, CommandF
         Some(CommandName::PgRewind) => rewind_asked(alloc, words),
         Some(CommandName::PgWaldump) => waldump_asked(alloc, words),
         Some(CommandName::PgControldata) => controldata_asked(alloc, words),
+        Some(CommandName::PgResetwal) => resetwal_asked(alloc, words),
         Some(CommandName::PgArchivecleanup) => archivecleanup_asked(alloc, words),
-        Some(
-            CommandName::PgResetwal
-            | CommandName::PgWalreplay
-            | CommandName::PgWalcompare
-            | CommandName::Pair,
-        ) => Err(CommandFault::NotBuilt),
+        Some(CommandName::PgWalreplay | CommandName::PgWalcompare | CommandName::Pair) => {
+            Err(CommandFault::NotBuilt)
+        }
     }
 }

@@ -1,11 +1,12 @@
 // The forms of values in words.
-ghost use Rattle.std.specs.Prelude.{◌≡◌, ℕ, ◌^◌, List, Option, Some, bytes_eq, option_map};
+ghost use Rattle.std.specs.Prelude.{◌≡◌, ◌==◌, ℕ, ◌<◌, ◌^◌, List, Option, Some, bytes_eq, option_map};
+ghost use Rattle.std.specs.List.{after_first, before_first};
 ghost use Rattle.std.specs.Path.{rsplit_once};
 ghost use Rattle.wal_base.specs.Decimal.{decimal_number};
 ghost use Rattle.wal_base.specs.Lsn.{lsn_of};
 ghost use Rattle.block_refs.specs.Names.{fork_name};
 ghost use Rattle.command_words.specs.Answers.{AnswersAs};
-ghost use Rattle.tool_words.specs.Forms.{after_slash, before_slash, fork_of, given};
+ghost use Rattle.tool_words.specs.Forms.{fork_of, given};
 ghost use Rattle.tool_words.specs.Forms.{folder_of, last_part_of, relation_of, segment_name, segment_word};
 
 use crate::waldump::SegmentWord;
@@ -59,12 +60,13 @@ impl Form for Lsn {
     }
 }
 
-// A text before and behind its first slash.
-fn cut(text: &str) -> (&str, &str)
-    ensures before { result.0.now ≡ before_slash text.now }
-    ensures after { result.1.now ≡ after_slash text.now }
+/// A text before and behind the first place of an ASCII character.
+pub(crate) fn cut(text: &str, mark: char) -> (&str, &str)
+    requires { mark < 128 }
+    ensures before { result.0.now ≡ before_first (λ byte. byte == mark) text.now }
+    ensures after { result.1.now ≡ after_first (λ byte. byte == mark) text.now }
 {
-    match text.split_once('/') {
+    match text.split_once(mark) {
         Some(parts) => parts,
         None => (text, ""),
     }
@@ -74,8 +76,8 @@ fn cut(text: &str) -> (&str, &str)
 fn relation(text: &str) -> Option<RelName>
     ensures { result ≡ relation_of text.now }
 {
-    let (space, rest) = cut(text);
-    let (database, relation) = cut(rest);
+    let (space, rest) = cut(text, '/');
+    let (database, relation) = cut(rest, '/');
     let space = number(space)?;
     let database = number(database)?;
     let relation = number(relation)?;
