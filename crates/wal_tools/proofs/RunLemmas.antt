@@ -1,5 +1,5 @@
 -- A run, from the words to the line of the cause.
-use Rattle.std.proofs.Common.{◌≡◌, ◌⊎◌, Bool, true, false, not, IsTrue, List, Some, inl, inr, refl, sym, ap, ◌∙◌, subst, Result, Ok, Err}
+use Rattle.std.proofs.Common.{◌≡◌, ◌⊎◌, ℤ, Bool, true, false, not, IsTrue, List, Some, is_some, inl, inr, refl, sym, ap, ◌∙◌, subst, Result, Ok, Err}
 use Rattle.cluster_tree.specs.Contents.{Contents}
 use Rattle.cluster_tree.specs.declared.tree.ChangeCall.{ChangeCall}
 use Rattle.commands.specs.declared.command.Command.{Command}
@@ -24,6 +24,9 @@ use Rattle.run_acts.proofs.UnseenSteps.{seen_of, unseen_by, unseen_known, unseen
 use Rattle.run_acts.specs.Unseen.{CarriesUnseen}
 use Rattle.cmd_archivecleanup.specs.Archivecleanup.{IsArchivecleanup, archivecleanup_answer}
 use Rattle.cmd_archivecleanup.proofs.FormLemmas.{answer-form as cleanup-form, answer-looks as cleanup-looks}
+use Rattle.cmd_resetwal.specs.Resetwal.{IsResetwal, resetwal_answer}
+use Rattle.cmd_resetwal.proofs.FormLemmas.{answer-form as reset-form, answer-looks as reset-looks}
+use Rattle.commands.specs.declared.resetwal.ResetwalWords.{ResetwalWords}
 use Rattle.commands.specs.declared.archivecleanup.ArchivecleanupWords.{ArchivecleanupWords}
 use Rattle.cmd_controldata.proofs.FormLemmas.{answer-form as control-form, answer-looks as control-looks}
 use Rattle.cmd_rewind.proofs.FormLemmas.{answer-form as rewind-form, answer-looks as rewind-looks}
@@ -32,48 +35,54 @@ use Rattle.wal_tools.specs.Answers.{IsAnswer, answered}
 use Rattle.wal_tools.specs.Words.{IsSeen, MayChange, NeedsNoTree, refused_by_words, words_cause}
 
 -- what is done has the command's form, and begins with a look
-pub answered-form : (c : Contents) (asked : Result Command CommandFault) → IsAnswer asked (answered c asked)
-answered-form c (Ok (command.Rewind words)) = rewind-form words.dry_run (rewind_of c words.target words.source)
-answered-form c (Ok (command.Controldata words)) = control-form (control_at c words.root)
-answered-form c (Ok (command.Waldump words)) = waldump-form c words
-answered-form c (Ok (command.Archivecleanup words)) = cleanup-form c words
-answered-form c (Err e) = refl
+pub answered-form : (c : Contents) (now : ℤ) (asked : Result Command CommandFault) → IsAnswer now asked (answered c now asked)
+answered-form c now (Ok (command.Rewind words)) = rewind-form words.dry_run (rewind_of c words.target words.source)
+answered-form c now (Ok (command.Controldata words)) = control-form (control_at c words.root)
+answered-form c now (Ok (command.Waldump words)) = waldump-form c words
+answered-form c now (Ok (command.Resetwal words)) = reset-form c words now
+answered-form c now (Ok (command.Archivecleanup words)) = cleanup-form c words
+answered-form c now (Err e) = refl
 
-pub answered-looks : (c : Contents) (asked : Result Command CommandFault) → Looks ((answered c asked).acts)
-answered-looks c (Ok (command.Rewind words)) = rewind-looks words.dry_run (rewind_of c words.target words.source)
-answered-looks c (Ok (command.Controldata words)) = control-looks (control_at c words.root)
-answered-looks c (Ok (command.Waldump words)) = waldump-looks c words
-answered-looks c (Ok (command.Archivecleanup words)) = cleanup-looks c words
-answered-looks c (Err e) = tt
+pub answered-looks : (c : Contents) (now : ℤ) (asked : Result Command CommandFault) → Looks ((answered c now asked).acts)
+answered-looks c now (Ok (command.Rewind words)) = rewind-looks words.dry_run (rewind_of c words.target words.source)
+answered-looks c now (Ok (command.Controldata words)) = control-looks (control_at c words.root)
+answered-looks c now (Ok (command.Waldump words)) = waldump-looks c words
+answered-looks c now (Ok (command.Resetwal words)) = reset-looks c words now
+answered-looks c now (Ok (command.Archivecleanup words)) = cleanup-looks c words
+answered-looks c now (Err e) = tt
 
 -- what is carried out of words
-abbrev pub CarriesOut : Bool → Contents → Bool → Bool → Result Command CommandFault → Cause → Seen → Seen → Type 0
-CarriesOut tells c o e asked ended s u = CarriesUnseen (IsSeen (IsTrue tells) asked) (IsTrue tells ⊎ NeedsNoTree asked) (answered c asked) (IsAnswer asked) o e ended s u
+abbrev pub CarriesOut : Bool → Contents → ℤ → Bool → Bool → Result Command CommandFault → Cause → Seen → Seen → Type 0
+CarriesOut tells c now o e asked ended s u = CarriesUnseen (IsSeen (IsTrue tells) asked) (IsTrue tells ⊎ NeedsNoTree asked) (answered c now asked) (IsAnswer now asked) o e ended s u
 
 -- the words ask for this command
-pub of_command : (tells : Bool) (c : Contents) {asked : Result Command CommandFault} {k : Command} {o e : Bool} {ended : Cause} {s u : Seen} → asked ≡ Ok k → CarriesOut tells c o e (Ok k) ended s u → CarriesOut tells c o e asked ended s u
-of_command tells c {asked} {k} {o} {e} {ended} {s} {u} is p = let P : Result Command CommandFault → Type 0 = λ a. CarriesOut tells c o e a ended s u in subst P (sym is) p
+pub of_command : (tells : Bool) (c : Contents) (now : ℤ) {asked : Result Command CommandFault} {k : Command} {o e : Bool} {ended : Cause} {s u : Seen} → asked ≡ Ok k → CarriesOut tells c now o e (Ok k) ended s u → CarriesOut tells c now o e asked ended s u
+of_command tells c now {asked} {k} {o} {e} {ended} {s} {u} is p = let P : Result Command CommandFault → Type 0 = λ a. CarriesOut tells c now o e a ended s u in subst P (sym is) p
+
+-- the time under another name
+pub at_time : (tells : Bool) (c : Contents) {asked : Result Command CommandFault} {n m : ℤ} {o e : Bool} {ended : Cause} {s u : Seen} → n ≡ m → CarriesOut tells c n o e asked ended s u → CarriesOut tells c m o e asked ended s u
+at_time tells c {asked} {o = o} {e} {ended} {s} {u} is p = subst (λ x. CarriesOut tells c x o e asked ended s u) is p
 
 by_tree : (tells : Bool) → IsTrue tells ⊎ ⊥ → IsTrue tells
 by_tree tells (inl t) = t
 by_tree tells (inr none) = absurd none
 
 -- pg_rewind was carried out
-pub of_rewind : (tells : Bool) (c : Contents) {k : Command} {words : RewindWords} {o e : Bool} {ended : Cause} {s u : Seen} → k ≡ command.Rewind words
-    → Carries (IsTrue tells ⊎ IsTrue words.dry_run) (rewind_answer c words) IsRewind o e ended s u → CarriesOut tells c o e (Ok k) ended s u
-of_rewind tells c {o = o} {e} {ended} {s} {u} is p = let P : Command → Type 0 = λ x. CarriesOut tells c o e (Ok x) ended s u in subst P (sym is) (unseen_seen (inr (λ may. may)) p)
+pub of_rewind : (tells : Bool) (c : Contents) (now : ℤ) {k : Command} {words : RewindWords} {o e : Bool} {ended : Cause} {s u : Seen} → k ≡ command.Rewind words
+    → Carries (IsTrue tells ⊎ IsTrue words.dry_run) (rewind_answer c words) IsRewind o e ended s u → CarriesOut tells c now o e (Ok k) ended s u
+of_rewind tells c now {o = o} {e} {ended} {s} {u} is p = let P : Command → Type 0 = λ x. CarriesOut tells c now o e (Ok x) ended s u in subst P (sym is) (unseen_seen (inr (λ may. may)) p)
 
 -- pg_controldata was, whose words never decide alone
-pub of_controldata : (tells : Bool) (c : Contents) {k : Command} {words : ControldataWords} {o e : Bool} {ended : Cause} {s u : Seen} → k ≡ command.Controldata words
-    → Carries (IsTrue tells) (controldata_answer c words) IsControldata o e ended s u → CarriesOut tells c o e (Ok k) ended s u
-of_controldata tells c {o = o} {e} {ended} {s} {u} is p =
-    let P : Command → Type 0 = λ x. CarriesOut tells c o e (Ok x) ended s u in
+pub of_controldata : (tells : Bool) (c : Contents) (now : ℤ) {k : Command} {words : ControldataWords} {o e : Bool} {ended : Cause} {s u : Seen} → k ≡ command.Controldata words
+    → Carries (IsTrue tells) (controldata_answer c words) IsControldata o e ended s u → CarriesOut tells c now o e (Ok k) ended s u
+of_controldata tells c now {o = o} {e} {ended} {s} {u} is p =
+    let P : Command → Type 0 = λ x. CarriesOut tells c now o e (Ok x) ended s u in
     subst P (sym is) (unseen_known (by_tree tells) (unseen_seen (inr (λ may. may)) p))
 
 -- pg_waldump was
-pub of_waldump : (tells : Bool) (c : Contents) {k : Command} {words : WaldumpWords} {o e : Bool} {ended : Cause} {s u : Seen} → k ≡ command.Waldump words
-    → Carries (IsTrue tells ⊎ AskForList words) (waldump_answer c words) (IsWaldump words) o e ended s u → CarriesOut tells c o e (Ok k) ended s u
-of_waldump tells c {o = o} {e} {ended} {s} {u} is p = let P : Command → Type 0 = λ x. CarriesOut tells c o e (Ok x) ended s u in subst P (sym is) (unseen_seen (inr (λ may. may)) p)
+pub of_waldump : (tells : Bool) (c : Contents) (now : ℤ) {k : Command} {words : WaldumpWords} {o e : Bool} {ended : Cause} {s u : Seen} → k ≡ command.Waldump words
+    → Carries (IsTrue tells ⊎ AskForList words) (waldump_answer c words) (IsWaldump words) o e ended s u → CarriesOut tells c now o e (Ok k) ended s u
+of_waldump tells c now {o = o} {e} {ended} {s} {u} is p = let P : Command → Type 0 = λ x. CarriesOut tells c now o e (Ok x) ended s u in subst P (sym is) (unseen_seen (inr (λ may. may)) p)
 
 undried : (dry_run : Bool) → (IsTrue (not dry_run) → ⊥) → IsTrue dry_run
 undried true h = refl
@@ -89,10 +98,10 @@ dry_seen T words (inl t) = inl t
 dry_seen T words (inr dry) = inr (λ may. let same : true ≡ false = sym may ∙ ap not dry in cc same)
 
 -- it was carried out
-pub of_archivecleanup : (tells : Bool) (c : Contents) {k : Command} {words : ArchivecleanupWords} {o e : Bool} {ended : Cause} {s u : Seen} → k ≡ command.Archivecleanup words
-    → CarriesUnseen (IsTrue tells ⊎ IsTrue words.dry_run) (IsTrue tells) (archivecleanup_answer c words) (IsArchivecleanup words) o e ended s u → CarriesOut tells c o e (Ok k) ended s u
-of_archivecleanup tells c {words = words} {o} {e} {ended} {s} {u} is p =
-    let P : Command → Type 0 = λ x. CarriesOut tells c o e (Ok x) ended s u in
+pub of_archivecleanup : (tells : Bool) (c : Contents) (now : ℤ) {k : Command} {words : ArchivecleanupWords} {o e : Bool} {ended : Cause} {s u : Seen} → k ≡ command.Archivecleanup words
+    → CarriesUnseen (IsTrue tells ⊎ IsTrue words.dry_run) (IsTrue tells) (archivecleanup_answer c words) (IsArchivecleanup words) o e ended s u → CarriesOut tells c now o e (Ok k) ended s u
+of_archivecleanup tells c now {words = words} {o} {e} {ended} {s} {u} is p =
+    let P : Command → Type 0 = λ x. CarriesOut tells c now o e (Ok x) ended s u in
     subst P (sym is) (unseen_by (seen_dry (IsTrue tells) words) (dry_seen (IsTrue tells) words) (unseen_known (by_tree tells) p))
 
 -- it changes nothing in a dry run
@@ -106,11 +115,36 @@ wet dry_run is = ap not is
 pub wet_cleanup : {k : Command} {words : ArchivecleanupWords} → k ≡ command.Archivecleanup words → words.dry_run ≡ false → MayChange (Ok k)
 wet_cleanup {k} {words} is dry = let P : Command → Type 0 = λ x. MayChange (Ok x) in subst P (sym is) (wet words.dry_run dry)
 
+-- what pg_resetwal does is seen where the tree tells, and of a dry run
+seen_reset : (T : Type 0) (words : ResetwalWords) → IsSeen T (Ok (command.Resetwal words)) → T ⊎ IsTrue (is_some words.options.dry)
+seen_reset T words (inl t) = inl t
+seen_reset T words (inr none) = inr (undried (is_some words.options.dry) none)
+
+reset_seen : (T : Type 0) (words : ResetwalWords) → T ⊎ IsTrue (is_some words.options.dry) → IsSeen T (Ok (command.Resetwal words))
+reset_seen T words (inl t) = inl t
+reset_seen T words (inr dry) = inr (λ may. let same : true ≡ false = sym may ∙ ap not dry in cc same)
+
+-- it was carried out
+pub of_resetwal : (tells : Bool) (c : Contents) (now : ℤ) {k : Command} {words : ResetwalWords} {o e : Bool} {ended : Cause} {s u : Seen} → k ≡ command.Resetwal words
+    → CarriesUnseen (IsTrue tells ⊎ IsTrue (is_some words.options.dry)) (IsTrue tells) (resetwal_answer c words now) (IsResetwal words now) o e ended s u → CarriesOut tells c now o e (Ok k) ended s u
+of_resetwal tells c now {words = words} {o} {e} {ended} {s} {u} is p =
+    let P : Command → Type 0 = λ x. CarriesOut tells c now o e (Ok x) ended s u in
+    subst P (sym is) (unseen_by (seen_reset (IsTrue tells) words) (reset_seen (IsTrue tells) words) (unseen_known (by_tree tells) p))
+
+-- it changes nothing in a dry run
+pub dried_reset : {k : Command} {words : ResetwalWords} → k ≡ command.Resetwal words → (MayChange (Ok k) → ⊥) → IsTrue (is_some words.options.dry)
+dried_reset {k} {words} is none = undried (is_some words.options.dry) (let P : Command → Type 0 = λ x. MayChange (Ok x) → ⊥ in subst P is none)
+
+-- and may else
+pub wet_reset : {k : Command} {words : ResetwalWords} → k ≡ command.Resetwal words → is_some words.options.dry ≡ false → MayChange (Ok k)
+wet_reset {k} {words} is dry = let P : Command → Type 0 = λ x. MayChange (Ok x) in subst P (sym is) (wet (is_some words.options.dry) dry)
+
 -- what needs no tree changes nothing
 needless : (asked : Result Command CommandFault) → NeedsNoTree asked → MayChange asked → ⊥
 needless (Ok (command.Rewind words)) need may = may
 needless (Ok (command.Controldata words)) need may = may
 needless (Ok (command.Waldump words)) need may = may
+needless (Ok (command.Resetwal words)) need may = need
 needless (Ok (command.Archivecleanup words)) need may = need
 needless (Err e) need may = may
 
@@ -118,12 +152,12 @@ seen_by : (T : Type 0) (asked : Result Command CommandFault) → T ⊎ NeedsNoTr
 seen_by T asked (inl t) = inl t
 seen_by T asked (inr need) = inr (needless asked need)
 
-module _ (tells : Bool) (c : Contents) (asked : Result Command CommandFault) {o e : Bool} {k : List ChangeCall} {out err : Sunk} where
+module _ (tells : Bool) (c : Contents) (now : ℤ) (asked : Result Command CommandFault) {o e : Bool} {k : List ChangeCall} {out err : Sunk} where
   -- there was no memory for the words
-  pub no_words : CarriesOut tells c o e asked cause.OutOfMemory (seen c k out err) (seen c k out err)
-  no_words = unseen_still refl refl (λ d j. carries_fault (answered-form c asked) (answered-looks c asked) (inr refl) refl refl)
+  pub no_words : CarriesOut tells c now o e asked cause.OutOfMemory (seen c k out err) (seen c k out err)
+  no_words = unseen_still refl refl (λ d j. carries_fault (answered-form c now asked) (answered-looks c now asked) (inr refl) refl refl)
 
-  refuses : (f : CommandFault) → CarriesOut tells c o e (Err f) (words_cause f) (seen c k out err) (seen c k out err)
+  refuses : (f : CommandFault) → CarriesOut tells c now o e (Err f) (words_cause f) (seen c k out err) (seen c k out err)
   refuses fault.Usage = unseen_still refl refl (λ d j. carries_refused cause.Usage refl (λ h. refl) refl refl refl)
   refuses fault.NotBuilt = unseen_still refl refl (λ d j. carries_refused cause.NotBuilt refl (λ h. refl) refl refl refl)
   refuses fault.DotDot = unseen_still refl refl (λ d j. carries_refused (words_cause fault.DotDot) refl (λ h. refl) refl refl refl)
@@ -132,10 +166,10 @@ module _ (tells : Bool) (c : Contents) (asked : Result Command CommandFault) {o 
   refuses fault.OutOfMemory = unseen_still refl refl (λ d j. carries_fault refl tt (inr refl) refl refl)
 
   -- the words are refused
-  pub words_refused : (f : CommandFault) (why : Cause) → why ≡ words_cause f → (f ≡ fault.OutOfMemory) ⊎ (asked ≡ Err f) → CarriesOut tells c o e asked why (seen c k out err) (seen c k out err)
+  pub words_refused : (f : CommandFault) (why : Cause) → why ≡ words_cause f → (f ≡ fault.OutOfMemory) ⊎ (asked ≡ Err f) → CarriesOut tells c now o e asked why (seen c k out err) (seen c k out err)
   words_refused f why is (inl m) = unseen_told (is ∙ ap words_cause m) no_words
   words_refused f why is (inr r) =
-      let P : Result Command CommandFault → Type 0 = λ a. CarriesOut tells c o e a why (seen c k out err) (seen c k out err) in
+      let P : Result Command CommandFault → Type 0 = λ a. CarriesOut tells c now o e a why (seen c k out err) (seen c k out err) in
       subst P (sym r) (unseen_told is (refuses f))
 
 -- why the words are refused is what they decide alone
@@ -144,10 +178,10 @@ refused_alone f asked (inl m) e is = inr (ap words_cause m)
 refused_alone f asked (inr r) e is = let same : Some (words_cause f) ≡ Some e = sym (ap refused_by_words r) ∙ is in inl (cc same)
 
 -- the cause that is told is the outcome, or want of memory for its line
-pub exact_told : (tells : Bool) (c : Contents) (asked : Result Command CommandFault) {o e : Bool} {outcome own ended : Cause} {s u : Seen} → own ≡ outcome → (ended ≡ own) ⊎ (IsTrue (has_values own) × (ended ≡ cause.OutOfMemory))
-    → CarriesOut tells c o e asked outcome s u → IsTrue tells ⊎ NeedsNoTree asked → IsFree ended ⊎ (ended ≡ cause_in (answered c asked).refusal)
-exact_told tells c asked {o} {e} {outcome} {own} {ended} {s} {u} same (inl is) p h = carries_exact h (carries_told (is ∙ same) (seen_of (seen_by (IsTrue tells) asked h) p))
-exact_told tells c asked same (inr m) p h = inl (inr (inr (inr m.1)))
+pub exact_told : (tells : Bool) (c : Contents) (now : ℤ) (asked : Result Command CommandFault) {o e : Bool} {outcome own ended : Cause} {s u : Seen} → own ≡ outcome → (ended ≡ own) ⊎ (IsTrue (has_values own) × (ended ≡ cause.OutOfMemory))
+    → CarriesOut tells c now o e asked outcome s u → IsTrue tells ⊎ NeedsNoTree asked → IsFree ended ⊎ (ended ≡ cause_in (answered c now asked).refusal)
+exact_told tells c now asked {o} {e} {outcome} {own} {ended} {s} {u} same (inl is) p h = carries_exact h (carries_told (is ∙ same) (seen_of (seen_by (IsTrue tells) asked h) p))
+exact_told tells c now asked same (inr m) p h = inl (inr (inr (inr m.1)))
 
 -- a line that is made in memory, where there was none, has values
 pub values_of : (b : Bool) → (b ≡ false → ⊥) → b ≡ true

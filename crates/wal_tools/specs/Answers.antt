@@ -1,5 +1,5 @@
 -- What each command does about its words, act by act; each has a room of its own.
-use Rattle.std.specs.Prelude.{◌≡◌, Result, Ok, Err}
+use Rattle.std.specs.Prelude.{◌≡◌, ℤ, Result, Ok, Err}
 use Rattle.cluster_tree.specs.Contents.{Contents}
 use Rattle.commands.specs.declared.command.Command.{Command}
 use Rattle.commands.specs.declared.command.Command.TheVariants as command
@@ -7,22 +7,25 @@ use Rattle.commands.specs.declared.fault.CommandFault.{CommandFault}
 use Rattle.run_acts.specs.Answers.{Answer, refused}
 use Rattle.cmd_archivecleanup.specs.Archivecleanup.{IsArchivecleanup, archivecleanup_answer}
 use Rattle.cmd_controldata.specs.Controldata.{IsControldata, controldata_answer}
+use Rattle.cmd_resetwal.specs.Resetwal.{IsResetwal, resetwal_answer}
 use Rattle.cmd_rewind.specs.Rewind.{IsRewind, rewind_answer}
 use Rattle.cmd_waldump.specs.Waldump.{IsWaldump, waldump_answer}
 use Rattle.wal_tools.specs.Words.{words_cause}
 
--- what is done about the words, from the contents
-abbrev pub answered : Contents → Result Command CommandFault → Answer
-answered c (Ok (command.Rewind words)) = rewind_answer c words
-answered c (Ok (command.Controldata words)) = controldata_answer c words
-answered c (Ok (command.Waldump words)) = waldump_answer c words
-answered c (Ok (command.Archivecleanup words)) = archivecleanup_answer c words
-answered c (Err e) = refused (words_cause e)
+-- what is done about the words, from the contents and the time in seconds since 1970
+abbrev pub answered : Contents → ℤ → Result Command CommandFault → Answer
+answered c now (Ok (command.Rewind words)) = rewind_answer c words
+answered c now (Ok (command.Controldata words)) = controldata_answer c words
+answered c now (Ok (command.Waldump words)) = waldump_answer c words
+answered c now (Ok (command.Resetwal words)) = resetwal_answer c words now
+answered c now (Ok (command.Archivecleanup words)) = archivecleanup_answer c words
+answered c now (Err e) = refused (words_cause e)
 
 -- what the command may do over any tree
-abbrev pub IsAnswer : Result Command CommandFault → Answer → Type 0
-IsAnswer (Ok (command.Rewind words)) answer = IsRewind answer
-IsAnswer (Ok (command.Controldata words)) answer = IsControldata answer
-IsAnswer (Ok (command.Waldump words)) answer = IsWaldump words answer
-IsAnswer (Ok (command.Archivecleanup words)) answer = IsArchivecleanup words answer
-IsAnswer (Err e) answer = answer ≡ refused (words_cause e)
+abbrev pub IsAnswer : ℤ → Result Command CommandFault → Answer → Type 0
+IsAnswer now (Ok (command.Rewind words)) answer = IsRewind answer
+IsAnswer now (Ok (command.Controldata words)) answer = IsControldata answer
+IsAnswer now (Ok (command.Waldump words)) answer = IsWaldump words answer
+IsAnswer now (Ok (command.Resetwal words)) answer = IsResetwal words now answer
+IsAnswer now (Ok (command.Archivecleanup words)) answer = IsArchivecleanup words answer
+IsAnswer now (Err e) answer = answer ≡ refused (words_cause e)

@@ -1,5 +1,5 @@
--- What the words alone decide, whatever files there are: PostgreSQL 16 manual, reference pages of pg_rewind, pg_controldata, pg_waldump and pg_archivecleanup.
-use Rattle.std.specs.Prelude.{◌≡◌, ◌⊎◌, IsTrue, not, if◌then◌else◌, Option, None, Some, Result, Ok, Err}
+-- What the words alone decide, whatever files there are: PostgreSQL 16 manual, reference pages of pg_rewind, pg_controldata, pg_waldump, pg_resetwal and pg_archivecleanup.
+use Rattle.std.specs.Prelude.{◌≡◌, ◌⊎◌, IsTrue, not, is_some, if◌then◌else◌, Option, None, Some, Result, Ok, Err}
 use Rattle.commands.specs.declared.command.Command.{Command}
 use Rattle.commands.specs.declared.command.Command.TheVariants as command
 use Rattle.commands.specs.declared.fault.CommandFault.{CommandFault}
@@ -23,6 +23,7 @@ abbrev pub refused_by_words : Result Command CommandFault → Option Cause
 refused_by_words (Ok (command.Rewind words)) = if words.dry_run then Some cause.NotBuilt else None
 refused_by_words (Ok (command.Controldata words)) = None
 refused_by_words (Ok (command.Waldump words)) = None
+refused_by_words (Ok (command.Resetwal words)) = None
 refused_by_words (Ok (command.Archivecleanup words)) = None
 refused_by_words (Err e) = Some (words_cause e)
 
@@ -31,6 +32,7 @@ abbrev pub AreFaulty : Result Command CommandFault → Type 0
 AreFaulty (Ok (command.Rewind words)) = ⊥
 AreFaulty (Ok (command.Controldata words)) = ⊥
 AreFaulty (Ok (command.Waldump words)) = BreakRule words
+AreFaulty (Ok (command.Resetwal words)) = ⊥
 AreFaulty (Ok (command.Archivecleanup words)) = ⊥
 AreFaulty (Err e) = e ≡ fault.Usage
 
@@ -39,14 +41,16 @@ abbrev pub NeedsNoTree : Result Command CommandFault → Type 0
 NeedsNoTree (Ok (command.Rewind words)) = IsTrue words.dry_run
 NeedsNoTree (Ok (command.Controldata words)) = ⊥
 NeedsNoTree (Ok (command.Waldump words)) = AskForList words
+NeedsNoTree (Ok (command.Resetwal words)) = ⊥
 NeedsNoTree (Ok (command.Archivecleanup words)) = ⊥
 NeedsNoTree (Err e) = Unit {0}
 
--- a command that may make changing calls: pg_archivecleanup, but for a dry run
+-- a command that may make changing calls: pg_resetwal and pg_archivecleanup, but for a dry run
 abbrev pub MayChange : Result Command CommandFault → Type 0
 MayChange (Ok (command.Rewind words)) = ⊥
 MayChange (Ok (command.Controldata words)) = ⊥
 MayChange (Ok (command.Waldump words)) = ⊥
+MayChange (Ok (command.Resetwal words)) = IsTrue (not (is_some words.options.dry))
 MayChange (Ok (command.Archivecleanup words)) = IsTrue (not words.dry_run)
 MayChange (Err e) = ⊥
 

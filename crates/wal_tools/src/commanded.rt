@@ -13,6 +13,7 @@ ghost use Rattle.wal_tools.specs.Words.{AreFaulty, IsSeen, MayChange, NeedsNoTre
 use cluster_tree::{Sink, Tree};
 use cmd_archivecleanup::archivecleanup;
 use cmd_controldata::controldata;
+use cmd_resetwal::resetwal;
 use cmd_rewind::rewind;
 use cmd_waldump::waldump;
 use commands::Command;
@@ -31,8 +32,8 @@ pub(crate) fn carry_out<F: Tree, O: Sink, E: Sink>(
     requires { IsFit command.now }
     ensures carries { CarriesUnseen (IsSeen (IsTrue F.tells) (Ok command.now))
         (IsTrue F.tells ⊎ NeedsNoTree (Ok command.now))
-        (answered (F.contents tree.old) (Ok command.now)) (IsAnswer (Ok command.now)) O.tells E.tells
-        (cause_of result)
+        (answered (F.contents tree.old) now (Ok command.now)) (IsAnswer now (Ok command.now))
+        O.tells E.tells (cause_of result)
         (seen (F.contents tree.old) (F.calls tree.old)
         (sunk (O.written out.old) (O.failed_writes out.old))
         (sunk (E.written err.old) (E.failed_writes err.old)))
@@ -57,6 +58,7 @@ pub(crate) fn carry_out<F: Tree, O: Sink, E: Sink>(
         Command::Rewind(words) => rewind(alloc, tree, err, words, now),
         Command::Controldata(words) => controldata(alloc, tree, out, words),
         Command::Waldump(words) => waldump(alloc, tree, out, words),
+        Command::Resetwal(words) => resetwal(alloc, tree, out, words, now),
         Command::Archivecleanup(words) => archivecleanup(alloc, tree, out, err, words),
     }
 }

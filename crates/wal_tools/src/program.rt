@@ -33,8 +33,8 @@ fn answer<F: Tree, O: Sink, E: Sink>(
     ensures carries { CarriesUnseen
         (IsSeen (IsTrue F.tells) (command_of (map string_bytes words.now)))
         (IsTrue F.tells ⊎ NeedsNoTree (command_of (map string_bytes words.now)))
-        (answered (F.contents tree.old) (command_of (map string_bytes words.now)))
-        (IsAnswer (command_of (map string_bytes words.now))) O.tells E.tells (cause_of result)
+        (answered (F.contents tree.old) now (command_of (map string_bytes words.now)))
+        (IsAnswer now (command_of (map string_bytes words.now))) O.tells E.tells (cause_of result)
         (seen (F.contents tree.old) (F.calls tree.old)
         (sunk (O.written out.old) (O.failed_writes out.old))
         (sunk (E.written err.old) (E.failed_writes err.old)))
@@ -92,13 +92,13 @@ pub fn run<F: Tree, O: Sink, E: Sink>(
     ensures status { result.status ≡ status_of result.cause }
     // the cause is that of the words and the contents, a fault of a device, or want of memory
     ensures exact { IsTrue F.tells ⊎ NeedsNoTree (command_of (map string_bytes words.now)) →
-        IsFree result.cause ⊎ (result.cause ≡ cause_in (answered (F.contents tree.old)
+        IsFree result.cause ⊎ (result.cause ≡ cause_in (answered (F.contents tree.old) now
         (command_of (map string_bytes words.now))).refusal) }
     // the acts of the command, in order, as far as they came, and then the line of the cause
     ensures runs { Runs (IsSeen (IsTrue F.tells) (command_of (map string_bytes words.now)))
         (IsTrue F.tells ⊎ NeedsNoTree (command_of (map string_bytes words.now)))
-        (answered (F.contents tree.old) (command_of (map string_bytes words.now)))
-        (IsAnswer (command_of (map string_bytes words.now))) O.tells E.tells result.cause
+        (answered (F.contents tree.old) now (command_of (map string_bytes words.now)))
+        (IsAnswer now (command_of (map string_bytes words.now))) O.tells E.tells result.cause
         (line_of (name_of (map string_bytes words.now)) result.cause)
         (seen (F.contents tree.old) (F.calls tree.old)
         (sunk (O.written out.old) (O.failed_writes out.old))

@@ -1,20 +1,22 @@
+use Rattle.std.proofs.Common.{FitsSigned, rules, w64}
+use Rattle.std.proofs.lemmas.Int.{to_z-of_z}
 use Rattle.acts.specs.Acts.{sunk}
-use Rattle.wal_tools.proofs.RunLemmas.{dried_cleanup, of_archivecleanup, of_controldata, of_rewind, of_waldump}
+use Rattle.wal_tools.proofs.RunLemmas.{at_time, dried_cleanup, dried_reset, of_archivecleanup, of_controldata, of_resetwal, of_rewind, of_waldump}
 use Rattle.wal_tools.proofs.commanded.carry_out.Goals as goal
 
 pub returns-in-Rewind-clause-carries : goal.returns-in-Rewind-clause-carries
 returns-in-Rewind-clause-carries g c =
-    of_rewind g.F.Tree.tells (g.F.Tree.contents c.args.tree.now) c.in-Rewind.is
+    of_rewind g.F.Tree.tells (g.F.Tree.contents c.args.tree.now) c.args.now c.in-Rewind.is
     (c.rewind.ensures.carries g.O.Sink.tells (sunk (g.O.Sink.written c.args.out.now) (g.O.Sink.failed_writes c.args.out.now)))
 
 pub returns-in-Controldata-clause-carries : goal.returns-in-Controldata-clause-carries
 returns-in-Controldata-clause-carries g c =
-    of_controldata g.F.Tree.tells (g.F.Tree.contents c.args.tree.now) c.in-Controldata.is
+    of_controldata g.F.Tree.tells (g.F.Tree.contents c.args.tree.now) c.args.now c.in-Controldata.is
     (c.controldata.ensures.carries g.E.Sink.tells (sunk (g.E.Sink.written c.args.err.now) (g.E.Sink.failed_writes c.args.err.now)))
 
 pub returns-in-Waldump-clause-carries : goal.returns-in-Waldump-clause-carries
 returns-in-Waldump-clause-carries g c =
-    of_waldump g.F.Tree.tells (g.F.Tree.contents c.args.tree.now) c.in-Waldump.is
+    of_waldump g.F.Tree.tells (g.F.Tree.contents c.args.tree.now) c.args.now c.in-Waldump.is
     (c.waldump.ensures.carries g.E.Sink.tells (sunk (g.E.Sink.written c.args.err.now) (g.E.Sink.failed_writes c.args.err.now)))
 
 pub returns-in-Rewind-clause-blames : goal.returns-in-Rewind-clause-blames
@@ -26,9 +28,22 @@ returns-in-Controldata-clause-blames g c = c.controldata.ensures.blames (g.E.Sin
 pub returns-in-Waldump-clause-blames : goal.returns-in-Waldump-clause-blames
 returns-in-Waldump-clause-blames g c = c.waldump.ensures.blames (g.E.Sink.failed_writes c.args.err.now)
 
+pub returns-in-Resetwal-clause-carries : goal.returns-in-Resetwal-clause-carries
+returns-in-Resetwal-clause-carries g c =
+    let fits : FitsSigned w64 c.args.now = search rules in
+    at_time g.F.Tree.tells (g.F.Tree.contents c.args.tree.now) (to_z-of_z w64 c.args.now fits)
+    (of_resetwal g.F.Tree.tells (g.F.Tree.contents c.args.tree.now) _ c.in-Resetwal.is
+    (c.resetwal.ensures.carries g.E.Sink.tells (sunk (g.E.Sink.written c.args.err.now) (g.E.Sink.failed_writes c.args.err.now))))
+
+pub returns-in-Resetwal-clause-blames : goal.returns-in-Resetwal-clause-blames
+returns-in-Resetwal-clause-blames g c = c.resetwal.ensures.blames (g.E.Sink.failed_writes c.args.err.now)
+
+pub returns-in-Resetwal-clause-reads : goal.returns-in-Resetwal-clause-reads
+returns-in-Resetwal-clause-reads g c none = c.resetwal.ensures.reads (dried_reset c.in-Resetwal.is none)
+
 pub returns-in-Archivecleanup-clause-carries : goal.returns-in-Archivecleanup-clause-carries
 returns-in-Archivecleanup-clause-carries g c =
-    of_archivecleanup g.F.Tree.tells (g.F.Tree.contents c.args.tree.now) c.in-Archivecleanup.is
+    of_archivecleanup g.F.Tree.tells (g.F.Tree.contents c.args.tree.now) c.args.now c.in-Archivecleanup.is
     c.archivecleanup.ensures.carries
 
 pub returns-in-Archivecleanup-clause-reads : goal.returns-in-Archivecleanup-clause-reads

@@ -1,13 +1,17 @@
-use Rattle.std.proofs.Common.{map, string_bytes}
+use Rattle.std.proofs.Common.{FitsSigned, map, rules, string_bytes, w64}
+use Rattle.std.proofs.lemmas.Int.{to_z-of_z}
 use Rattle.tool_words.specs.Command.{command_of}
-use Rattle.wal_tools.proofs.RunLemmas.{no_words, of_command, words_refused}
+use Rattle.wal_tools.proofs.RunLemmas.{at_time, no_words, of_command, words_refused}
 use Rattle.wal_tools.proofs.program.answer.Goals as goal
 
 pub returns-in-Ok-clause-carries : goal.returns-in-Ok-clause-carries
-returns-in-Ok-clause-carries g c = of_command g.F.Tree.tells (g.F.Tree.contents c.args.tree.now) c.in-Ok.ensures.answer c.carry_out.ensures.carries
+returns-in-Ok-clause-carries g c =
+    let fits : FitsSigned w64 c.args.now = search rules in
+    of_command g.F.Tree.tells (g.F.Tree.contents c.args.tree.now) c.args.now c.in-Ok.ensures.answer
+    (at_time g.F.Tree.tells (g.F.Tree.contents c.args.tree.now) (to_z-of_z w64 c.args.now fits) c.carry_out.ensures.carries)
 
 pub returns-in-Err-OutOfMemory-clause-carries : goal.returns-in-Err-OutOfMemory-clause-carries
-returns-in-Err-OutOfMemory-clause-carries g c = no_words g.F.Tree.tells (g.F.Tree.contents c.args.tree.now) (command_of (map string_bytes c.args.words.now))
+returns-in-Err-OutOfMemory-clause-carries g c = no_words g.F.Tree.tells (g.F.Tree.contents c.args.tree.now) c.args.now (command_of (map string_bytes c.args.words.now))
 
 pub returns-in-Err-clause-carries : goal.returns-in-Err-clause-carries
-returns-in-Err-clause-carries g c = words_refused g.F.Tree.tells (g.F.Tree.contents c.args.tree.now) (command_of (map string_bytes c.args.words.now)) c.in-Err.fault c.words_cause.result c.words_cause.ensures c.in-Err.ensures.answer
+returns-in-Err-clause-carries g c = words_refused g.F.Tree.tells (g.F.Tree.contents c.args.tree.now) c.args.now (command_of (map string_bytes c.args.words.now)) c.in-Err.fault c.words_cause.result c.words_cause.ensures c.in-Err.ensures.answer

@@ -1,23 +1,28 @@
-use Rattle.std.proofs.Common.{map, refl, string_bytes, subst}
+use Rattle.std.proofs.Common.{FitsSigned, map, refl, rules, string_bytes, subst, w64}
+use Rattle.std.proofs.lemmas.Int.{to_z-of_z}
 use Rattle.acts.specs.Acts.{seen, sunk}
 use Rattle.run_acts.proofs.UnseenSteps.{unseen_grow, unseen_told}
 use Rattle.tool_words.specs.Command.{command_of}
 use Rattle.cause_lines.specs.Lines.{line_of}
 use Rattle.wal_tools.specs.Runs.{Says}
-use Rattle.wal_tools.proofs.RunLemmas.{exact_told}
+use Rattle.wal_tools.proofs.RunLemmas.{at_time, exact_told}
 use Rattle.wal_tools.proofs.program.run.Goals as goal
 
 pub returns-clause-exact : goal.returns-clause-exact
 returns-clause-exact g c h =
-    exact_told g.F.Tree.tells (g.F.Tree.contents c.args.tree.now) (command_of (map string_bytes c.args.words.now)) c.cause_of.ensures c.finish.ensures.cause c.answer-outcome.ensures.carries h
+    let fits : FitsSigned w64 c.args.now = search rules in
+    exact_told g.F.Tree.tells (g.F.Tree.contents c.args.tree.now) c.args.now (command_of (map string_bytes c.args.words.now)) c.cause_of.ensures c.finish.ensures.cause
+    (at_time g.F.Tree.tells (g.F.Tree.contents c.args.tree.now) (to_z-of_z w64 c.args.now fits) c.answer-outcome.ensures.carries) h
 
 pub returns-clause-runs : goal.returns-clause-runs
-returns-clause-runs g c = record {
+returns-clause-runs g c =
+  let fits : FitsSigned w64 c.args.now = search rules in
+  record {
   outcome = c.cause_of.result;
   told = seen (g.F.Tree.contents c.answer-outcome.new.tree) (g.F.Tree.calls c.answer-outcome.new.tree)
       (sunk (g.O.Sink.written c.answer-outcome.new.out) (g.O.Sink.failed_writes c.answer-outcome.new.out))
       (sunk (g.E.Sink.written c.answer-outcome.new.err) (g.E.Sink.failed_writes c.answer-outcome.new.err));
-  acts = unseen_told c.cause_of.ensures c.answer-outcome.ensures.carries;
+  acts = unseen_told c.cause_of.ensures (at_time g.F.Tree.tells (g.F.Tree.contents c.args.tree.now) (to_z-of_z w64 c.args.now fits) c.answer-outcome.ensures.carries);
   out = (unseen_grow c.answer-outcome.ensures.carries).0;
   err = (unseen_grow c.answer-outcome.ensures.carries).1;
   cause = c.finish.ensures.cause;

@@ -1,0 +1,4 @@
+pub mod MeantLemmas
+pub mod FormLemmas
+pub mod MadeLemmas
+pub mod CarryLemmas

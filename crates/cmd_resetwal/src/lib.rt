@@ -1,0 +1,7 @@
+//! pg_resetwal.
+#![tactic(auto)]
+
+mod causes;
+mod resets;
+
+pub use resets::resetwal;
