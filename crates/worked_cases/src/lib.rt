@@ -25,4 +25,10 @@ mod own;
 #[cfg(test)]
 mod records;
 #[cfg(test)]
+mod reset_refusals;
+#[cfg(test)]
+mod reset_words;
+#[cfg(test)]
+mod resets;
+#[cfg(test)]
 mod words;

@@ -68,8 +68,8 @@ status 1
 run pg_controldata t/..
 err pg_controldata: error: DotDot
 status 1
-run pg_resetwal t
-err pg_resetwal: error: NotBuilt
+run pg_resetwal
+err pg_resetwal: error: Usage
 status 1
 run pg_archivecleanup
 err pg_archivecleanup: error: Usage

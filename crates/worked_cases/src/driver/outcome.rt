@@ -2,7 +2,7 @@
 use super::asked::Asked;
 use super::bad_line::BadLine;
 use super::told::Told;
-use cluster_tree::{ChangeCall, FailPlan, FailingTree, MemorySink, MemoryTree};
+use cluster_tree::{ChangeCall, FailPlan, FailingTree, MemorySink, MemoryTree, Path};
 use std::alloc::Global;
 use wal_tools::run;
 
@@ -47,15 +47,88 @@ fn call_line(alloc: Global, call: &ChangeCall) -> Result<String, BadLine> {
     })
 }
 
-// The changing calls from this one on, a line each.
+// Writes to one file that lie next to each other, as one line.
+#[derive(Drop)]
+struct Writes {
+    path: String,
+    at: u64,
+    end: u64,
+}
+
+impl Writes {
+    fn of(alloc: Global, path: &Path, at: u64, count: u64) -> Result<Writes, BadLine> {
+        let path = format!(in alloc; "{path}")?;
+        let end = at.saturating_add(count);
+        Ok(Writes { path, at, end })
+    }
+
+    fn line(&self, alloc: Global) -> Result<String, BadLine> {
+        let path = self.path.as_str();
+        let at = self.at;
+        let count = self.end.saturating_sub(at);
+        Ok(format!(in alloc; "write {path} {at} {count}\n")?)
+    }
+
+    // Whether these others go on where these end.
+    fn go_on(&self, others: &Writes) -> bool {
+        self.path.as_str() == others.path.as_str() && self.end == others.at
+    }
+}
+
+// The changing calls, a line each, but one line for writes that lie next to each other.
+#[derive(Drop)]
+struct Calls {
+    alloc: Global,
+    lines: String,
+    writes: Option<Writes>,
+}
+
+impl Calls {
+    // Ends the line of the writes so far.
+    fn end_writes(&mut self) -> Result<(), BadLine> {
+        if let Some(writes) = self.writes.take() {
+            self.lines.push_str(&writes.line(self.alloc)?)?;
+        }
+        Ok(())
+    }
+
+    fn add_writes(&mut self, more: Writes) -> Result<(), BadLine> {
+        match &mut self.writes {
+            Some(writes) if writes.go_on(&more) => {
+                writes.end = more.end;
+                return Ok(());
+            }
+            _ => {}
+        }
+        self.end_writes()?;
+        self.writes = Some(more);
+        Ok(())
+    }
+
+    fn add(&mut self, call: &ChangeCall) -> Result<(), BadLine> {
+        if let ChangeCall::Write(path, at, count) = call {
+            return self.add_writes(Writes::of(self.alloc, path, *at, *count)?);
+        }
+        self.end_writes()?;
+        self.lines.push_str(&call_line(self.alloc, call)?)?;
+        Ok(())
+    }
+}
+
+// The changing calls from this one on.
 fn calls_from(alloc: Global, tree: &MemoryTree, first: usize) -> Result<String, BadLine> {
-    let mut lines = String::new(alloc);
+    let mut calls = Calls {
+        alloc,
+        lines: String::new(alloc),
+        writes: None,
+    };
     for at in first..tree.changes() {
         if let Some(call) = tree.change(at) {
-            lines.push_str(&call_line(alloc, call)?)?;
+            calls.add(call)?;
         }
     }
-    Ok(lines)
+    calls.end_writes()?;
+    Ok(calls.lines)
 }
 
 // Whether one of the lines of these bytes is this one.
