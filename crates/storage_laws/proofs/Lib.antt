@@ -1,0 +1,14 @@
+pub mod NumberLemmas
+pub mod WholeLemmas
+pub mod FileLemmas
+pub mod EditedLemmas
+pub mod PutLemmas
+pub mod SweepLemmas
+pub mod CutLemmas
+pub mod LengthLemmas
+pub mod MapLemmas
+pub mod DatabaseLemmas
+pub mod ForkLemmas
+pub mod TruncateLemmas
+pub mod GapLemmas
+pub mod NameLemmas

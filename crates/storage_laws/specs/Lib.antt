@@ -1,0 +1,11 @@
+pub mod Names
+pub mod States
+pub mod Forks
+pub mod After
+pub mod WrittenLaws
+pub mod CutLaws
+pub mod ChangeLaws
+pub mod DatabaseLaws
+pub mod LengthLaws
+pub mod GapLaws
+pub mod FileLaws
