@@ -27,6 +27,7 @@ use Rattle.storage_laws.specs.Names.{IsBlock, is_in_database, is_shared}
 use Rattle.storage_laws.specs.States.{whole_block, block_in}
 use Rattle.storage_laws.proofs.EditedLemmas.{bytes-elsewhere, given-done}
 use Rattle.storage_laws.proofs.FileLemmas.{file-named, named-same, number-same}
+use Rattle.storage_laws.proofs.TreeLemmas.{database-dropped_tree}
 use Rattle.storage_laws.proofs.NumberLemmas.{by_test, eq-is, eq-yes, file-least}
 use Rattle.storage_laws.proofs.CutLemmas.{no-block}
 
@@ -97,14 +98,14 @@ held_database root rel database name small few h =
     by true e = absurd cc
     by false e = eq-yes rel.database database (number-same rel.database database small few e)
 
-pub database-dropped-is : (root : PathValue) (per database : ℕ) (other : BlockName) (c d : Contents) → 0 < per → IsBlock other → database < 2 ^ 32 → IsTree d → database_dropped root database c ≡ Ok d → block_in root per other d ≡ database_dropped_state database other (block_in root per other c)
+pub database-dropped-is : (root : PathValue) (per database : ℕ) (other : BlockName) (c d : Contents) → 0 < per → IsBlock other → database < 2 ^ 32 → IsTree c → database_dropped root database c ≡ Ok d → block_in root per other d ≡ database_dropped_state database other (block_in root per other c)
 database-dropped-is root per database other c d some few low tree made =
     let q : PathValue = relation_file root other.rel other.fork (other.block / per) in
     let name = name_of other.rel.relation other.fork (other.block / per) in
     let old = block_in root per other c in
     by_test (is_in_database database other.rel)
     (λ so.
-    no-block (other.block % per) (bytes_at d q) (ap bytes_in (tree-empty (database_folder root database) c d q tree (omega (arith, length-append root.parts (database_parts database))) made (held_inside root other.rel database name so)))
+    no-block (other.block % per) (bytes_at d q) (ap bytes_in (tree-empty (database_folder root database) c d q (database-dropped_tree root database c d tree made) (omega (arith, length-append root.parts (database_parts database))) made (held_inside root other.rel database name so)))
     ∙ sym (ap (λ t. if t then None else old) so))
     (λ else_so.
     ap (λ o. whole_block (other.block % per) (bytes_in o)) (tree-elsewhere (database_folder root database) c d q made

@@ -114,7 +114,7 @@ made-gaps root per database of fork c d some few made = gapless-alike root per o
 pub map-written-gaps : (root : PathValue) (per : ℕ) (update : Option RelMapUpdate) (of : RelName) (fork : Fork) (c d : Contents) → 0 < per → IsRel of → map_written root update c ≡ Ok d → HasNoGap root per of fork c → HasNoGap root per of fork d
 map-written-gaps root per update of fork c d some few made = gapless-alike root per of fork c d (λ b l. ap is_some (map-written-is root per update (block_of of fork b) c d some (record { rel = few; block = l }) made))
 
-pub database-dropped-gaps : (root : PathValue) (per database : ℕ) (of : RelName) (fork : Fork) (c d : Contents) → 0 < per → IsRel of → database < 2 ^ 32 → IsTree d → database_dropped root database c ≡ Ok d → HasNoGap root per of fork c → HasNoGap root per of fork d
+pub database-dropped-gaps : (root : PathValue) (per database : ℕ) (of : RelName) (fork : Fork) (c d : Contents) → 0 < per → IsRel of → database < 2 ^ 32 → IsTree c → database_dropped root database c ≡ Ok d → HasNoGap root per of fork c → HasNoGap root per of fork d
 database-dropped-gaps root per database of fork c d some few low tree made =
     falls_gapless root per of fork (database_dropped_state database) c d few
     (record { was = λ b o h. (gone_or (is_in_database database of) o h).1; stays = λ b n o p l h there. kept_or (is_in_database database of) o (gone_or (is_in_database database of) p h).0 there })

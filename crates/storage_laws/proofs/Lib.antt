@@ -12,3 +12,4 @@ pub mod ForkLemmas
 pub mod TruncateLemmas
 pub mod GapLemmas
 pub mod NameLemmas
+pub mod TreeLemmas

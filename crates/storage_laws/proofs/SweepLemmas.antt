@@ -13,7 +13,7 @@ use Rattle.cluster_tree.specs.Causes.{given}
 use Rattle.cluster_tree.specs.Contents.{Contents, Entry, FolderEntry, FileEntry, LinkEntry, IsTree, entry_at, is_folder, or_root, parent}
 use Rattle.cluster_tree.specs.Folders.{names_in}
 use Rattle.cluster_tree.specs.Tree.{bytes_in, bytes_at}
-use Rattle.cluster_tree.proofs.ContentsLemmas.{entry-put, entry-put_other}
+use Rattle.cluster_tree.proofs.ContentsLemmas.{entry-put}
 use Rattle.cluster_tree.proofs.FolderLemmas.{lies_in-below}
 use Rattle.cluster_tree.proofs.NamesLemmas.{names_listing}
 use Rattle.cluster_tree.proofs.OrderLemmas.{path_eq-same}

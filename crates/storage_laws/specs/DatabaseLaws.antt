@@ -19,7 +19,7 @@ MadeBlocks = (root : PathValue) (per_file database : ℕ) (other : BlockName) (c
 -- of a database that is dropped no block is there; every other block is what it was
 abbrev pub DatabaseDroppedBlocks : Type 0
 DatabaseDroppedBlocks = (root : PathValue) (per_file database : ℕ) (other : BlockName) (c d : Contents)
-    → 0 < per_file → IsBlock other → database < 2 ^ 32 → IsTree d → database_dropped root database c ≡ Ok d
+    → 0 < per_file → IsBlock other → database < 2 ^ 32 → IsTree c → database_dropped root database c ≡ Ok d
     → block_in root per_file other d ≡ database_dropped_state database other (block_in root per_file other c)
 
 -- a relation map is no block

@@ -48,7 +48,7 @@ MadeGaps = (root : PathValue) (per_file database : ℕ) (of : RelName) (fork : F
 
 abbrev pub DatabaseDroppedGaps : Type 0
 DatabaseDroppedGaps = (root : PathValue) (per_file database : ℕ) (of : RelName) (fork : Fork) (c d : Contents)
-    → 0 < per_file → IsRel of → database < 2 ^ 32 → IsTree d → database_dropped root database c ≡ Ok d → KeepsNoGap root per_file of fork c d
+    → 0 < per_file → IsRel of → database < 2 ^ 32 → IsTree c → database_dropped root database c ≡ Ok d → KeepsNoGap root per_file of fork c d
 
 abbrev pub MapWrittenGaps : Type 0
 MapWrittenGaps = (root : PathValue) (per_file : ℕ) (update : Option RelMapUpdate) (of : RelName) (fork : Fork) (c d : Contents)

@@ -9,3 +9,4 @@ pub mod DatabaseLaws
 pub mod LengthLaws
 pub mod GapLaws
 pub mod FileLaws
+pub mod TreeLaws

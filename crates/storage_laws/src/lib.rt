@@ -7,6 +7,7 @@ mod databases;
 mod files;
 mod gaps;
 mod lengths;
+mod trees;
 mod written;
 
 pub use changes::change_laws;
@@ -15,4 +16,5 @@ pub use databases::database_laws;
 pub use files::file_laws;
 pub use gaps::gap_laws;
 pub use lengths::length_laws;
+pub use trees::tree_laws;
 pub use written::written_laws;
