@@ -1,141 +1,72 @@
 // Which files go, worked by hand from the wrapped difference of pages, and from the files of members.
-use crate::calls::Call::Cut;
+use crate::areas::AreaCall::Cut;
+use crate::calls::Call::Slru;
 use crate::rows::{Row, first_wrong};
-use crate::trees::Had::{File, Folder};
-use crate::trees::Has::{Nothing, Size};
+use crate::trees::Had::Files;
+use crate::trees::Has::{Holds, Nothing};
 use slru_replay::Area;
 use std::test::Fail;
 
 const CUTS: [Row<'static>; 7] = [
     // Page 64 is the first of file 2; file 7FF is half the range behind it.
     (
-        &[
-            Folder("pg_xact"),
-            File("pg_xact/0000", b"x"),
-            File("pg_xact/0001", b"x"),
-            File("pg_xact/0002", b"x"),
-            File("pg_xact/0003", b"x"),
-            File("pg_xact/07FF", b"x"),
-        ],
+        &[Files("pg_xact", &["0000", "0001", "0002", "0003", "07FF"])],
         ".",
-        Cut(Area::Status, 9, 64),
+        Slru(Cut(Area::Status, 9, 64)),
         "done",
-        &[
-            Nothing("pg_xact/0000"),
-            Nothing("pg_xact/0001"),
-            Size("pg_xact/0002", 1),
-            Size("pg_xact/0003", 1),
-            Size("pg_xact/07FF", 1),
-        ],
+        &[Holds("pg_xact", &["0002", "0003", "07FF"])],
     ),
     // Page 1 lies in file 0: the files of the half before it go, round the end. Other names stay.
     (
-        &[
-            Folder("pg_xact"),
-            File("pg_xact/0FFF", b"x"),
-            File("pg_xact/0801", b"x"),
-            File("pg_xact/0000", b"x"),
-            File("pg_xact/0800", b"x"),
-            File("pg_xact/00FFF", b"x"),
-            File("pg_xact/0FFf", b"x"),
-            File("pg_xact/FFF", b"x"),
-            File("pg_xact/x", b"x"),
-        ],
+        &[Files(
+            "pg_xact",
+            &["0FFF", "0801", "0000", "0800", "00FFF", "0FFf", "FFF", "x"],
+        )],
         ".",
-        Cut(Area::Status, 0, 1),
+        Slru(Cut(Area::Status, 0, 1)),
         "done",
-        &[
-            Nothing("pg_xact/0FFF"),
-            Nothing("pg_xact/0801"),
-            Size("pg_xact/0000", 1),
-            Size("pg_xact/0800", 1),
-            Size("pg_xact/00FFF", 1),
-            Size("pg_xact/0FFf", 1),
-            Size("pg_xact/FFF", 1),
-            Size("pg_xact/x", 1),
-        ],
+        &[Holds("pg_xact", &["0000", "00FFF", "0800", "0FFf", "FFF", "x"])],
     ),
     // Page 2097151 is the last of offsets.
     (
-        &[
-            Folder("pg_multixact"),
-            Folder("pg_multixact/offsets"),
-            File("pg_multixact/offsets/FFFE", b"x"),
-            File("pg_multixact/offsets/8000", b"x"),
-            File("pg_multixact/offsets/FFFF", b"x"),
-            File("pg_multixact/offsets/0000", b"x"),
-        ],
+        &[Files("pg_multixact/offsets", &["FFFE", "8000", "FFFF", "0000"])],
         ".",
-        Cut(Area::Offsets, 0, 2_097_151),
+        Slru(Cut(Area::Offsets, 0, 2_097_151)),
         "done",
-        &[
-            Nothing("pg_multixact/offsets/FFFE"),
-            Nothing("pg_multixact/offsets/8000"),
-            Size("pg_multixact/offsets/FFFF", 1),
-            Size("pg_multixact/offsets/0000", 1),
-        ],
+        &[Holds("pg_multixact/offsets", &["0000", "FFFF"])],
     ),
     // Offset 52352 is the first of file 1.
     (
-        &[
-            Folder("pg_multixact"),
-            Folder("pg_multixact/members"),
-            File("pg_multixact/members/0000", b"x"),
-            File("pg_multixact/members/0001", b"x"),
-            File("pg_multixact/members/14078", b"x"),
-        ],
+        &[Files("pg_multixact/members", &["0000", "0001", "14078"])],
         ".",
-        Cut(Area::Members, 0, 52_352),
+        Slru(Cut(Area::Members, 0, 52_352)),
         "done",
-        &[
-            Nothing("pg_multixact/members/0000"),
-            Size("pg_multixact/members/0001", 1),
-            Size("pg_multixact/members/14078", 1),
-        ],
+        &[Holds("pg_multixact/members", &["0001", "14078"])],
     ),
     // Offset 4295010432 would be the first of file 82041: 4294958080 is the first of file 82040, and then comes file 0.
     (
-        &[
-            Folder("pg_multixact"),
-            Folder("pg_multixact/members"),
-            File("pg_multixact/members/14078", b"x"),
-            File("pg_multixact/members/0000", b"x"),
-            File("pg_multixact/members/0001", b"x"),
-            File("pg_multixact/members/14077", b"x"),
-            File("pg_multixact/members/14079", b"x"),
-        ],
+        &[Files(
+            "pg_multixact/members",
+            &["14078", "0000", "0001", "14077", "14079"],
+        )],
         ".",
-        Cut(Area::Members, 4_294_958_080, 52_352),
+        Slru(Cut(Area::Members, 4_294_958_080, 52_352)),
         "done",
-        &[
-            Nothing("pg_multixact/members/14078"),
-            Nothing("pg_multixact/members/0000"),
-            Size("pg_multixact/members/0001", 1),
-            Size("pg_multixact/members/14077", 1),
-            Size("pg_multixact/members/14079", 1),
-        ],
+        &[Holds("pg_multixact/members", &["0001", "14077", "14079"])],
     ),
     // First and last in one file: none goes.
     (
-        &[
-            Folder("pg_multixact"),
-            Folder("pg_multixact/members"),
-            File("pg_multixact/members/0000", b"x"),
-            File("pg_multixact/members/0001", b"x"),
-        ],
+        &[Files("pg_multixact/members", &["0000", "0001"])],
         ".",
-        Cut(Area::Members, 52_352, 52_353),
+        Slru(Cut(Area::Members, 52_352, 52_353)),
         "done",
-        &[
-            Size("pg_multixact/members/0000", 1),
-            Size("pg_multixact/members/0001", 1),
-        ],
+        &[Holds("pg_multixact/members", &["0000", "0001"])],
     ),
     // An area without a folder has nothing to cut.
     (
         &[],
         ".",
-        Cut(Area::Offsets, 0, 9),
+        Slru(Cut(Area::Offsets, 0, 9)),
         "done",
         &[Nothing("pg_multixact")],
     ),

@@ -1,12 +1,12 @@
-// Files that are edited, read and removed, and folders that are removed with all that they hold.
+// Files that are edited, read, cut and removed, and folders that are removed with all that they hold.
 use crate::calls::Call::On;
-use crate::edits::Edit::{Clear, Ensure, Lay, Read, Remove};
+use crate::edits::Edit::{Clear, Ensure, Lay, Read, Remove, Shorten};
 use crate::rows::{Row, first_wrong};
-use crate::trees::Had::{BadName, File, Folder, Link};
-use crate::trees::Has::{Bytes, Nothing, Size};
+use crate::trees::Had::{BadName, File, Files, Folder, Link};
+use crate::trees::Has::{Bytes, Holds, Nothing, Size};
 use std::test::Fail;
 
-const EDITED: [Row<'static>; 6] = [
+const EDITED: [Row<'static>; 9] = [
     // What was missing is zeros, and the way is made.
     (
         &[Folder("b")],
@@ -27,7 +27,7 @@ const EDITED: [Row<'static>; 6] = [
         &[File("f", b"01")],
         ".",
         On("f", Ensure),
-        "2 bytes",
+        "2",
         &[Size("f", 2), Bytes("f", 0, b"01")],
     ),
     (
@@ -39,11 +39,27 @@ const EDITED: [Row<'static>; 6] = [
     ),
     (&[], ".", On("f", Read(9)), "\0\0\0\0", &[Nothing("f")]),
     (
-        &[File("f", b"01"), File("g", b"1")],
+        &[File("f", b"0123")],
         ".",
-        On("f", Remove),
+        On("f", Shorten(3)),
         "done",
-        &[Nothing("f"), Size("g", 1)],
+        &[Size("f", 3), Bytes("f", 0, b"012")],
+    ),
+    // One that isn't longer stays, and none is made.
+    (
+        &[File("f", b"0123")],
+        ".",
+        On("f", Shorten(5)),
+        "done",
+        &[Size("f", 4)],
+    ),
+    (&[], ".", On("f", Shorten(0)), "done", &[Nothing("f")]),
+    (
+        &[Files("b", &["f", "g"])],
+        ".",
+        On("b/f", Remove),
+        "done",
+        &[Holds("b", &["g"])],
     ),
 ];
 
@@ -51,26 +67,20 @@ const CLEARED: [Row<'static>; 7] = [
     // What lies below goes, whatever is named like it stays.
     (
         &[
-            Folder("b"),
-            Folder("b/5"),
             File("b/5/PG_VERSION", b"16\n"),
-            Folder("b/5/sub"),
             Folder("b/5/sub/none"),
             File("b/5/sub/1", b"x"),
-            File("b/50", b"x"),
-            File("b/5-", b"x"),
+            Files("b", &["50", "5-"]),
         ],
         ".",
         On("b/5", Clear),
         "done",
         &[
-            Nothing("b/5"),
+            Holds("b", &["5-", "50"]),
             Nothing("b/5/PG_VERSION"),
             Nothing("b/5/sub"),
             Nothing("b/5/sub/none"),
             Nothing("b/5/sub/1"),
-            Size("b/50", 1),
-            Size("b/5-", 1),
         ],
     ),
     (&[Folder("b")], ".", On("b", Clear), "done", &[Nothing("b")]),
@@ -79,7 +89,7 @@ const CLEARED: [Row<'static>; 7] = [
         ".",
         On("b/5", Clear),
         "done",
-        &[Nothing("b/5")],
+        &[Holds("b", &[])],
     ),
     (
         &[File("b", b"x")],
@@ -96,14 +106,14 @@ const CLEARED: [Row<'static>; 7] = [
         &[],
     ),
     (
-        &[Folder("b"), Folder("b/5"), Link("b/5/l")],
+        &[Link("b/5/l")],
         ".",
         On("b", Clear),
         "b/5/l is a link or a special file",
         &[],
     ),
     (
-        &[Folder("b"), BadName("b/5")],
+        &[BadName("b/5")],
         ".",
         On("b", Clear),
         "b/5 holds a name that is not UTF-8",

@@ -1,8 +1,9 @@
 // Status, pages of zeros and multixacts. Places and bytes are worked by hand from slru.h, clog.c and multixact.c.
-use crate::calls::Call::{Multi, Status, Zero};
+use crate::areas::AreaCall::{Multi, Status, Zero};
+use crate::calls::Call::Slru;
 use crate::rows::{Row, first_wrong};
-use crate::trees::Had::{File, Folder};
-use crate::trees::Has::{Bytes, Nothing, Size};
+use crate::trees::Had::{File, Filled, Folder};
+use crate::trees::Has::{Bytes, Nothing, Run, Size};
 use slru_replay::Area;
 use std::test::Fail;
 
@@ -11,7 +12,7 @@ const STATUS: [Row<'static>; 8] = [
     (
         &[Folder("c")],
         "c",
-        Status(700, 1),
+        Slru(Status(700, 1)),
         "done",
         &[
             Size("c/pg_xact/0000", 8192),
@@ -20,9 +21,9 @@ const STATUS: [Row<'static>; 8] = [
     ),
     // The other three pairs of that byte keep what they have.
     (
-        &[Folder("pg_xact"), File("pg_xact/0000", &[0xFF; 200])],
+        &[Filled("pg_xact/0000", 0xFF, 200)],
         ".",
-        Status(701, 2),
+        Slru(Status(701, 2)),
         "done",
         &[
             Size("pg_xact/0000", 8192),
@@ -30,9 +31,9 @@ const STATUS: [Row<'static>; 8] = [
         ],
     ),
     (
-        &[Folder("pg_xact"), File("pg_xact/0000", &[0xFF; 200])],
+        &[Filled("pg_xact/0000", 0xFF, 200)],
         ".",
-        Status(702, 0),
+        Slru(Status(702, 0)),
         "done",
         &[
             Bytes("pg_xact/0000", 175, &[0xCF, 0xFF]),
@@ -40,17 +41,17 @@ const STATUS: [Row<'static>; 8] = [
         ],
     ),
     (
-        &[Folder("pg_xact"), File("pg_xact/0000", &[0xFF; 200])],
+        &[Filled("pg_xact/0000", 0xFF, 200)],
         ".",
-        Status(703, 1),
+        Slru(Status(703, 1)),
         "done",
         &[Bytes("pg_xact/0000", 175, &[0x7F])],
     ),
     // Page 32 is the first of file 1.
     (
-        &[Folder("c"), Folder("c/pg_xact")],
+        &[Folder("c/pg_xact")],
         "c",
-        Status(1_048_581, 1),
+        Slru(Status(1_048_581, 1)),
         "done",
         &[
             Size("c/pg_xact/0001", 8192),
@@ -60,26 +61,22 @@ const STATUS: [Row<'static>; 8] = [
     ),
     // Page 1 is missing in the middle, page 0 is torn.
     (
-        &[
-            Folder("c"),
-            Folder("c/pg_xact"),
-            File("c/pg_xact/0000", b"torn"),
-        ],
+        &[File("c/pg_xact/0000", b"torn")],
         "c",
-        Status(65_538, 2),
+        Slru(Status(65_538, 2)),
         "done",
         &[
             Size("c/pg_xact/0000", 24_576),
             Bytes("c/pg_xact/0000", 0, b"torn\0"),
-            Bytes("c/pg_xact/0000", 8192, &[0; 8192]),
+            Run("c/pg_xact/0000", 8192, 0, 8192),
             Bytes("c/pg_xact/0000", 16_384, &[0x20, 0]),
         ],
     ),
     // A file that goes on behind the page keeps its size.
     (
-        &[Folder("pg_xact"), File("pg_xact/0000", &[0; 9000])],
+        &[Filled("pg_xact/0000", 0, 9000)],
         ".",
-        Status(4, 1),
+        Slru(Status(4, 1)),
         "done",
         &[
             Size("pg_xact/0000", 9000),
@@ -89,7 +86,7 @@ const STATUS: [Row<'static>; 8] = [
     (
         &[],
         ".",
-        Status(u32::MAX, 1),
+        Slru(Status(u32::MAX, 1)),
         "done",
         &[
             Size("pg_xact/0FFF", 262_144),
@@ -101,13 +98,9 @@ const STATUS: [Row<'static>; 8] = [
 const ZEROS: [Row<'static>; 3] = [
     // The torn page keeps its bytes, and what was missing is zeros.
     (
-        &[
-            Folder("pg_multixact"),
-            Folder("pg_multixact/members"),
-            File("pg_multixact/members/0000", &[0xAA; 100]),
-        ],
+        &[Filled("pg_multixact/members/0000", 0xAA, 100)],
         ".",
-        Zero(Area::Members, 2),
+        Slru(Zero(Area::Members, 2)),
         "done",
         &[
             Size("pg_multixact/members/0000", 24_576),
@@ -116,13 +109,13 @@ const ZEROS: [Row<'static>; 3] = [
     ),
     // Whatever stood on the page itself is gone.
     (
-        &[Folder("pg_xact"), File("pg_xact/0000", &[0xAA; 8193])],
+        &[Filled("pg_xact/0000", 0xAA, 8193)],
         ".",
-        Zero(Area::Status, 0),
+        Slru(Zero(Area::Status, 0)),
         "done",
         &[
             Size("pg_xact/0000", 8193),
-            Bytes("pg_xact/0000", 0, &[0; 8192]),
+            Run("pg_xact/0000", 0, 0, 8192),
             Bytes("pg_xact/0000", 8192, &[0xAA]),
         ],
     ),
@@ -130,7 +123,7 @@ const ZEROS: [Row<'static>; 3] = [
     (
         &[],
         ".",
-        Zero(Area::Members, 2_625_285),
+        Slru(Zero(Area::Members, 2_625_285)),
         "done",
         &[Size("pg_multixact/members/14078", 49_152)],
     ),
@@ -141,10 +134,10 @@ const MULTIS: [Row<'static>; 4] = [
     (
         &[Folder("c")],
         "c",
-        Multi(&[
+        Slru(Multi(&[
             1, 8, 0, 0, 0x68, 6, 0, 0, 2, 0, 0, 0, 0xBC, 2, 0, 0, 1, 0, 0, 0, 0xBD, 2, 0, 0, 5, 1,
             0, 0,
-        ]),
+        ])),
         "done",
         &[
             Size("c/pg_multixact/offsets/0000", 16_384),
@@ -165,10 +158,10 @@ const MULTIS: [Row<'static>; 4] = [
     (
         &[],
         ".",
-        Multi(&[
+        Slru(Multi(&[
             0, 0, 1, 0, 0xFF, 0xFF, 0xFF, 0xFF, 2, 0, 0, 0, 0xBC, 2, 0, 0, 4, 0, 0, 0, 0xBD, 2, 0,
             0, 3, 0, 0, 0,
-        ]),
+        ])),
         "done",
         &[
             Bytes("pg_multixact/offsets/0001", 0, &[0xFF, 0xFF, 0xFF, 0xFF, 0]),
@@ -185,15 +178,11 @@ const MULTIS: [Row<'static>; 4] = [
     ),
     // The other members of a group keep their flags, and a torn page its bytes.
     (
-        &[
-            Folder("pg_multixact"),
-            Folder("pg_multixact/members"),
-            File("pg_multixact/members/0000", &[0xAA; 30]),
-        ],
+        &[Filled("pg_multixact/members/0000", 0xAA, 30)],
         ".",
-        Multi(&[
+        Slru(Multi(&[
             5, 0, 0, 0, 2, 0, 0, 0, 1, 0, 0, 0, 0xBC, 2, 0, 0, 4, 0, 0, 0,
-        ]),
+        ])),
         "done",
         &[
             Size("pg_multixact/members/0000", 8192),
@@ -211,9 +200,9 @@ const MULTIS: [Row<'static>; 4] = [
     (
         &[],
         ".",
-        Multi(&[
+        Slru(Multi(&[
             5, 0, 0, 0, 2, 0, 0, 0, 2, 0, 0, 0, 0xBC, 2, 0, 0, 4, 0, 0, 0,
-        ]),
+        ])),
         "short",
         &[Nothing("pg_multixact")],
     ),

@@ -1,21 +1,11 @@
 // Tables of calls: what the cluster has, the call, its answer, and what stands then.
 use crate::calls::{Call, answer};
-use crate::trees::{Had, Has, is_so, tree_with};
-use cluster_tree::MemoryTree;
+use crate::trees::{Had, Has, has_all, tree_with};
 use std::alloc::Global;
 use std::test::Fail;
 
 /// What a tree has, the cluster's root, a call on it, its answer, and what the tree has then.
 pub(crate) type Row<'a> = (&'a [Had<'a>], &'a str, Call<'a>, &'a str, &'a [Has<'a>]);
-
-fn has_all(alloc: Global, tree: &mut MemoryTree, then: &[Has<'_>]) -> Result<bool, Fail> {
-    for &what in then {
-        if !is_so(alloc, tree, what)? {
-            return Ok(false);
-        }
-    }
-    Ok(true)
-}
 
 fn holds(alloc: Global, row: Row<'_>) -> Result<bool, Fail> {
     let (had, root, call, expected, then) = row;
@@ -28,6 +18,23 @@ fn holds(alloc: Global, row: Row<'_>) -> Result<bool, Fail> {
 pub(crate) fn first_wrong(alloc: Global, rows: &[Row<'_>]) -> Result<Option<usize>, Fail> {
     for (number, &row) in rows.iter().enumerate() {
         if !holds(alloc, row)? {
+            return Ok(Some(number));
+        }
+    }
+    Ok(None)
+}
+
+/// The cluster's root, a call on it, and its answer.
+pub(crate) type Told<'a> = (&'a str, Call<'a>, &'a str);
+
+/// The number of the first row that doesn't hold on a tree with these, from 0 on.
+pub(crate) fn first_untold(
+    alloc: Global,
+    had: &[Had<'_>],
+    rows: &[Told<'_>],
+) -> Result<Option<usize>, Fail> {
+    for (number, &(root, call, expected)) in rows.iter().enumerate() {
+        if !holds(alloc, (had, root, call, expected, &[]))? {
             return Ok(Some(number));
         }
     }

@@ -1,9 +1,10 @@
-// The calls of storage_replay on a cluster, and what each answers.
+// The calls of storage_replay, and what each answers.
 ghost use Rattle.std.specs.Prelude.{◌<◌, ◌≤◌};
 ghost use Rattle.storage_replay.specs.Files.{AreFit};
 
+use crate::answers::{count, ended, word};
 use block_refs::{BlockName, Fork, RelName};
-use cluster_tree::{FileFault, Path, Tree};
+use cluster_tree::{Path, Tree};
 use page_layout::Page;
 use std::alloc::Global;
 use std::test::Fail;
@@ -11,9 +12,9 @@ use storage_replay::{
     Files, Found, create, drop_relation, length, map_bits, read_block, truncate, write_block,
 };
 
-/// A call on the files of relation 16384 of database 5, or of another that is named.
+/// A call of `storage_replay` on the files of relation 16384 of database 5, or of another that is named.
 #[derive(Clone, Copy)]
-pub(crate) enum Call {
+pub(crate) enum ForkCall {
     /// `length` of a fork.
     Length(Fork),
     /// `read_block`: a fork and the number of a block.
@@ -40,18 +41,11 @@ const REL: RelName = RelName {
     relation: 16384,
 };
 
-fn told(alloc: Global, done: Result<(), FileFault>) -> Result<String, Fail> {
-    match done {
-        Ok(()) => Ok(String::from_str(alloc, "done")?),
-        Err(fault) => Ok(format!(in alloc; "{fault}")?),
-    }
-}
-
-fn measured(alloc: Global, done: Result<Option<u32>, FileFault>) -> Result<String, Fail> {
-    match done {
-        Ok(Some(blocks)) => Ok(format!(in alloc; "{blocks}")?),
-        Ok(None) => Ok(String::from_str(alloc, "none")?),
-        Err(fault) => Ok(format!(in alloc; "{fault}")?),
+const fn block_of(fork: Fork, block: u32) -> BlockName {
+    BlockName {
+        rel: REL,
+        fork,
+        block,
     }
 }
 
@@ -74,19 +68,11 @@ fn read<F: Tree>(alloc: Global, tree: &mut F, at: &Files, name: BlockName) -> Re
         Ok(Found::Absent) => "absent",
         Ok(Found::Zero) => "zero",
         Ok(Found::Page) => "page",
-        Err(fault) => return Ok(format!(in alloc; "{fault}")?),
+        Err(fault) => return word(alloc, Err(fault)),
     };
     let first = page.bytes()[0];
     let last = page.bytes()[8191];
     Ok(format!(in alloc; "{found} {first} {last}")?)
-}
-
-const fn main_block(block: u32) -> BlockName {
-    BlockName {
-        rel: REL,
-        fork: Fork::Main,
-        block,
-    }
 }
 
 fn write<F: Tree>(
@@ -102,76 +88,87 @@ fn write<F: Tree>(
         return Err("no such block".into());
     }
     let page = page_of(alloc, byte)?;
-    told(alloc, write_block(alloc, tree, at, name, &page))
+    ended(alloc, write_block(alloc, tree, at, name, &page))
 }
 
 fn sparse<F: Tree>(alloc: Global, tree: &mut F, at: &Files) -> Result<String, Fail>
     requires fit { AreFit at.now }
 {
-    let done = write(alloc, tree, at, main_block(3), 7)?;
-    let first = read(alloc, tree, at, main_block(1))?;
-    let behind = read(alloc, tree, at, main_block(4))?;
+    let done = write(alloc, tree, at, block_of(Fork::Main, 3), 7)?;
+    let first = read(alloc, tree, at, block_of(Fork::Main, 1))?;
+    let behind = read(alloc, tree, at, block_of(Fork::Main, 4))?;
     Ok(format!(in alloc; "{done}, {first}, {behind}")?)
 }
 
-fn run<F: Tree>(alloc: Global, tree: &mut F, at: &Files, call: Call) -> Result<String, Fail>
-    requires fit { AreFit at.now }
-{
-    match call {
-        Call::Length(fork) => measured(alloc, length(alloc, tree, at, REL, fork)),
-        Call::Read(fork, block) => {
-            let rel = REL;
-            read(alloc, tree, at, BlockName { rel, fork, block })
-        }
-        Call::Write(fork, block, byte) => {
-            let rel = REL;
-            write(alloc, tree, at, BlockName { rel, fork, block }, byte)
-        }
-        Call::Truncate(blocks, flags) => {
-            told(alloc, truncate(alloc, tree, at, REL, blocks, flags))
-        }
-        Call::Create(fork) => told(alloc, create(alloc, tree, at, REL, fork)),
-        Call::Drop(relation) => {
-            let rel = RelName { relation, ..REL };
-            told(alloc, drop_relation(alloc, tree, at, rel))
-        }
-        Call::Bits(block, clear) => told(alloc, map_bits(alloc, tree, at, REL, block, clear % 4)),
-        Call::Shared(relation) => {
-            let rel = RelName {
-                space: 1664,
-                database: 0,
-                relation,
-            };
-            let name = BlockName {
-                rel,
-                ..main_block(0)
-            };
-            write(alloc, tree, at, name, 1)
-        }
-        Call::Sparse => sparse(alloc, tree, at),
+const fn shared_block(relation: u32) -> BlockName {
+    BlockName {
+        rel: RelName {
+            space: 1664,
+            database: 0,
+            relation,
+        },
+        fork: Fork::Main,
+        block: 0,
     }
 }
 
+// What a call on a block answers, or on a length.
+fn on_block<F: Tree>(
+    alloc: Global,
+    tree: &mut F,
+    at: &Files,
+    call: ForkCall,
+) -> Result<String, Fail>
+    requires fit { AreFit at.now }
+{
+    match call {
+        ForkCall::Read(fork, block) => read(alloc, tree, at, block_of(fork, block)),
+        ForkCall::Write(fork, block, byte) => write(alloc, tree, at, block_of(fork, block), byte),
+        ForkCall::Shared(relation) => write(alloc, tree, at, shared_block(relation), 1),
+        ForkCall::Length(fork) => {
+            let blocks = length(alloc, tree, at, REL, fork);
+            count(alloc, blocks.map(|blocks| blocks.map(u64::from)))
+        }
+        _ => sparse(alloc, tree, at),
+    }
+}
+
+fn run<F: Tree>(alloc: Global, tree: &mut F, at: &Files, call: ForkCall) -> Result<String, Fail>
+    requires fit { AreFit at.now }
+{
+    let done = match call {
+        ForkCall::Truncate(blocks, flags) => truncate(alloc, tree, at, REL, blocks, flags),
+        ForkCall::Create(fork) => create(alloc, tree, at, REL, fork),
+        ForkCall::Drop(relation) => {
+            let rel = RelName { relation, ..REL };
+            drop_relation(alloc, tree, at, rel)
+        }
+        ForkCall::Bits(block, clear) => map_bits(alloc, tree, at, REL, block, clear % 4),
+        _ => return on_block(alloc, tree, at, call),
+    };
+    ended(alloc, done)
+}
+
 // How many blocks a file has: two, but in the one row.
-fn per_file(call: Call) -> u32
+fn per_file(call: ForkCall) -> u32
     ensures some { 0 < result }
     ensures most { result ≤ 131072 }
 {
     match call {
-        Call::Sparse => 131_072,
+        ForkCall::Sparse => 131_072,
         _ => 2,
     }
 }
 
 /// What a call on the cluster at a root answers, whose files have two blocks each but in one row.
-pub(crate) fn answer<F: Tree>(
+pub(crate) fn answer_fork<F: Tree>(
     alloc: Global,
     tree: &mut F,
-    root: &str,
-    call: Call,
+    root: &Path,
+    call: ForkCall,
 ) -> Result<String, Fail> {
     let at = Files {
-        root: Path::parse(alloc, root)?,
+        root: root.copy(alloc)?,
         per_file: per_file(call),
     };
     if at.root.len() > 61 {
