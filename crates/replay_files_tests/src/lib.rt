@@ -40,6 +40,8 @@ mod records;
 #[cfg(test)]
 mod rows;
 #[cfg(test)]
+mod states;
+#[cfg(test)]
 mod storage_faults;
 #[cfg(test)]
 mod storage_kinds;
