@@ -10,7 +10,7 @@ use Rattle.storage_laws.specs.After.{database_dropped_state}
 use Rattle.storage_laws.specs.Names.{IsBlock}
 use Rattle.storage_laws.specs.States.{block_in}
 
--- a database that is made has no block of a relation, and every block is what it was
+-- where a database is made every block is what it was
 abbrev pub MadeBlocks : Type 0
 MadeBlocks = (root : PathValue) (per_file database : ℕ) (other : BlockName) (c d : Contents)
     → 0 < per_file → IsBlock other → database_made root database c ≡ Ok d
