@@ -60,8 +60,8 @@ pub of_command : (tells : Bool) (c : Contents) (now : ℤ) {asked : Result Comma
 of_command tells c now {asked} {k} {o} {e} {ended} {s} {u} is p = let P : Result Command CommandFault → Type 0 = λ a. CarriesOut tells c now o e a ended s u in subst P (sym is) p
 
 -- the time under another name
-pub at_time : (tells : Bool) (c : Contents) {asked : Result Command CommandFault} {n m : ℤ} {o e : Bool} {ended : Cause} {s u : Seen} → n ≡ m → CarriesOut tells c n o e asked ended s u → CarriesOut tells c m o e asked ended s u
-at_time tells c {asked} {o = o} {e} {ended} {s} {u} is p = subst (λ x. CarriesOut tells c x o e asked ended s u) is p
+pub at_time : (tells : Bool) (c : Contents) (asked : Result Command CommandFault) {n m : ℤ} {o e : Bool} {ended : Cause} {s u : Seen} → n ≡ m → CarriesOut tells c n o e asked ended s u → CarriesOut tells c m o e asked ended s u
+at_time tells c asked {o = o} {e} {ended} {s} {u} is p = subst (λ x. CarriesOut tells c x o e asked ended s u) is p
 
 by_tree : (tells : Bool) → IsTrue tells ⊎ ⊥ → IsTrue tells
 by_tree tells (inl t) = t

@@ -1,4 +1,4 @@
-use Rattle.std.proofs.Common.{FitsSigned, rules, w64}
+use Rattle.std.proofs.Common.{FitsSigned, Ok, rules, w64}
 use Rattle.std.proofs.lemmas.Int.{to_z-of_z}
 use Rattle.acts.specs.Acts.{sunk}
 use Rattle.wal_tools.proofs.RunLemmas.{at_time, dried_cleanup, dried_reset, of_archivecleanup, of_controldata, of_resetwal, of_rewind, of_waldump}
@@ -31,7 +31,7 @@ returns-in-Waldump-clause-blames g c = c.waldump.ensures.blames (g.E.Sink.failed
 pub returns-in-Resetwal-clause-carries : goal.returns-in-Resetwal-clause-carries
 returns-in-Resetwal-clause-carries g c =
     let fits : FitsSigned w64 c.args.now = search rules in
-    at_time g.F.Tree.tells (g.F.Tree.contents c.args.tree.now) (to_z-of_z w64 c.args.now fits)
+    at_time g.F.Tree.tells (g.F.Tree.contents c.args.tree.now) (Ok c.args.command.now) (to_z-of_z w64 c.args.now fits)
     (of_resetwal g.F.Tree.tells (g.F.Tree.contents c.args.tree.now) _ c.in-Resetwal.is
     (c.resetwal.ensures.carries g.E.Sink.tells (sunk (g.E.Sink.written c.args.err.now) (g.E.Sink.failed_writes c.args.err.now))))
 

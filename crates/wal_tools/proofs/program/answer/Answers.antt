@@ -1,4 +1,4 @@
-use Rattle.std.proofs.Common.{FitsSigned, map, rules, string_bytes, w64}
+use Rattle.std.proofs.Common.{FitsSigned, Ok, map, rules, string_bytes, w64}
 use Rattle.std.proofs.lemmas.Int.{to_z-of_z}
 use Rattle.tool_words.specs.Command.{command_of}
 use Rattle.wal_tools.proofs.RunLemmas.{at_time, no_words, of_command, words_refused}
@@ -8,7 +8,7 @@ pub returns-in-Ok-clause-carries : goal.returns-in-Ok-clause-carries
 returns-in-Ok-clause-carries g c =
     let fits : FitsSigned w64 c.args.now = search rules in
     of_command g.F.Tree.tells (g.F.Tree.contents c.args.tree.now) c.args.now c.in-Ok.ensures.answer
-    (at_time g.F.Tree.tells (g.F.Tree.contents c.args.tree.now) (to_z-of_z w64 c.args.now fits) c.carry_out.ensures.carries)
+    (at_time g.F.Tree.tells (g.F.Tree.contents c.args.tree.now) (Ok c.in-Ok.command) (to_z-of_z w64 c.args.now fits) c.carry_out.ensures.carries)
 
 pub returns-in-Err-OutOfMemory-clause-carries : goal.returns-in-Err-OutOfMemory-clause-carries
 returns-in-Err-OutOfMemory-clause-carries g c = no_words g.F.Tree.tells (g.F.Tree.contents c.args.tree.now) c.args.now (command_of (map string_bytes c.args.words.now))

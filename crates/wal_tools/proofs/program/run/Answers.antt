@@ -12,22 +12,22 @@ pub returns-clause-exact : goal.returns-clause-exact
 returns-clause-exact g c h =
     let fits : FitsSigned w64 c.args.now = search rules in
     exact_told g.F.Tree.tells (g.F.Tree.contents c.args.tree.now) c.args.now (command_of (map string_bytes c.args.words.now)) c.cause_of.ensures c.finish.ensures.cause
-    (at_time g.F.Tree.tells (g.F.Tree.contents c.args.tree.now) (to_z-of_z w64 c.args.now fits) c.answer-outcome.ensures.carries) h
+    (at_time g.F.Tree.tells (g.F.Tree.contents c.args.tree.now) (command_of (map string_bytes c.args.words.now)) (to_z-of_z w64 c.args.now fits) c.answer-outcome.ensures.carries) h
 
 pub returns-clause-runs : goal.returns-clause-runs
 returns-clause-runs g c =
-  let fits : FitsSigned w64 c.args.now = search rules in
-  record {
-  outcome = c.cause_of.result;
-  told = seen (g.F.Tree.contents c.answer-outcome.new.tree) (g.F.Tree.calls c.answer-outcome.new.tree)
-      (sunk (g.O.Sink.written c.answer-outcome.new.out) (g.O.Sink.failed_writes c.answer-outcome.new.out))
-      (sunk (g.E.Sink.written c.answer-outcome.new.err) (g.E.Sink.failed_writes c.answer-outcome.new.err));
-  acts = unseen_told c.cause_of.ensures (at_time g.F.Tree.tells (g.F.Tree.contents c.args.tree.now) (to_z-of_z w64 c.args.now fits) c.answer-outcome.ensures.carries);
-  out = (unseen_grow c.answer-outcome.ensures.carries).0;
-  err = (unseen_grow c.answer-outcome.ensures.carries).1;
-  cause = c.finish.ensures.cause;
-  says = subst (λ n. Says g.E.Sink.tells (line_of n c.finish.result.cause)
-      (sunk (g.E.Sink.written c.answer-outcome.new.err) (g.E.Sink.failed_writes c.answer-outcome.new.err))
-      (sunk (g.E.Sink.written c.finish.new.err) (g.E.Sink.failed_writes c.finish.new.err))) c.name_of-name.ensures c.finish.ensures.says;
-  last = refl;
-}
+    let fits : FitsSigned w64 c.args.now = search rules in
+    record {
+      outcome = c.cause_of.result;
+      told = seen (g.F.Tree.contents c.answer-outcome.new.tree) (g.F.Tree.calls c.answer-outcome.new.tree)
+          (sunk (g.O.Sink.written c.answer-outcome.new.out) (g.O.Sink.failed_writes c.answer-outcome.new.out))
+          (sunk (g.E.Sink.written c.answer-outcome.new.err) (g.E.Sink.failed_writes c.answer-outcome.new.err));
+      acts = unseen_told c.cause_of.ensures (at_time g.F.Tree.tells (g.F.Tree.contents c.args.tree.now) (command_of (map string_bytes c.args.words.now)) (to_z-of_z w64 c.args.now fits) c.answer-outcome.ensures.carries);
+      out = (unseen_grow c.answer-outcome.ensures.carries).0;
+      err = (unseen_grow c.answer-outcome.ensures.carries).1;
+      cause = c.finish.ensures.cause;
+      says = subst (λ n. Says g.E.Sink.tells (line_of n c.finish.result.cause)
+          (sunk (g.E.Sink.written c.answer-outcome.new.err) (g.E.Sink.failed_writes c.answer-outcome.new.err))
+          (sunk (g.E.Sink.written c.finish.new.err) (g.E.Sink.failed_writes c.finish.new.err))) c.name_of-name.ensures c.finish.ensures.says;
+      last = refl;
+    }
