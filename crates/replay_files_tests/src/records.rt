@@ -6,7 +6,7 @@ use wal_base::{Lsn, SegSize, Spans};
 use wal_pages::LogPath;
 use wal_records::{LogWriter, RecordCursor};
 
-/// A record: its info and its resource manager, and its main bytes, at most 255.
+/// A record: its info and its resource manager, one of PostgreSQL's own, and its main bytes, at most 255.
 #[derive(Clone, Copy)]
 pub(crate) struct MainRecord<'a> {
     pub(crate) info: u8,
@@ -24,7 +24,7 @@ const START: Lsn = Lsn(0x10_0028);
 fn log_with(alloc: Global, rec: MainRecord<'_>) -> Result<MemoryTree, Fail> {
     let size = SegSize::new(0x10_0000).ok_or("no size")?;
     let mut writer = LogWriter::new(alloc, SEGMENT, 1, 7, size)?;
-    if writer.position().0 > 1 << 62 || rec.main.len() > 255 {
+    if writer.position().0 > 1 << 62 || rec.main.len() > 255 || rec.manager > 21 {
         return Err("no such record".into());
     }
     let mut body = vec![in alloc; 255, rec.main.len() as u8]?;
