@@ -6,6 +6,7 @@ ghost use Rattle.cluster_tree.specs.Contents.{entry_at};
 ghost use Rattle.cluster_tree.specs.Causes.{Meets, Rose};
 ghost use Rattle.cluster_tree.specs.Frame.{Reads};
 ghost use Rattle.wal_base.specs.Hex.{upper_hex};
+ghost use Rattle.timeline_history.specs.Ancestor.{last_tli};
 ghost use Rattle.clusters.specs.Faults.{IsFree};
 ghost use Rattle.clusters.specs.Roots.{history_path};
 ghost use Rattle.clusters.specs.RootHistory.{history_at, history_in, with_root};
@@ -60,6 +61,8 @@ pub fn history_at<F: Tree>(
     requires { length root.now.parts ≤ 61 }
     ensures exact { IsTrue F.tells → Meets IsFree (history_at (F.contents tree.old) root.now tli)
         result }
+    // it ends on this timeline, over every tree
+    ensures last { IfOk result (λ history. last_tli history ≡ tli) }
     ensures reads { Reads F.Tree tree.old tree.new }
     ensures read_fault { IsErrOf result ClusterFault.ReadFault →
         Rose (F.failed_reads tree.old) (F.failed_reads tree.new) }
@@ -82,6 +85,7 @@ fn history_in<F: Tree>(
 ) -> Result<History, ClusterFault>
     ensures exact { IsTrue F.tells → Meets IsFree
         (history_in root.now tli (file_of (entry_at (F.contents tree.old) path))) result }
+    ensures last { IfOk result (λ history. last_tli history ≡ tli) }
     ensures reads { Reads F.Tree tree.old tree.new }
     ensures read_fault { IsErrOf result ClusterFault.ReadFault →
         Rose (F.failed_reads tree.old) (F.failed_reads tree.new) }
@@ -100,7 +104,9 @@ fn with_root(
     tli: u32,
     read: Result<History, HistoryFault>,
 ) -> Result<History, ClusterFault>
+    requires { IfOk read (λ history. last_tli history ≡ tli) }
     ensures exact { Meets IsFree (with_root root.now tli read) result }
+    ensures last { IfOk result (λ history. last_tli history ≡ tli) }
     ensures read_fault { result ≢ Err ClusterFault.ReadFault }
     ensures changed { (p : PathValue) → result ≢ Err (ClusterFault.Changed p) }
 {
