@@ -1,0 +1,149 @@
+-- Steps, one after another.
+use Rattle.std.proofs.Common.{◌≡◌, ℕ, Bool, true, false, ◌||◌, List, [], ◌∷◌, ◌++◌, Result, Ok, Err, refl, sym, ◌∙◌, subst, append_assoc, codes}
+use Rattle.std.proofs.lemmas.List.Folds.{list_any-append}
+use Rattle.std.specs.List.{list_any}
+use Rattle.cluster_tree.specs.PathValue.{PathValue}
+use Rattle.cluster_tree.specs.Contents.{Contents, entry_at}
+use Rattle.cluster_tree.specs.Change.{Change, is_on}
+use Rattle.cluster_tree.specs.declared.tree.Tree.{Ghosts}
+use Rattle.marked_runs.specs.Performed.{Performs}
+use Rattle.marked_runs.specs.declared.faults.PerformFault.{PerformFault}
+use Rattle.marked_runs.specs.Carried.{Carries}
+use Rattle.marked_runs.specs.Runs.{begun, ended, writes_at}
+use Rattle.marked_runs.proofs.CarriedLemmas.{both_unrefused, performs-done, performs-front, performs-nothing, performs-then}
+use Rattle.rewind_writes.specs.Plan.{IsFound, body_changes, closing_changes, plan_changes}
+use Rattle.rewind_writes.specs.Steps.{FindAll, Finds, IsRead, changes_of, opened, part_of, steps_changes}
+use Rattle.rewind_writes.specs.Taken.{AllAreAsFound, IsAsFound, Takes, TakesAll, TakesBody}
+use Rattle.rewind_writes.specs.declared.plan.Plan.{Plan}
+use Rattle.rewind_writes.specs.declared.step.Step.{Step}
+use Rattle.rewind_writes.specs.declared.step.Step.TheVariants.{Folder, Whole, Cut, Range, Remove}
+
+-- ---- what is off all changes is off each part of them
+
+pub off-both : (p : PathValue) (xs ys : List Change) → list_any (is_on p) (xs ++ ys) ≡ false → (list_any (is_on p) xs ≡ false) × (list_any (is_on p) ys ≡ false)
+off-both p xs ys off = of_both (list_any (is_on p) xs) (list_any (is_on p) ys) (sym (list_any-append (is_on p) xs ys) ∙ off)
+  where
+    of_both : (a b : Bool) → (a || b) ≡ false → (a ≡ false) × (b ≡ false)
+    of_both true b e = absurd (cc e)
+    of_both false b e = (refl, e)
+
+read_both : (c : Contents) (xs ys : List Change) (from : PathValue) (at size : ℕ) → IsRead c (xs ++ ys) from at size → IsRead c xs from at size × IsRead c ys from at size
+read_both c xs ys from at size read =
+    let two = off-both from xs ys read.kept in
+    (record { file = read.file; bytes = read.bytes; kept = two.0 }, record { file = read.file; bytes = read.bytes; kept = two.1 })
+
+pub finds-both : (c : Contents) (xs ys : List Change) (step : Step) → Finds c (xs ++ ys) step → Finds c xs step × Finds c ys step
+finds-both c xs ys (Folder path) found = (tt, tt)
+finds-both c xs ys (Whole from to size) found = read_both c xs ys from 0 size found
+finds-both c xs ys (Cut path size) found = (tt, tt)
+finds-both c xs ys (Range from to at size) found = read_both c xs ys from at size found
+finds-both c xs ys (Remove path) found = (tt, tt)
+
+pub find-both : (c : Contents) (xs ys : List Change) (steps : List Step) → FindAll c (xs ++ ys) steps → FindAll c xs steps × FindAll c ys steps
+find-both c xs ys [] found = (tt, tt)
+find-both c xs ys (step ∷ steps) found =
+    let one = finds-both c xs ys step found.0 in
+    let more = find-both c xs ys steps found.1 in
+    ((one.0, more.0), (one.1, more.1))
+
+-- ---- what is read stays as it was found
+
+stays_one : (c d e : Contents) (changes : List Change) (step : Step) → ((p : PathValue) → list_any (is_on p) changes ≡ false → entry_at e p ≡ entry_at d p) → Finds c changes step → IsAsFound c d step → IsAsFound c e step
+stays_one c d e changes (Folder path) elsewhere found as_found = tt
+stays_one c d e changes (Whole from to size) elsewhere found as_found = elsewhere from found.kept ∙ as_found
+stays_one c d e changes (Cut path size) elsewhere found as_found = tt
+stays_one c d e changes (Range from to at size) elsewhere found as_found = elsewhere from found.kept ∙ as_found
+stays_one c d e changes (Remove path) elsewhere found as_found = tt
+
+pub stay-found : (c d e : Contents) (changes : List Change) (steps : List Step) → ((p : PathValue) → list_any (is_on p) changes ≡ false → entry_at e p ≡ entry_at d p) → FindAll c changes steps → AllAreAsFound c d steps → AllAreAsFound c e steps
+stay-found c d e changes [] elsewhere found as_found = tt
+stay-found c d e changes (step ∷ steps) elsewhere found as_found = (stays_one c d e changes step elsewhere found.0 as_found.0, stay-found c d e changes steps elsewhere found.1 as_found.1)
+
+one_found : (c : Contents) (step : Step) → IsAsFound c c step
+one_found c (Folder path) = tt
+one_found c (Whole from to size) = refl
+one_found c (Cut path size) = tt
+one_found c (Range from to at size) = refl
+one_found c (Remove path) = tt
+
+pub all-found : (c : Contents) (steps : List Step) → AllAreAsFound c c steps
+all-found c [] = tt
+all-found c (step ∷ steps) = (one_found c step, all-found c steps)
+
+-- ---- a step, and then others
+
+pub taken-then : {F : Type 0} (tree : Ghosts F) (c : Contents) (step : Step) (steps : List Step) (old mid new : F) (u : Unit {0}) (r : Result (Unit {0}) PerformFault) → Takes tree c step old mid (Ok u) → TakesAll tree c steps mid new r → TakesAll tree c (step ∷ steps) old new r
+taken-then tree c step steps old mid new u r one more found as_found told none =
+    let now = changes_of c step in
+    let later = steps_changes c steps in
+    let own = finds-both c now later step found.0 in
+    let all = find-both c now later steps found.1 in
+    let ran = one own.0 as_found.0 told (both_unrefused (tree.contents old) now later none).0 in
+    performs-then tree now later old mid new u r (one own.0 as_found.0)
+    (more all.1 (stay-found c (tree.contents old) (tree.contents mid) now steps ran.runs.elsewhere all.0 as_found.1)) told none
+
+pub taken-front : {F : Type 0} (tree : Ghosts F) (c : Contents) (step : Step) (steps : List Step) (old new : F) (e : PerformFault) → Takes tree c step old new (Err e) → TakesAll tree c (step ∷ steps) old new (Err e)
+taken-front tree c step steps old new e one found as_found =
+    performs-front tree (changes_of c step) (steps_changes c steps) old new e (one (finds-both c (changes_of c step) (steps_changes c steps) step found.0).0 as_found.0)
+
+-- ---- the loop over steps: whatever the rest comes to, all come to
+
+abbrev pub Goes : {F : Type 0} → Ghosts F → List Step → F → List Step → F → Type 0
+Goes {F} tree all first steps now = (c : Contents) (end : F) (r : Result (Unit {0}) PerformFault) → TakesAll tree c steps now end r → TakesAll tree c all first end r
+
+pub goes-on : {F : Type 0} (tree : Ghosts F) (all old new : List Step) (step : Step) (first now next : F) (u : Unit {0}) → old ≡ step ∷ new → Goes tree all first old now → ((c : Contents) → Takes tree c step now next (Ok u)) → Goes tree all first new next
+goes-on tree all old new step first now next u is goes one c end r more =
+    goes c end r (subst (λ l. TakesAll tree c l now end r) (sym is) (taken-then tree c step new now next end u r (one c) more))
+
+pub goes-broken : {F : Type 0} (tree : Ghosts F) (all old new : List Step) (step : Step) (first now next : F) (e : PerformFault) → old ≡ step ∷ new → Goes tree all first old now → ((c : Contents) → Takes tree c step now next (Err e)) → (c : Contents) → TakesAll tree c all first next (Err e)
+goes-broken tree all old new step first now next e is goes one c =
+    goes c next (Err e) (subst (λ l. TakesAll tree c l now next (Err e)) (sym is) (taken-front tree c step new now next e (one c)))
+
+pub goes-all : {F : Type 0} (tree : Ghosts F) (all old : List Step) (first now : F) → old ≡ [] → Goes tree all first old now → (c : Contents) → TakesAll tree c all first now (Ok tt)
+goes-all tree all old first now none goes c = goes c now (Ok tt) (subst (λ l. TakesAll tree c l now now (Ok tt)) (sym none) (λ found as_found. performs-nothing tree now))
+
+-- ---- a whole file
+
+pub whole-taken : {F : Type 0} (tree : Ghosts F) (c : Contents) (from to : PathValue) (size : ℕ) (old mid new : F) (u : Unit {0}) (r : Result (Unit {0}) PerformFault) → Carries tree (opened c to ∷ []) old mid (Ok u) → Takes tree c (Range from to 0 size) mid new r → Takes tree c (Whole from to size) old new r
+whole-taken tree c from to size old mid new u r one other found as_found told none =
+    let make = opened c to ∷ [] in
+    let bytes = writes_at to 0 (part_of c from 0 size) in
+    let own = read_both c make bytes from 0 size found in
+    let ran = one told (both_unrefused (tree.contents old) make bytes none).0 in
+    performs-then tree make bytes old mid new u r (performs-done tree make old mid u one) (other own.1 (ran.runs.elsewhere from own.0.kept ∙ as_found)) told none
+
+pub whole-broken : {F : Type 0} (tree : Ghosts F) (c : Contents) (from to : PathValue) (size : ℕ) (old new : F) (e : PerformFault) → Performs tree (opened c to ∷ []) old new (Err e) → Takes tree c (Whole from to size) old new (Err e)
+whole-broken tree c from to size old new e one found as_found = performs-front tree (opened c to ∷ []) (writes_at to 0 (part_of c from 0 size)) old new e one
+
+-- ---- a plan
+
+pub body-taken : {F : Type 0} (tree : Ghosts F) (c : Contents) (plan : Plan) (old mid new : F) (u : Unit {0}) (r : Result (Unit {0}) PerformFault) → TakesAll tree c plan.steps.items old mid (Ok u) → Performs tree (closing_changes plan.label plan.control ++ ended plan.mark) mid new r → TakesBody tree c plan old new r
+body-taken tree c plan old mid new u r one other found as_found =
+    let steps = steps_changes c plan.steps.items in
+    let closing = closing_changes plan.label plan.control in
+    let same : steps ++ (closing ++ ended plan.mark) ≡ (steps ++ closing) ++ ended plan.mark = sym (append_assoc steps closing (ended plan.mark)) in
+    let own = find-both c steps (closing ++ ended plan.mark) plan.steps.items (subst (λ l. FindAll c l plan.steps.items) (sym same) found) in
+    subst (λ l. Performs tree l old new r) same (performs-then tree steps (closing ++ ended plan.mark) old mid new u r (one own.0 as_found) other)
+
+pub body-broken : {F : Type 0} (tree : Ghosts F) (c : Contents) (plan : Plan) (old new : F) (e : PerformFault) → TakesAll tree c plan.steps.items old new (Err e) → TakesBody tree c plan old new (Err e)
+body-broken tree c plan old new e one found as_found =
+    let steps = steps_changes c plan.steps.items in
+    let closing = closing_changes plan.label plan.control in
+    let same : steps ++ (closing ++ ended plan.mark) ≡ (steps ++ closing) ++ ended plan.mark = sym (append_assoc steps closing (ended plan.mark)) in
+    let own = find-both c steps (closing ++ ended plan.mark) plan.steps.items (subst (λ l. FindAll c l plan.steps.items) (sym same) found) in
+    subst (λ l. Performs tree l old new (Err e)) same (performs-front tree steps (closing ++ ended plan.mark) old new e (one own.0 as_found))
+
+pub plan-taken : {F : Type 0} (tree : Ghosts F) (plan : Plan) (old mid new : F) (u : Unit {0}) (r : Result (Unit {0}) PerformFault) → Carries tree (begun plan.mark (codes "pg_rewind 1\n")) old mid (Ok u) → TakesBody tree (tree.contents old) plan mid new r
+    → IsFound (tree.contents old) plan → Performs tree (plan_changes (tree.contents old) plan) old new r
+plan-taken tree plan old mid new u r one other found told none =
+    let c = tree.contents old in
+    let first = begun plan.mark (codes "pg_rewind 1\n") in
+    let body = body_changes c plan ++ ended plan.mark in
+    let own = find-both c first body plan.steps.items found in
+    let ran = one told (both_unrefused c first body none).0 in
+    performs-then tree first body old mid new u r (performs-done tree first old mid u one)
+    (other own.1 (stay-found c c (tree.contents mid) first plan.steps.items ran.runs.elsewhere own.0 (all-found c plan.steps.items))) told none
+
+-- equal changes
+pub performs-same : {F : Type 0} (tree : Ghosts F) (xs ys : List Change) (a b : F) (r : Result (Unit {0}) PerformFault) → xs ≡ ys → Performs tree xs a b r → Performs tree ys a b r
+performs-same tree xs ys a b r is one = subst (λ l. Performs tree l a b r) is one

@@ -1,0 +1,10 @@
+use Rattle.std.proofs.Common.{[], ◌∷◌, ap, Err}
+use Rattle.cluster_tree.specs.Change.{Cuts}
+use Rattle.marked_runs.proofs.CarriedLemmas.{performs-broken, performs-done}
+use Rattle.rewind_writes.proofs.stepping.cut_one.Goals as goal
+
+pub returns-in-Ok-clause-performs : goal.returns-in-Ok-clause-performs
+returns-in-Ok-clause-performs g c = performs-done g.F.Tree (Cuts c.args.path c.args.size ∷ []) _ _ _ c.in-Ok.ensures.carries
+
+pub returns-in-Err-clause-performs : goal.returns-in-Err-clause-performs
+returns-in-Err-clause-performs g c = performs-broken g.F.Tree (Cuts c.args.path c.args.size ∷ []) _ _ c.in-Err.fault c.args.path _ (ap Err c.about.ensures) c.in-Err.ensures.carries

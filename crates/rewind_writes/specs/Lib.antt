@@ -1,0 +1,4 @@
+pub mod Looks
+pub mod Steps
+pub mod Plan
+pub mod Taken
