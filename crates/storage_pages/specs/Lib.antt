@@ -1,0 +1,2 @@
+pub mod MapPage
+pub mod SequencePage
