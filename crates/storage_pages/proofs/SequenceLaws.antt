@@ -1,5 +1,5 @@
 -- The page that a sequence's record makes.
-use Rattle.std.proofs.Common.{◌≡◌, ℕ, ◌+◌, ◌-◌, ◌*◌, ◌/◌, ◌<◌, ◌≤◌, ◌⊎◌, ◌&&◌, ◌||◌, inl, inr, List, Bool, true, false, Option, Some, None, Result, Ok, Err, length, refl, sym, ◌∙◌, ap, arith}
+use Rattle.std.proofs.Common.{◌≡◌, ℕ, ◌+◌, ◌-◌, ◌*◌, ◌<◌, ◌≤◌, ◌⊎◌, inl, inr, List, Bool, true, false, Option, Some, None, Result, Ok, Err, length, refl, sym, ◌∙◌, ap, arith}
 use Rattle.std.specs.Prelude.{replicate, if◌then◌else◌, nat_le}
 use Rattle.std.proofs.lemmas.Bool.Decides.{nat_tests}
 use Rattle.layout.specs.Splice.{splice}
@@ -7,19 +7,18 @@ use Rattle.layout.proofs.SpliceLemmas.{length-splice, byte-splice_below}
 use Rattle.block_refs.specs.Bytes.{main_bytes}
 use Rattle.block_refs.specs.Parts.{PartsView}
 use Rattle.page_layout.specs.Bytes.{byte, u16_at, u32_bytes, up8}
-use Rattle.page_layout.specs.Edits.{add_item, add_refusal, added, init_bytes, lower_after, refuse_or}
-use Rattle.page_layout.specs.Page.{count, lines_fit, pd_lower, pd_special, pd_upper, well_formed, Head, IsFormed}
+use Rattle.page_layout.specs.Edits.{add_item, added, init_bytes, lower_after, refuse_or}
+use Rattle.page_layout.specs.Page.{count, pd_lower, pd_special, pd_upper, IsFormed}
 use Rattle.page_layout.specs.declared.refusal.PageRefusal.{PageRefusal}
 use Rattle.page_layout.specs.declared.refusal.PageRefusal.TheVariants.{NoRoom}
 use Rattle.page_layout.specs.declared.refusal.RedoWhy.{RedoWhy}
 use Rattle.page_layout.specs.declared.refusal.RedoWhy.TheVariants.{Layout, Room}
 use Rattle.page_layout.proofs.ReadLemmas.{lower_u16, upper_u16, special_u16}
 use Rattle.page_layout.proofs.ShapeLemmas.{lines_below}
-use Rattle.page_masks.specs.Law.{Redone, view, SamePage, SameMasks, IsOperation}
+use Rattle.page_masks.specs.Law.{Redone, view, SameMasks, IsOperation}
 use Rattle.page_masks.proofs.Unshown.{well}
 use Rattle.page_laws.proofs.BtreeAnew.{init_size, empty_size, empty_lower, empty_upper, empty_special, empty_layout}
 use Rattle.page_laws.proofs.BtreeAdd.{insert_keeps}
-use Rattle.page_laws.specs.Views.{InsertsItem}
 use Rattle.record_layouts.specs.Sequence.{sequence_log_of}
 use Rattle.record_layouts.specs.declared.sequence.SequenceLog.{SequenceLog}
 use Rattle.redo_steps.specs.Redo.{laid_out, on_page, why_of}

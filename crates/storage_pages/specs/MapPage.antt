@@ -1,6 +1,6 @@
 -- A page of the visibility map in replay: PostgreSQL 16, src/backend/access/heap/visibilitymap.c, visibilitymap_set;
 -- src/include/access/visibilitymapdefs.h; src/backend/access/heap/heapam.c, heap_xlog_visible. Own: "Bits of the map".
-use Rattle.std.specs.Prelude.{ℕ, ◌+◌, ◌*◌, ◌%◌, ◌^◌, ◌<◌, List, Option, bit_or, slice_set, option_map, Ok, if◌then◌else◌}
+use Rattle.std.specs.Prelude.{ℕ, ◌*◌, ◌%◌, ◌^◌, List, Option, bit_or, slice_set, option_map, Ok, if◌then◌else◌}
 use Rattle.block_refs.specs.Bytes.{block_with, main_bytes}
 use Rattle.block_refs.specs.Parts.{PartsView}
 use Rattle.page_layout.specs.Bytes.{byte}

@@ -1,11 +1,11 @@
 //! Redo of VISIBLE on the page of the visibility map.
 
-ghost use Rattle.std.specs.Prelude.{ℕ, ◌≡◌, ◌*◌, ◌^◌, ◌<◌, length};
+ghost use Rattle.std.specs.Prelude.{◌≡◌, ◌*◌, ◌^◌, ◌<◌, length};
 ghost use Rattle.block_refs.specs.Parts.{ArePartsOf};
 ghost use Rattle.page_masks.specs.Kind.{is_zero};
 ghost use Rattle.page_masks.specs.Law.{stamped};
 ghost use Rattle.redo_steps.specs.Redo.{Makes, Redoes};
-ghost use Rattle.storage_replay.specs.MapBits.{map_byte, map_pair};
+ghost use Rattle.storage_replay.specs.MapBits.{map_byte};
 ghost use Rattle.storage_pages.specs.MapPage.{bits_set, started_map, visible_map, with_bits};
 
 use block_refs::Parts;
