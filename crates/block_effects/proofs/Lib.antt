@@ -1,0 +1,3 @@
+pub mod MeetLemmas
+pub mod LifeLemmas
+pub mod SlotLemmas

@@ -1,0 +1,5 @@
+pub mod Rules
+pub mod Gone
+pub mod Effects
+pub mod Lives
+pub mod Slot
