@@ -1,0 +1,4 @@
+pub mod Relations
+pub mod Excluded
+pub mod Actions
+pub mod Laws
