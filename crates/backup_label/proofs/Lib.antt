@@ -1,0 +1,2 @@
+pub mod TimeTextLemmas
+pub mod LabelLemmas

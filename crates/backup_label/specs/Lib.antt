@@ -1,0 +1,3 @@
+pub mod Time
+pub mod Text
+pub mod Reading
