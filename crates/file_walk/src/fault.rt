@@ -35,3 +35,27 @@ impl From<OutOfMemory> for WalkFault {
         WalkFault::File(FileFault::OutOfMemory)
     }
 }
+
+impl From<AllocError> for WalkFault {
+    ghost use Rattle.std.specs.Prelude.{◌≡◌};
+    ghost use Rattle.cluster_tree.specs.declared.file_fault.FileFault.TheVariants as file;
+    ghost use Rattle.file_walk.specs.declared.fault.WalkFault.TheVariants as fault;
+
+    ghost from_gives = { λ _ e. e ≡ fault.File file.OutOfMemory };
+
+    fn from(_: AllocError) -> WalkFault {
+        WalkFault::File(FileFault::OutOfMemory)
+    }
+}
+
+impl<T: Drop> From<AllocFailed<T>> for WalkFault {
+    ghost use Rattle.std.specs.Prelude.{◌≡◌};
+    ghost use Rattle.cluster_tree.specs.declared.file_fault.FileFault.TheVariants as file;
+    ghost use Rattle.file_walk.specs.declared.fault.WalkFault.TheVariants as fault;
+
+    ghost from_gives = { λ _ e. e ≡ fault.File file.OutOfMemory };
+
+    fn from(_: AllocFailed<T>) -> WalkFault {
+        WalkFault::File(FileFault::OutOfMemory)
+    }
+}

@@ -1,0 +1,4 @@
+pub mod RewoundControl
+pub mod Mixed
+pub mod Rewound
+pub mod Laws
