@@ -36,7 +36,7 @@ use Rattle.heap_pages.specs.Freeze.{freeze_page}
 use Rattle.heap_pages.specs.Visible.{visible_page}
 use Rattle.heap_pages.specs.declared.update.UpdateKind.{UpdateKind}
 use Rattle.heap_pages.specs.declared.update.UpdateKind.TheVariants.{Plain, Hot}
-use Rattle.heap_replay.specs.Given.{main_of, bytes_for, number_at}
+use Rattle.redo_reads.specs.Given.{main_of, bytes_for, number_at}
 use Rattle.heap_replay.specs.Tuples.{delete_operation, confirm_operation, lock_operation, lock_updated_operation, inplace_operation}
 use Rattle.heap_replay.specs.Added.{insert_operation, multi_insert_operation, old_parts, whole_tuple, on_one_page, update_first, update_new_operation, update_old_operation, update_operation}
 use Rattle.heap_replay.specs.Lines.{prune_operation, vacuum_operation, freeze_operation, visible_operation}

@@ -21,7 +21,7 @@ use Rattle.heap_pages.specs.Insert.{insert_page}
 use Rattle.heap_pages.specs.MultiInsert.{multi_insert_page}
 use Rattle.heap_pages.specs.Update.{has_parts, update_page, update_old_page, update_new_page}
 use Rattle.heap_pages.specs.declared.update.UpdateKind.{UpdateKind}
-use Rattle.heap_replay.specs.Given.{main_of, bytes_for, number_at}
+use Rattle.redo_reads.specs.Given.{main_of, bytes_for, number_at}
 
 -- INSERT
 abbrev pub insert_operation : Bool → LogRecord → PartsView → ℕ → List ℕ → Redone

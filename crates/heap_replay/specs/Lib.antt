@@ -1,4 +1,3 @@
-pub mod Given
 pub mod Tuples
 pub mod Added
 pub mod Lines

@@ -15,7 +15,7 @@ use Rattle.heap_pages.specs.Prune.{prune_page}
 use Rattle.heap_pages.specs.Vacuum.{vacuum_page}
 use Rattle.heap_pages.specs.Freeze.{freeze_page}
 use Rattle.heap_pages.specs.Visible.{visible_page}
-use Rattle.heap_replay.specs.Given.{main_of, bytes_for}
+use Rattle.redo_reads.specs.Given.{main_of, bytes_for}
 
 -- PRUNE
 abbrev pub prune_operation : LogRecord → PartsView → ℕ → List ℕ → Redone

@@ -12,7 +12,7 @@ use Rattle.heap_tuples.specs.Delete.{delete_page}
 use Rattle.heap_tuples.specs.Confirm.{confirm_page}
 use Rattle.heap_tuples.specs.Lock.{lock_page, lock_updated_page}
 use Rattle.heap_tuples.specs.Inplace.{inplace_page}
-use Rattle.heap_replay.specs.Given.{main_of, bytes_for, number_at}
+use Rattle.redo_reads.specs.Given.{main_of, bytes_for, number_at}
 
 -- DELETE
 abbrev pub delete_operation : LogRecord → PartsView → ℕ → List ℕ → Redone

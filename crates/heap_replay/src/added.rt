@@ -12,7 +12,7 @@ ghost use Rattle.heap_pages.specs.MultiInsert.{multi_insert_page};
 ghost use Rattle.heap_pages.specs.Update.{update_page, update_new_page};
 ghost use Rattle.heap_replay.specs.Added.{insert_operation, multi_insert_operation, old_parts, on_one_page, update_first, update_old_operation, update_operation};
 
-use crate::given::{bytes_for, number_at};
+use redo_reads::{bytes_for, number_at};
 use block_layouts::{
     HeapTuple, HeapTuples, OldParts, UpdateTuple, insert_tuple, multi_insert_tuples, update_tuple,
 };

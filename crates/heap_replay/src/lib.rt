@@ -2,7 +2,6 @@
 #![tactic(auto)]
 
 mod added;
-mod given;
 mod lines;
 mod operation;
 mod redo;

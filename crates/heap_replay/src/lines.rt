@@ -5,7 +5,7 @@ ghost use Rattle.block_refs.specs.Parts.{ArePartsOf};
 ghost use Rattle.redo_steps.specs.Redo.{Makes};
 ghost use Rattle.heap_replay.specs.Lines.{prune_operation, vacuum_operation, freeze_operation, visible_operation};
 
-use crate::given::bytes_for;
+use redo_reads::bytes_for;
 use block_layouts::{first_places, freeze_plans, prune_places};
 use block_refs::Parts;
 use heap_pages::{redo_freeze, redo_prune, redo_vacuum, redo_visible};

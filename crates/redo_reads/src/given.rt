@@ -3,7 +3,7 @@
 ghost use Rattle.std.specs.Prelude.{ℕ, ◌≡◌, Some, None, MatchResult};
 ghost use Rattle.page_layout.specs.declared.refusal.RedoWhy.TheVariants as RedoWhy;
 ghost use Rattle.block_refs.specs.Parts.{ArePartsOf};
-ghost use Rattle.heap_replay.specs.Given.{bytes_for, number_at};
+ghost use Rattle.redo_reads.specs.Given.{bytes_for, number_at};
 
 use block_refs::Parts;
 use page_layout::RedoWhy;

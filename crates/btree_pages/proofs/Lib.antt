@@ -1,0 +1,5 @@
+pub mod SpecialLemmas
+pub mod ItemsLemmas
+pub mod DeleteLemmas
+pub mod RestoreLemmas
+pub mod SplitLemmas
