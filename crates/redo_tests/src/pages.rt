@@ -1,5 +1,5 @@
 //! Pages before redo, and what it changed.
-use crate::driver::{bytes_of, cut_at, number};
+use crate::driver::{byte, bytes_of, cut_at, number};
 use page_layout::{Line, Page};
 use std::alloc::Global;
 use std::test::Fail;
@@ -10,6 +10,14 @@ const TUPLE: [u8; 32] = [
     0x58, 0x02, 0, 0, 7, 0, 0, 0, 9, 0, 0, 0, 1, 0, 2, 0, 0xFE, 0xFF, 0x01, 0x40, 0x22, 0xDD, 24,
     0, 1, 2, 3, 4, 5, 6, 7, 8,
 ];
+
+/// An index tuple of 16 bytes for a line N of block 1, its key eight bytes of A0 + N.
+fn index_tuple(n: u8) -> [u8; 16] {
+    let key = 160 + n % 16;
+    [
+        0, 0, 1, 0, n, 0, 16, 0, key, key, key, key, key, key, key, key,
+    ]
+}
 
 /// A place on a page.
 fn place(text: &str) -> Result<u16, Fail> {
@@ -56,6 +64,7 @@ fn change(alloc: Global, page: &mut Page, command: &str) -> Result<(), Fail> {
         "empty" => page.init(0)?,
         "index" => page.init(16)?,
         "tuple" => add(page, &TUPLE)?,
+        "key" => add(page, &index_tuple(byte(behind)?))?,
         "add" => add(page, &bytes_of(alloc, behind)?)?,
         "lines" => add_lines(page, place(behind)?)?,
         "unused" => page.set_line(place(behind)?, Line::Unused)?,

@@ -2,6 +2,7 @@
 use crate::logs::{LogOf, cursor_over};
 use crate::pages::{changes, made};
 use block_refs::split_record;
+use btree_replay::redo_btree;
 use heap_replay::redo_heap;
 use page_layout::{Page, RedoWhy};
 use std::alloc::Global;
@@ -26,17 +27,29 @@ pub fn number(text: &str) -> Result<u32, Fail> {
 }
 
 /// A number below 256.
-fn byte(text: &str) -> Result<u8, Fail> {
+pub fn byte(text: &str) -> Result<u8, Fail> {
     match u8::try_from(number(text)?) {
         Ok(number) => Ok(number),
         Err(_) => Err("no byte".into()),
     }
 }
 
-/// Bytes by their digits, none for a dash; behind a plus so many zeros.
+/// The same bytes so many times.
+fn repeated(alloc: Global, bytes: &[u8], times: u32) -> Result<Vec<u8>, Fail> {
+    let mut all = Vec::new(alloc);
+    for _ in 0..times {
+        all.extend_from_slice(bytes)?;
+    }
+    Ok(all)
+}
+
+/// Bytes by their digits, none for a dash; behind a plus so many zeros, behind a star how often.
 pub fn bytes_of(alloc: Global, text: &str) -> Result<Vec<u8>, Fail> {
     if text == "-" {
         return Ok(Vec::new(alloc));
+    }
+    if let Some((digits, times)) = text.split_once("*") {
+        return repeated(alloc, &hex::decode(alloc, digits)?, number(times)?);
     }
     let (digits, zeros) = cut_at(text, "+");
     let mut bytes = hex::decode(alloc, digits)?;
@@ -55,7 +68,10 @@ fn redone(alloc: Global, log: LogOf<'_>, id: u8, page: &mut Page) -> Result<Stri
     let cursor = cursor_over(alloc, log)?;
     let rec = cursor.current().ok_or("no record")?;
     let parts = split_record(rec)?;
-    let answer = redo_heap(rec, &parts, id, page);
+    let answer = match rec.header().manager {
+        11 => redo_btree(rec, &parts, id, page),
+        _ => redo_heap(rec, &parts, id, page),
+    };
     let left = changes(alloc, before.bytes(), page.bytes())?;
     match answer {
         Ok(()) => Ok(left),

@@ -1,0 +1,67 @@
+//! B-tree records that add a tuple, and metapages.
+//! The changes are those of an independent script over the pages of `nbtxlog.c` and `bufpage.c`.
+use crate::driver::check;
+use std::test::Fail;
+
+const ROWS: &str = "\
+# INSERT_LEAF of 16 bytes on an empty root that is a leaf: item at 8160, lower 28
+index, at 8188 03 | 11 0 700 0 | 0 1 0000010001001000A1A1A1A1A1A1A1A1 | 0100 = 4 68 6 10 12 1C \
+    14 E0 24 E09F20 8162 01 8164 01 8166 10 8168 A1A1A1A1A1A1A1A1
+# between others: the later lines move up
+index, at 8188 01, key 1, key 2, key 3, key 4 | 11 0 700 0 | 0 1 \
+    0000010007001000A7A7A7A7A7A7A7A7 | 0200 = 4 68 6 10 12 2C 14 A0 28 A0 32 D0 36 C0 40 \
+    B09F20 8098 01 8100 07 8102 10 8104 A7A7A7A7A7A7A7A7
+# .. behind the last, with 11 bytes
+index, at 8188 01, key 1, key 2, key 3, key 4 | 11 0 700 0 | 0 1 0000010007000B00C1C2C3 | 0500 \
+    = 4 68 6 10 12 2C 14 A0 40 A09F16 8098 01 8100 07 8102 0B 8104 C1C2C3
+# the bytes as they stand: an item without bytes
+index, at 8188 01, key 1, key 2, key 3, key 4 | 11 0 700 0 | 0 1 - | 0300 = 4 58 6 10 12 2C 32 \
+    B0 34 00 36 C0 40 B09F20
+# INSERT_UPPER: block 1 loses the flag of an incomplete split alone
+index, at 8184 0100000000000500, key 1 | 11 16 700 0 | 0 3 0000010002001000A2A2A2A2A2A2A2A2, 1 \
+    5 - | 0200 = 4 70 6 10 12 20 14 D0 28 D09F20 8146 01 8148 02 8150 10 8152 A2A2A2A2A2A2A2A2
+index, at 8188 FF030500 | 11 16 700 1 | 0 3 0000010002001000A2A2A2A2A2A2A2A2, 1 5 - | 0200 = 4 \
+    70 6 10 8188 7F
+# INSERT_META: the metapage is made anew
+index, at 8188 0200 | 11 32 700 0 | 0 3 0000010002001000A2A2A2A2A2A2A2A2, 1 5 -, 2 0 \
+    04000000030000000100000003000000010000000403020100 | 0100 = 4 98 6 10 12 1C 14 E0 24 \
+    E09F20 8162 01 8164 02 8166 10 8168 A2A2A2A2A2A2A2A2
+index, at 8188 8000 | 11 32 700 1 | 0 3 0000010002001000A2A2A2A2A2A2A2A2, 1 5 -, 2 0 \
+    04000000030000000100000003000000010000000403020100 | 0100 = 4 98 6 10 8188 00
+empty, at 64 FF, at 8176 FFFFFFFFFFFFFFFFFFFFFFFFFFFFFFFF | 11 32 700 2 | 0 3 \
+    0000010002001000A2A2A2A2A2A2A2A2, 1 5 -, 2 0 \
+    04000000030000000100000003000000010000000403020100 | 0100 = 4 98 6 10 12 48 14 F01FF01F 24 \
+    623105 28 04 32 03 36 01 40 03 44 01 48 04030201 62 F0BF00 8176 \
+    00000000000000000000000008000000
+# META_CLEANUP
+zeros | 11 224 700 0 | 0 0 04000000030000000100000003000000010000000403020100 | - = 4 70 6 10 \
+    12 48 14 F01FF01F0420 24 623105 28 04 32 03 36 01 40 03 44 01 48 04030201 62 F0BF 8188 08
+# Place: 0, and past the count and one more
+index, at 8188 01, key 1, key 2, key 3, key 4 | 11 0 700 0 | 0 1 \
+    0000010007001000A7A7A7A7A7A7A7A7 | 0000 = Place
+index, at 8188 01, key 1, key 2, key 3, key 4 | 11 0 700 0 | 0 1 \
+    0000010007001000A7A7A7A7A7A7A7A7 | 0600 = Place
+# Room: of 24 bytes there are 16; and just room
+index, at 14 3000 | 11 0 700 0 | 0 1 0000010001001800A1A1A1A1A1A1A1A1A1A1A1A1A1A1A1A1 | 0100 = \
+    Room
+index, at 14 3000 | 11 0 700 0 | 0 1 0000010001001000A1A1A1A1A1A1A1A1 | 0100 = 4 68 6 10 12 1C \
+    14 20 24 208020 34 01 36 01 38 10 40 A1A1A1A1A1A1A1A1
+# Layout: short main bytes, no block, a metapage of 24 bytes
+index, at 8188 01, key 1, key 2, key 3, key 4 | 11 0 700 0 | 0 1 \
+    0000010007001000A7A7A7A7A7A7A7A7 | 01 = Layout
+index, at 8188 01, key 1, key 2, key 3, key 4 | 11 16 700 1 | 0 1 \
+    0000010007001000A7A7A7A7A7A7A7A7, 1 5 - | 01 = Layout
+index, at 8188 01, key 1, key 2, key 3, key 4 | 11 0 700 0 | 1 1 \
+    0000010007001000A7A7A7A7A7A7A7A7 | 0100 = Layout
+zeros | 11 32 700 2 | 0 3 0000010002001000A2A2A2A2A2A2A2A2, 2 0 \
+    040000000300000001000000030000000100000004030201 | 0100 = Layout
+zeros | 11 224 700 0 | 1 0 04000000030000000100000003000000010000000403020100 | - = Layout
+# PageShape: zeros, a heap page, a cycle id that is none
+zeros | 11 0 700 0 | 0 1 0000010007001000A7A7A7A7A7A7A7A7 | 0000 = PageShape
+empty | 11 16 700 1 | 0 3 0000010002001000A2A2A2A2A2A2A2A2, 1 5 - | 0200 = PageShape
+index, at 8190 80FF | 11 0 700 0 | 0 1 0000010007001000A7A7A7A7A7A7A7A7 | 0100 = PageShape";
+
+#[test]
+fn tuples_come_to_pages(rt: HostRuntime) -> Result<(), Fail> {
+    check(&rt, ROWS)
+}
