@@ -50,3 +50,7 @@ init_has = record { formed = btree_formed (init_bytes 16) init_page; special = i
 
 pub anew_has : (p : List ℕ) → length p ≡ 8192 → HasSpecial (made_anew p)
 anew_has p size = spliced (init_bytes 16) (cut p 8176 16) init_has (length-cut p 8176 16 (omega (arith, size)))
+
+pub part_anew : (p : List ℕ) → length p ≡ 8192 → IsFormed (splice (init_bytes 16) 8176 (take 16 (drop 8176 p)))
+unfolding cut
+part_anew p size = let has = anew_has p size in has.formed

@@ -58,7 +58,7 @@ fn item_of(page: &[u8], k: usize) -> &[u8]
 pub fn put_lines_of(page: &mut [u8], from: &[u8], start: usize, end: usize) -> Result<(), RedoWhy>
     requires formed { IsFormed page.old }
     requires from { IsFormed from.now }
-    requires above { 0 < start }
+    requires above { start < end → 0 < start }
     requires there { end ≤ count from.now + 1 }
     ensures exact { Makes (with_items (items from.now start end) page.old) result page.new }
     ensures formed { IsFormed page.new }

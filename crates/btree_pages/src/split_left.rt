@@ -46,6 +46,7 @@ fn new_place(page: &[u8], op: &BtreeSplit) -> usize
     requires { IsFormed page.now }
     ensures value { result ≡ new_place op.now page.now }
     ensures there { result ≤ stay_end op.now page.now }
+    ensures above { result < stay_end op.now page.now → 0 < result }
 {
     let at = op.new_item as usize;
     let end = stay_end(page, op);

@@ -1,0 +1,7 @@
+pub mod Steps
+pub mod Special
+pub mod Added
+pub mod Halves
+pub mod Sizes
+pub mod Replayed
+pub mod Fresh
