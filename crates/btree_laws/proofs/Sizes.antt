@@ -38,7 +38,7 @@ items_size lists p r f e = by_case (all_items lists p f)
   where
     by_case : ((q : List ℕ) × AreAdded lists p q) ⊎ (with_items lists p ≡ Err Room) → length r ≡ 8192
     by_case (inl t) = subst (λ x. length x ≡ 8192) (done_same t.0 r (sym t.1.is ∙ e)) t.1.formed.size
-    by_case (inr no) = let x = sym no ∙ e in cc x
+    by_case (inr full) = let x = sym full ∙ e in cc x
 
 -- a page with tuples
 pub restored_size : (s : Special) (tuples : List (List ℕ)) (r : List ℕ) → restored tuples (empty_page s) ≡ Done r → length r ≡ 8192
