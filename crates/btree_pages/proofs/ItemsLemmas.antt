@@ -1,18 +1,15 @@
 -- Items added behind the last line.
-use Rattle.std.proofs.Common.{◌≡◌, ℕ, zero, suc, ◌+◌, ◌-◌, ◌*◌, ◌/◌, ◌<◌, ◌≤◌, ◌&&◌, ◌⊎◌, inl, inr, List, [], ◌∷◌, ◌++◌, map, reverse, Bool, true, false, Option, Some, None, Result, Ok, Err, length, refl, sym, ◌∙◌, ap, subst, arith}
-use Rattle.std.specs.Prelude.{if◌then◌else◌, nat_lt, nat_le}
+use Rattle.std.proofs.Common.{◌≡◌, ℕ, suc, ◌+◌, ◌-◌, ◌<◌, ◌≤◌, ◌&&◌, ◌⊎◌, inl, inr, List, [], ◌∷◌, ◌++◌, map, Bool, true, false, Ok, Err, length, refl, ◌∙◌, ap, arith}
+use Rattle.std.specs.Prelude.{nat_lt, nat_le}
 use Rattle.std.specs.List.{range_with_len}
 use Rattle.std.proofs.lemmas.Bool.Decides.{nat_tests}
 use Rattle.page_layout.specs.Bytes.{up8}
 use Rattle.page_layout.specs.Page.{pd_lower, pd_upper, count, item, IsFormed}
-use Rattle.page_layout.specs.Edits.{opened_at, added, added_at, add_refusal, add_item}
-use Rattle.page_layout.specs.declared.refusal.PageRefusal.{PageRefusal}
+use Rattle.page_layout.specs.Edits.{added, add_refusal, add_item}
 use Rattle.page_layout.specs.declared.refusal.PageRefusal.TheVariants.{NoRoom}
-use Rattle.page_layout.specs.declared.refusal.RedoWhy.{RedoWhy}
 use Rattle.page_layout.specs.declared.refusal.RedoWhy.TheVariants.{Room}
 use Rattle.page_masks.specs.Law.{Redone, and_then}
 use Rattle.page_masks.proofs.Unshown.{well}
-use Rattle.page_laws.specs.Views.{InsertsItem}
 use Rattle.page_laws.proofs.Refused.{OkPage, NotRefused}
 use Rattle.page_laws.proofs.BtreeAdd.{inserts, insert_keeps}
 use Rattle.page_laws.proofs.InsertLines.{inserted_formed}

@@ -1,5 +1,5 @@
 -- The tuples of a page that is restored.
-use Rattle.std.proofs.Common.{◌≡◌, ℕ, suc, ◌+◌, ◌-◌, ◌<◌, ◌≤◌, ◌⊎◌, inl, inr, Bor, List, [], ◌∷◌, ◌++◌, map, reverse, get_or, set, take, Ok, Err, length, refl, sym, ◌∙◌, ap, append_assoc, arith}
+use Rattle.std.proofs.Common.{◌≡◌, ℕ, suc, ◌+◌, ◌<◌, ◌≤◌, ◌⊎◌, inl, inr, Bor, List, [], ◌∷◌, ◌++◌, map, reverse, get_or, set, take, Err, length, ◌∙◌, ap, append_assoc, arith}
 use Rattle.std.proofs.lemmas.List.{reverse-append, length-reverse, map-append}
 use Rattle.std.proofs.Math.Seq.{take-suc, take-suc-set}
 use Rattle.page_layout.specs.Page.{IsFormed}

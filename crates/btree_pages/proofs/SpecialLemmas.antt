@@ -1,5 +1,5 @@
 -- The special space of a page, written back.
-use Rattle.std.proofs.Common.{◌≡◌, ℕ, ◌+◌, ◌<◌, ◌≤◌, List, length, take, drop, sym, ◌∙◌, ap, subst, arith}
+use Rattle.std.proofs.Common.{◌≡◌, ℕ, ◌+◌, ◌≤◌, List, length, take, drop, sym, ◌∙◌, ap, subst, arith}
 use borrow.Rule.Slice.PartMut.{put_mid}
 use Rattle.layout.specs.Splice.{splice}
 use Rattle.layout.proofs.SpliceLemmas.{length-splice, byte-splice_below}

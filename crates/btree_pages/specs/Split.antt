@@ -1,5 +1,5 @@
 -- SPLIT_L and SPLIT_R: PostgreSQL 16, src/backend/access/nbtree/nbtxlog.c, btree_xlog_split. Own: "Splits of B-tree pages".
-use Rattle.std.specs.Prelude.{ℕ, ◌+◌, ◌==◌, ◌&&◌, List, ◌++◌, [], ◌∷◌, Option, Some, None, min, nat_le, nat_lt, if◌then◌else◌}
+use Rattle.std.specs.Prelude.{ℕ, ◌+◌, ◌==◌, ◌&&◌, List, ◌++◌, ◌∷◌, Option, Some, None, min, nat_le, nat_lt, if◌then◌else◌}
 use Rattle.record_layouts.specs.declared.btree.BtreeSplit.{BtreeSplit}
 use Rattle.block_layouts.specs.Split.{SplitView}
 use Rattle.page_layout.specs.Page.{count}

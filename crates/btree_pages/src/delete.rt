@@ -57,7 +57,7 @@ pub fn redo_delete(page: &mut [u8], places: &Places<'_>) -> Result<(), RedoWhy>
     if places.len() > MOST_LINES {
         return Err(RedoWhy::Place);
     }
-    let mut room = [0u16; 2042];
+    let mut room = [0u16; MOST_LINES];
     lay_places(&mut room, places);
     take_garbage(page, &room[..places.len()])
 }

@@ -46,7 +46,7 @@ pub fn restore(page: &mut [u8], tuples: IndexTuples<'_>) -> Result<(), RedoWhy>
         return Err(RedoWhy::Room);
     }
     let none: &[u8] = &[];
-    let mut room = [none; 2042];
+    let mut room = [none; MOST_LINES];
     let size = tuples.len();
     lay_tuples(&mut room, tuples);
     put_backwards(page, &room[..size])

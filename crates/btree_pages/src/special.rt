@@ -12,9 +12,6 @@ use redo_steps::tuple::put_u32;
 /// The bytes of the special space (`BTPageOpaqueData`).
 pub const SPECIAL_SIZE: usize = 16;
 
-/// Where it begins.
-pub const SPECIAL_START: usize = 8176;
-
 /// `BTP_LEAF`.
 pub const LEAF: u16 = 1;
 

@@ -38,7 +38,11 @@ fn stay_end(page: &[u8], op: &BtreeSplit) -> usize
 {
     let first_right = op.first_right as usize;
     let behind = line_count(page) + 1;
-    if first_right <= behind { first_right } else { behind }
+    if first_right <= behind {
+        first_right
+    } else {
+        behind
+    }
 }
 
 // The place before which the new tuple comes.
@@ -94,12 +98,7 @@ fn begin_left(room: &mut [u8], page: &[u8], right: u32, op: &BtreeSplit)
 
 // The tuples that stay and the new one.
 #[tactic(auto, using(crate::proofs::SplitLemmas::before_refused, crate::proofs::SplitLemmas::new_refused, crate::proofs::SplitLemmas::both_added))]
-fn put_with_new(
-    room: &mut [u8],
-    page: &[u8],
-    op: &BtreeSplit,
-    new: &[u8],
-) -> Result<(), RedoWhy>
+fn put_with_new(room: &mut [u8], page: &[u8], op: &BtreeSplit, new: &[u8]) -> Result<(), RedoWhy>
     requires room { IsFormed room.old }
     requires page { IsFormed page.now }
     ensures { Makes (with_items (left_tuples op.now (Some new.now) page.now) room.old)

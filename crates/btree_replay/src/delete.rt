@@ -14,12 +14,7 @@ use redo_reads::bytes_for;
 use wal_records::Record;
 
 // So many places at the front of block 0's bytes.
-fn delete_places(
-    rec: &Record,
-    parts: &Parts,
-    ndeleted: u16,
-    page: &mut [u8],
-) -> Result<(), RedoWhy>
+fn delete_places(rec: &Record, parts: &Parts, ndeleted: u16, page: &mut [u8]) -> Result<(), RedoWhy>
     requires parts { ArePartsOf rec.now parts.now }
     requires size { length page.old ≡ 8192 }
     ensures { Makes (places_operation ndeleted rec.now parts.now page.old) result page.new }

@@ -16,12 +16,7 @@ use redo_reads::bytes_for;
 use wal_records::Record;
 
 // The root.
-fn root(
-    rec: &Record,
-    parts: &Parts,
-    op: &BtreeNewRoot,
-    page: &mut [u8],
-) -> Result<(), RedoWhy>
+fn root(rec: &Record, parts: &Parts, op: &BtreeNewRoot, page: &mut [u8]) -> Result<(), RedoWhy>
     requires parts { ArePartsOf rec.now parts.now }
     requires size { length page.old ≡ 8192 }
     ensures { Makes (root_operation rec.now parts.now op.now) result page.new }

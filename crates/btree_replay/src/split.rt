@@ -47,12 +47,7 @@ fn next_number(parts: &Parts) -> u32
 }
 
 // The new right page.
-fn split_right(
-    rec: &Record,
-    parts: &Parts,
-    op: &BtreeSplit,
-    page: &mut [u8],
-) -> Result<(), RedoWhy>
+fn split_right(rec: &Record, parts: &Parts, op: &BtreeSplit, page: &mut [u8]) -> Result<(), RedoWhy>
     requires parts { ArePartsOf rec.now parts.now }
     requires size { length page.old ≡ 8192 }
     ensures { Makes (split_right rec.now parts.now op.now) result page.new }

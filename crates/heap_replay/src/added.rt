@@ -12,7 +12,6 @@ ghost use Rattle.heap_pages.specs.MultiInsert.{multi_insert_page};
 ghost use Rattle.heap_pages.specs.Update.{update_page, update_new_page};
 ghost use Rattle.heap_replay.specs.Added.{insert_operation, multi_insert_operation, old_parts, on_one_page, update_first, update_old_operation, update_operation};
 
-use redo_reads::{bytes_for, number_at};
 use block_layouts::{
     HeapTuple, HeapTuples, OldParts, UpdateTuple, insert_tuple, multi_insert_tuples, update_tuple,
 };
@@ -25,6 +24,7 @@ use heap_tuples::flags::has_bit;
 use heap_tuples::{start_heap, trim_heap};
 use page_layout::RedoWhy;
 use record_layouts::{HeapInsert, HeapMultiInsert, HeapUpdate, Places};
+use redo_reads::{bytes_for, number_at};
 use wal_records::Record;
 
 /// The most tuples of a page (`MaxHeapTuplesPerPage`).

@@ -5,13 +5,13 @@ ghost use Rattle.block_refs.specs.Parts.{ArePartsOf};
 ghost use Rattle.redo_steps.specs.Redo.{Makes};
 ghost use Rattle.heap_replay.specs.Lines.{prune_operation, vacuum_operation, freeze_operation, visible_operation};
 
-use redo_reads::bytes_for;
 use block_layouts::{first_places, freeze_plans, prune_places};
 use block_refs::Parts;
 use heap_pages::{redo_freeze, redo_prune, redo_vacuum, redo_visible};
 use heap_tuples::trim_heap;
 use page_layout::RedoWhy;
 use record_layouts::{HeapFreezePage, HeapPrune, HeapVacuum, HeapVisible};
+use redo_reads::bytes_for;
 use wal_records::Record;
 
 /// PRUNE.

@@ -5,13 +5,13 @@ ghost use Rattle.block_refs.specs.Parts.{ArePartsOf};
 ghost use Rattle.redo_steps.specs.Redo.{Makes};
 ghost use Rattle.heap_replay.specs.Tuples.{delete_operation, confirm_operation, lock_operation, lock_updated_operation, inplace_operation};
 
-use redo_reads::{bytes_for, number_at};
 use block_refs::Parts;
 use heap_tuples::{
     redo_confirm, redo_delete, redo_inplace, redo_lock, redo_lock_updated, trim_heap,
 };
 use page_layout::RedoWhy;
 use record_layouts::{HeapConfirm, HeapDelete, HeapInplace, HeapLock};
+use redo_reads::{bytes_for, number_at};
 use wal_records::Record;
 
 /// DELETE.
