@@ -3,6 +3,7 @@ use Rattle.std.specs.Prelude.{ℕ, ◌≡◌, ◌⊎◌, Bool, true, false, not,
 use Rattle.acts.specs.Acts.{Ending, Done, Refused, ReadFailed, WriteFailed, SinkFailed, NoMemory}
 use Rattle.run_acts.specs.declared.cause.Cause.{Cause}
 use Rattle.run_acts.specs.declared.cause.Cause.TheVariants as cause
+use Rattle.run_acts.specs.declared.cause.HistoryCause.TheVariants as history
 use Rattle.run_acts.specs.declared.cause.PathCause.{PathCause}
 use Rattle.run_acts.specs.declared.cause.PathCause.TheVariants as paths
 
@@ -19,6 +20,7 @@ ending_of (cause.Changed path) = Refused
 ending_of (cause.Unfinished path) = Refused
 ending_of (cause.Paths p) = Refused
 ending_of (cause.Control c) = Refused
+ending_of (cause.History h) = Refused
 ending_of (cause.Rewind c) = Refused
 ending_of (cause.Log c) = Refused
 
@@ -52,6 +54,7 @@ is_of_files (cause.Changed path) = true
 is_of_files (cause.Unfinished path) = true
 is_of_files (cause.Paths p) = not (is_of_text p)
 is_of_files (cause.Control c) = true
+is_of_files (cause.History h) = true
 is_of_files (cause.Rewind c) = true
 is_of_files (cause.Log c) = true
 
@@ -78,6 +81,10 @@ has_values (cause.Paths (paths.NotFolder path)) = true
 has_values (cause.Paths (paths.Link path)) = true
 has_values (cause.Paths (paths.NameNotText path)) = true
 has_values (cause.Control c) = true
+has_values (cause.History (history.HistoryMissing root tli)) = true
+has_values (cause.History (history.BadLine root tli n)) = true
+has_values (cause.History (history.NotRising root tli n)) = true
+has_values (cause.History history.NoCommonAncestor) = false
 has_values (cause.Rewind c) = true
 has_values (cause.Log c) = true
 
@@ -94,5 +101,6 @@ status_of (cause.Changed path) = 1
 status_of (cause.Unfinished path) = 1
 status_of (cause.Paths p) = 1
 status_of (cause.Control c) = 1
+status_of (cause.History h) = 1
 status_of (cause.Rewind c) = 1
 status_of (cause.Log c) = 1

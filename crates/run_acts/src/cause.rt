@@ -29,6 +29,8 @@ pub enum Cause {
     Paths(PathCause),
     /// A control file is refused.
     Control(ControlCause),
+    /// A history of a timeline is refused.
+    History(HistoryCause),
     /// Clusters or files are unfit for what is to be done with them.
     Rewind(RewindCause),
     /// A log or a segment of one is refused.
@@ -70,13 +72,35 @@ pub enum ControlCause {
     Shape(Path, Field, u64),
 }
 
+/// What is wrong with the histories of timelines. The root of a cluster and a timeline come first.
+#[derive(Drop)]
+pub enum HistoryCause {
+    /// The timeline's history is not a file.
+    HistoryMissing(Path, u32),
+    /// The number of the first line that is no entry.
+    BadLine(Path, u32, u64),
+    /// The number of the first line that doesn't rise above the one before it.
+    NotRising(Path, u32, u64),
+    /// Two histories have nothing in common.
+    NoCommonAncestor,
+}
+
 /// Why clusters or files are unfit for what is to be done with them.
 #[derive(Drop)]
 pub enum RewindCause {
     /// The target's system identifier, and the source's.
     SystemsDiffer(u64, u64),
+    /// The root of a cluster whose log has no hints of its pages.
+    NoHints(Path),
     /// The root of a cluster that wasn't shut down, and its state.
     NotClean(Path, u32),
+    /// The end of the target's log, and the end of a record that starts below it and ends past it.
+    EndNotRecord(Lsn, Lsn),
+    /// The start of a record without one before it, up to which no checkpoint lies before the fork.
+    NoCommonCheckpoint(Lsn),
+    /// A record that changes relations in a way that isn't known: its start, its resource manager
+    /// and its info byte.
+    UnknownSpecial(Lsn, u8, u8),
     /// A folder stands in the place of a file.
     KindsDiffer(Path),
 }

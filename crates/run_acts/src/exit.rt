@@ -30,6 +30,7 @@ impl Exit {
             | Cause::Unfinished(_)
             | Cause::Paths(_)
             | Cause::Control(_)
+            | Cause::History(_)
             | Cause::Rewind(_)
             | Cause::Log(_) => 1,
         };
