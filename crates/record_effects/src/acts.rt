@@ -1,0 +1,184 @@
+//! What replay does at a reference of a record.
+
+ghost use Rattle.std.specs.Prelude.{◌≡◌, is_some};
+ghost use Rattle.block_refs.specs.Parts.{ArePartsOf};
+ghost use Rattle.block_effects.specs.Effects.{applied, is_left};
+ghost use Rattle.block_effects.specs.Gone.{is_main};
+ghost use Rattle.record_effects.specs.Acts.{act_at, act_by_rules, act_on, is_map, is_map_page, is_visible, made_or_changed, sets_map_bits};
+ghost use Rattle.record_effects.specs.Managers.{done_by, is_full_page, rules_of};
+
+use block_effects::is_gone;
+use block_refs::{BlockRef, Fork, ImageRef, Parts};
+use heap_replay::{acts_on, makes_anew};
+use record_layouts::{Heap2Op, Operation, XlogOp};
+use storage_pages::makes_sequence;
+use wal_records::Record;
+
+/// What replay does at a reference of a record.
+#[derive(Clone, Copy, Debug, PartialEq, Eq)]
+pub enum Act {
+    /// Nothing.
+    Nothing,
+    /// Its image is put in place, whatever the page's LSN.
+    Image,
+    /// Its page is made anew, whatever it was.
+    Make,
+    /// Its page is changed, where its LSN is below the record's end.
+    Change,
+    /// Bits are set in the page of the visibility map, where its LSN is below the record's end.
+    MapPage,
+    /// Nothing, since the record takes the block away.
+    Gone,
+}
+
+/// What a record does.
+pub(crate) fn done_by(rec: &Record) -> Operation
+    ensures { result ≡ done_by rec.now }
+{
+    let header = rec.header();
+    Operation::of(header.manager, header.info)
+}
+
+fn is_full_page(op: XlogOp) -> bool
+    ensures { result ≡ is_full_page op }
+{
+    match op {
+        XlogOp::Fpi => true,
+        _ => false,
+    }
+}
+
+fn is_visible(op: Heap2Op) -> bool
+    ensures { result ≡ is_visible op }
+{
+    match op {
+        Heap2Op::Visible => true,
+        _ => false,
+    }
+}
+
+fn sets_map_bits(op: Operation) -> bool
+    ensures { result ≡ sets_map_bits op }
+{
+    match op {
+        Operation::Heap2(op) => is_visible(op),
+        _ => false,
+    }
+}
+
+fn is_map(fork: Fork) -> bool
+    ensures { result ≡ is_map fork }
+{
+    match fork {
+        Fork::Visibility => true,
+        _ => false,
+    }
+}
+
+fn is_main(fork: Fork) -> bool
+    ensures { result ≡ is_main fork }
+{
+    match fork {
+        Fork::Main => true,
+        _ => false,
+    }
+}
+
+fn is_left(fork: Fork) -> bool
+    ensures { result ≡ is_left fork }
+{
+    match fork {
+        Fork::FreeSpace => true,
+        _ => false,
+    }
+}
+
+fn is_applied(image: Option<ImageRef>) -> bool
+    ensures { result ≡ is_some (applied image) }
+{
+    match image {
+        Some(image) => image.apply,
+        None => false,
+    }
+}
+
+/// Whether the page of a reference of the visibility map gets bits.
+fn is_map_page(rec: &Record, block: &BlockRef) -> bool
+    ensures { result ≡ is_map_page rec.now block.now }
+{
+    sets_map_bits(done_by(rec)) && block.id == 0 && is_map(block.name.fork)
+}
+
+/// Whether the manager's operation does something to the page of the reference with an id.
+fn acts(rec: &Record, parts: &Parts, id: u8) -> bool
+    ensures { result ≡ (rules_of rec.now).acts rec.now parts.now id }
+{
+    let op = done_by(rec);
+    match op {
+        Operation::Xlog(op) => is_full_page(op),
+        Operation::Heap(_) | Operation::Heap2(_) => acts_on(op, id),
+        Operation::Sequence(_) => makes_sequence(op) && id == 0,
+        _ => false,
+    }
+}
+
+/// Whether it makes the page anew.
+fn is_fresh(rec: &Record, parts: &Parts, id: u8) -> bool
+    ensures { result ≡ (rules_of rec.now).fresh rec.now parts.now id }
+{
+    let op = done_by(rec);
+    match op {
+        Operation::Xlog(op) => is_full_page(op),
+        Operation::Heap(_) | Operation::Heap2(_) => makes_anew(op) && id == 0,
+        Operation::Sequence(_) => makes_sequence(op) && id == 0,
+        _ => false,
+    }
+}
+
+fn made_or_changed(rec: &Record, parts: &Parts, block: &BlockRef) -> Act
+    ensures { result ≡ made_or_changed rec.now parts.now block.now }
+{
+    if is_fresh(rec, parts, block.id) {
+        Act::Make
+    } else {
+        Act::Change
+    }
+}
+
+fn act_by_rules(rec: &Record, parts: &Parts, block: &BlockRef) -> Act
+    ensures { result ≡ act_by_rules rec.now parts.now block.now }
+{
+    if is_main(block.name.fork) && acts(rec, parts, block.id) {
+        return made_or_changed(rec, parts, block);
+    }
+    if is_map_page(rec, block) {
+        return Act::MapPage;
+    }
+    Act::Nothing
+}
+
+fn act_at(rec: &Record, parts: &Parts, block: &BlockRef) -> Act
+    ensures { result ≡ act_at rec.now parts.now block.now }
+{
+    if is_left(block.name.fork) {
+        return Act::Nothing;
+    }
+    if is_applied(block.image) {
+        return Act::Image;
+    }
+    act_by_rules(rec, parts, block)
+}
+
+/// What replay does at a reference of a record: nothing where the record takes the block away, nor where
+/// it is of the free space map; an image that is applied is put in place; else its manager makes the page
+/// of a main fork anew or changes it, and VISIBLE sets bits of the map's page. The parts have to be those
+/// of the record, and the reference one of them.
+pub fn act_on(rec: &Record, parts: &Parts, block: &BlockRef) -> Act
+    requires parts { ArePartsOf rec.now parts.now }
+    ensures { result ≡ act_on rec.now parts.now block.now }
+{
+    if is_gone(rec, parts, block.name) {
+        return Act::Gone;
+    }
+    act_at(rec, parts, block)
+}

@@ -1,0 +1,10 @@
+//! What records of the server's own managers do to blocks: the effect of each, and its redo on a page.
+#![tactic(auto)]
+
+mod acts;
+mod laws;
+mod page;
+
+pub use acts::{Act, act_on};
+pub use laws::{acts_are_effects, managers_keep_their_rules, records_have_effects};
+pub use page::redo;
