@@ -14,7 +14,7 @@ struct Row<'a> {
 }
 
 /// Blocks 0, 65535 and 65536 of 1663/5/16384, and block 7 of 1663/5/16385.
-const FOUR_BLOCKS: &[u8] = &[
+pub(crate) const FOUR_BLOCKS: &[u8] = &[
     0, 0, 0, 0, 127, 6, 0, 0, 5, 0, 0, 0, 0, 64, 0, 0, 0, 0, 0, 0, // block 0
     1, 0x80, 0, 0, 0xFF, 0xFF, 0, 0, // block 65535 of the same relation
     2, 0x80, 0, 0, 0, 0, 1, 0, // block 65536
@@ -22,7 +22,7 @@ const FOUR_BLOCKS: &[u8] = &[
 ];
 
 /// Block 2 of 1663/5/16384, an empty heap page with a hole of 8168 bytes at 24, as FPI_FOR_HINT has it.
-const HINT: &[u8] = &[
+pub(crate) const HINT: &[u8] = &[
     0, 0x10, 0, 0, 24, 0, 24, 0, 3, 127, 6, 0, 0, 5, 0, 0, 0, 0, 64, 0, 0, 2, 0, 0, 0, // block 2
     0, 0, 0, 0, 0, 0, 0, 0, 0, 0, 0, 0, 24, 0, 0, 32, 0, 32, 4, 32, 0, 0, 0, 0,
 ];
@@ -35,7 +35,7 @@ const OTHER_FORKS: &[u8] = &[
 ];
 
 /// TRUNCATE of 1663/5/16384 to 10 blocks, of all its forks, and of its visibility map alone.
-const CUT_TO_10: &[u8] = &[
+pub(crate) const CUT_TO_10: &[u8] = &[
     255, 20, 10, 0, 0, 0, 127, 6, 0, 0, 5, 0, 0, 0, 0, 64, 0, 0, 7, 0, 0, 0,
 ];
 

@@ -1,4 +1,4 @@
-//! Tests of touched_blocks: rows for one driver.
+//! Tests of touched_blocks and of log_walk, as tables.
 #![tactic(auto)]
 
 #[cfg(test)]
@@ -7,3 +7,11 @@ mod known;
 mod records;
 #[cfg(test)]
 mod unknown;
+#[cfg(test)]
+mod walk_control;
+#[cfg(test)]
+mod walk_logs;
+#[cfg(test)]
+mod walk_rows;
+#[cfg(test)]
+mod walks;
