@@ -1,5 +1,5 @@
 -- Metapages that a record holds whole: PostgreSQL 16, src/backend/access/nbtree/nbtxlog.c, _bt_restore_meta.
-use Rattle.std.specs.Prelude.{ℕ, List, Ok}
+use Rattle.std.specs.Prelude.{ℕ, Ok}
 use Rattle.wal_records.specs.Reading.{LogRecord}
 use Rattle.block_refs.specs.Parts.{PartsView}
 use Rattle.block_layouts.specs.Meta.{metapage_of}
