@@ -1,5 +1,5 @@
 -- Items added and taken out.
-use Rattle.std.proofs.Common.{◌≡◌, ℕ, ◌+◌, List, [], ◌∷◌, false, sym, subst}
+use Rattle.std.proofs.Common.{ℕ, ◌+◌, List, [], ◌∷◌, false, sym, subst}
 use Rattle.page_layout.specs.Page.{count}
 use Rattle.page_layout.specs.Edits.{add_item}
 use Rattle.page_layout.specs.Deletes.{delete_items}

@@ -1,5 +1,5 @@
 -- A B-tree page made anew has no line.
-use Rattle.std.proofs.Common.{◌≡◌, ℕ, ◌+◌, ◌-◌, ◌/◌, ◌<◌, ◌≤◌, List, length, ◌∙◌, ap, arith}
+use Rattle.std.proofs.Common.{◌≡◌, ℕ, ◌+◌, ◌-◌, ◌/◌, ◌≤◌, List, length, ◌∙◌, ap, arith}
 use Rattle.std.specs.Prelude.{replicate}
 use Rattle.layout.proofs.SpliceLemmas.{byte-splice_below}
 use Rattle.page_layout.specs.Bytes.{up8, cut}

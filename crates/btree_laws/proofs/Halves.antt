@@ -1,9 +1,9 @@
 -- The page that is split: pages with equal masks have the same items and links, so the same list is added to both, made anew.
-use Rattle.std.proofs.Common.{◌≡◌, ℕ, zero, suc, ◌+◌, ◌-◌, ◌*◌, ◌<◌, ◌≤◌, ◌==◌, ◌&&◌, ◌≢◌, inl, inr, ⊎_elim, List, [], ◌∷◌, ◌++◌, map, length, take, drop, Bool, true, false, Option, Some, None, refl, sym, ◌∙◌, ap, subst, arith}
+use Rattle.std.proofs.Common.{◌≡◌, ℕ, zero, suc, ◌+◌, ◌-◌, ◌*◌, ◌<◌, ◌≤◌, ◌==◌, ◌&&◌, ◌≢◌, inr, ⊎_elim, List, [], ◌∷◌, ◌++◌, map, take, drop, Bool, true, false, Option, Some, None, refl, sym, ◌∙◌, ap, subst, arith}
 use Rattle.std.specs.Prelude.{min, nat_le, nat_lt, if◌then◌else◌}
 use Rattle.std.specs.List.{range_with_len}
 use Rattle.std.proofs.lemmas.Bool.Decides.{nat_tests, eqb_tells, leb_tells}
-use Rattle.page_layout.specs.Bytes.{byte, cut}
+use Rattle.page_layout.specs.Bytes.{cut}
 use Rattle.page_layout.specs.Page.{count, lp_off, lp_len, item}
 use Rattle.page_masks.specs.Mask.{mask}
 use Rattle.page_masks.specs.Law.{view, SameMasks}

@@ -33,7 +33,7 @@ use Rattle.btree_replay.specs.Delete.{places_operation, delete_operation, vacuum
 use Rattle.btree_replay.specs.Split.{or_none, split_left, split_right, split_neighbour, split_operation}
 use Rattle.btree_replay.specs.NewRoot.{root_operation, new_root_operation}
 use Rattle.btree_replay.specs.Operation.{btree_change, changed_by, done_by, btree_acts, btree_operation}
-use Rattle.btree_laws.proofs.Steps.{IsStep, done_same, step_operation}
+use Rattle.btree_laws.proofs.Steps.{done_same, step_operation}
 use Rattle.btree_laws.proofs.Special.{special_step, settled_change, settled_leaf, prev_change, prev_leaf}
 use Rattle.btree_laws.proofs.Added.{insert_step, delete_step}
 use Rattle.btree_laws.proofs.Halves.{left_step}

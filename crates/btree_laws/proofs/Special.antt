@@ -1,11 +1,10 @@
 -- Changes of the special space that redo makes: what is shown of it determines them.
-use Rattle.std.proofs.Common.{◌≡◌, ℕ, ◌+◌, ◌-◌, ◌*◌, ◌/◌, ◌%◌, ◌<◌, ◌≤◌, ◌==◌, inl, inr, ⊎_elim, List, [], ◌∷◌, Bool, true, false, length, refl, sym, ◌∙◌, ap, subst, arith}
+use Rattle.std.proofs.Common.{◌≡◌, ℕ, ◌+◌, ◌-◌, ◌*◌, ◌/◌, ◌%◌, ◌<◌, ◌≤◌, inl, ⊎_elim, List, [], ◌∷◌, true, false, length, sym, ◌∙◌, ap, subst, arith}
 use Rattle.std.specs.Prelude.{nat_le}
 use Rattle.std.proofs.lemmas.Bool.Decides.{leb_tells}
 use Rattle.layout.specs.Splice.{splice}
 use Rattle.layout.proofs.SpliceLemmas.{length-splice, byte-splice_in, byte-splice_below, byte-splice_above}
-use Rattle.page_layout.specs.Bytes.{byte, u16_bytes, u32_bytes, with_u16}
-use Rattle.page_masks.specs.Law.{Redone}
+use Rattle.page_layout.specs.Bytes.{byte, u16_bytes, u32_bytes}
 use Rattle.page_masks.specs.Mask.{shown_flags}
 use Rattle.page_laws.specs.Btree.{BtreePage, with_special, SpecialChange, StaysLeaf}
 use Rattle.page_laws.proofs.BtreeSpecial.{same_special, special_same, special_respects, special_keeps}

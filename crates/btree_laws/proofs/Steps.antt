@@ -1,5 +1,5 @@
 -- Steps on B-tree pages with equal masks, and the door from them to the law of the masks.
-use Rattle.std.proofs.Common.{◌≡◌, ℕ, List, Bool, true, false, IsTrue, Result, Ok, Err, length, refl, sym, ◌∙◌, ap, subst}
+use Rattle.std.proofs.Common.{◌≡◌, ℕ, List, Bool, true, false, Result, Ok, Err, length, refl, sym, ◌∙◌, ap, subst}
 use Rattle.page_layout.specs.declared.refusal.PageRefusal.{PageRefusal}
 use Rattle.page_layout.specs.declared.refusal.RedoWhy.TheVariants.{PageShape}
 use Rattle.page_masks.specs.declared.kind.PageKind.{PageKind}
