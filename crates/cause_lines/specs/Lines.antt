@@ -14,6 +14,7 @@ use Rattle.run_acts.specs.declared.cause.Cause.{Cause}
 use Rattle.run_acts.specs.declared.cause.Cause.TheVariants as cause
 use Rattle.run_acts.specs.declared.cause.PathCause.TheVariants as paths
 use Rattle.run_acts.specs.declared.cause.ControlCause.TheVariants as control
+use Rattle.run_acts.specs.declared.cause.HistoryCause.TheVariants as history
 use Rattle.run_acts.specs.declared.cause.RewindCause.TheVariants as rewind
 use Rattle.run_acts.specs.declared.cause.LogCause.TheVariants as logs
 use Rattle.commands.specs.declared.name.CommandName.{CommandName}
@@ -28,6 +29,7 @@ abbrev pub fixed_name : Fixed → List ℕ
 fixed_name fixed.Usage = codes "Usage"
 fixed_name fixed.DotDot = codes "DotDot"
 fixed_name fixed.PathsOverlap = codes "PathsOverlap"
+fixed_name fixed.NoCommonAncestor = codes "NoCommonAncestor"
 fixed_name fixed.NotBuilt = codes "NotBuilt"
 fixed_name fixed.ReadFault = codes "ReadFault"
 fixed_name fixed.WriteFault = codes "WriteFault"
@@ -81,8 +83,25 @@ end_pieces at why = codes "LogEnds " ∷ lsn_text at.0 ∷ codes " " ∷ why_nam
 abbrev pub record_pieces : List ℕ → Lsn → ℕ → List (List ℕ)
 record_pieces what at n = what ∷ codes " " ∷ lsn_text at.0 ∷ codes " " ∷ decimal n ∷ []
 
-abbrev pub place_pieces : Lsn → List (List ℕ)
-place_pieces at = codes "NoRecordAt " ∷ lsn_text at.0 ∷ []
+-- a cause with a position
+abbrev pub place_pieces : List ℕ → Lsn → List (List ℕ)
+place_pieces what at = what ∷ codes " " ∷ lsn_text at.0 ∷ []
+
+-- an end, and the end of the record that goes past it
+abbrev pub ends_pieces : Lsn → Lsn → List (List ℕ)
+ends_pieces end found = codes "EndNotRecord " ∷ lsn_text end.0 ∷ codes " " ∷ lsn_text found.0 ∷ []
+
+-- the start of a record, its manager and its info byte
+abbrev pub special_pieces : Lsn → ℕ → ℕ → List (List ℕ)
+special_pieces at manager info = codes "UnknownSpecial " ∷ lsn_text at.0 ∷ codes " " ∷ decimal manager ∷ codes " " ∷ decimal info ∷ []
+
+-- a root, and a timeline whose history isn't there
+abbrev pub missing_pieces : PathValue → ℕ → List (List ℕ)
+missing_pieces root tli = codes "HistoryMissing " ∷ path_text root ∷ codes " " ∷ decimal tli ∷ []
+
+-- a cause with a root, a timeline and the number of a line of its history
+abbrev pub entry_pieces : List ℕ → PathValue → ℕ → ℕ → List (List ℕ)
+entry_pieces what root tli n = what ∷ codes " " ∷ path_text root ∷ codes " " ∷ decimal tli ∷ codes " " ∷ decimal n ∷ []
 
 -- the line of a cause; there is none of Done
 abbrev pub line_of : Option CommandName → Cause → List ℕ
@@ -107,13 +126,21 @@ line_of name (cause.Control (control.Crc root stored computed)) = line_with name
 line_of name (cause.Control (control.Version root n)) = line_with name (number_pieces (codes "Version") root n)
 line_of name (cause.Control (control.Catalog root n)) = line_with name (number_pieces (codes "Catalog") root n)
 line_of name (cause.Control (control.Shape root field n)) = line_with name (shape_pieces root field n)
+line_of name (cause.History (history.HistoryMissing root tli)) = line_with name (missing_pieces root tli)
+line_of name (cause.History (history.BadLine root tli n)) = line_with name (entry_pieces (codes "BadLine") root tli n)
+line_of name (cause.History (history.NotRising root tli n)) = line_with name (entry_pieces (codes "NotRising") root tli n)
+line_of name (cause.History history.NoCommonAncestor) = fixed_line name fixed.NoCommonAncestor
 line_of name (cause.Rewind (rewind.SystemsDiffer target source)) = line_with name (systems_pieces target source)
+line_of name (cause.Rewind (rewind.NoHints root)) = line_with name (path_pieces (codes "NoHints") root)
 line_of name (cause.Rewind (rewind.NotClean root n)) = line_with name (number_pieces (codes "NotClean") root n)
+line_of name (cause.Rewind (rewind.EndNotRecord end found)) = line_with name (ends_pieces end found)
+line_of name (cause.Rewind (rewind.NoCommonCheckpoint at)) = line_with name (place_pieces (codes "NoCommonCheckpoint") at)
+line_of name (cause.Rewind (rewind.UnknownSpecial at manager info)) = line_with name (special_pieces at manager info)
 line_of name (cause.Rewind (rewind.KindsDiffer path)) = line_with name (path_pieces (codes "KindsDiffer") path)
 line_of name (cause.Log (logs.LogEnds at why)) = line_with name (end_pieces at why)
 line_of name (cause.Log (logs.BadParts at offset)) = line_with name (record_pieces (codes "BadParts") at offset)
 line_of name (cause.Log (logs.Compressed at id)) = line_with name (record_pieces (codes "Compressed") at id)
-line_of name (cause.Log (logs.NoRecordAt at)) = line_with name (place_pieces at)
+line_of name (cause.Log (logs.NoRecordAt at)) = line_with name (place_pieces (codes "NoRecordAt") at)
 line_of name (cause.Log (logs.NoWal path)) = line_with name (path_pieces (codes "NoWal") path)
 line_of name (cause.Log (logs.BadSegment path)) = line_with name (path_pieces (codes "BadSegment") path)
 

@@ -3,6 +3,7 @@
 
 mod fixed;
 mod lines;
+mod unfit;
 
 pub use fixed::{Fixed, fixed_line};
 pub use lines::{Line, line_of};

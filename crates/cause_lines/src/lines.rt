@@ -1,19 +1,20 @@
 // The line of a cause.
 ghost use Rattle.std.specs.Prelude.{◌≡◌, string_bytes, false, IfOk, IsOk};
-ghost use Rattle.cause_lines.specs.Lines.{line_with, path_pieces, number_pieces, crc_pieces, shape_pieces, systems_pieces, end_pieces, record_pieces, place_pieces, why_name, line_of, made_text};
+ghost use Rattle.cause_lines.specs.Lines.{line_with, path_pieces, number_pieces, crc_pieces, shape_pieces, end_pieces, record_pieces, place_pieces, why_name, line_of, made_text};
 ghost use Rattle.run_acts.specs.Causes.{has_values};
 
 use crate::fixed::Fixed;
+use crate::unfit::{history_line, unfit_line};
 use cluster_tree::Path;
 use commands::{CommandName, name_text};
 use control_file::Field;
-use run_acts::{Cause, ControlCause, LogCause, PathCause, RewindCause};
+use run_acts::{Cause, ControlCause, LogCause, PathCause};
 use std::alloc::{AllocError, Global};
 use wal_base::{HexWord, Lsn};
 use wal_records::Why;
 
 // The line of a cause with a path.
-fn path_line(
+pub(crate) fn path_line(
     alloc: Global,
     name: Option<CommandName>,
     what: &str,
@@ -27,7 +28,7 @@ fn path_line(
 }
 
 // The line of a cause with a root and a number.
-fn number_line(
+pub(crate) fn number_line(
     alloc: Global,
     name: Option<CommandName>,
     what: &str,
@@ -81,20 +82,6 @@ fn crc_line(
     format!(in alloc; "{name}: error: Crc {root} {stored} {computed}\n")
 }
 
-// The line of two systems.
-fn systems_line(
-    alloc: Global,
-    name: Option<CommandName>,
-    target: u64,
-    source: u64,
-) -> Result<String, AllocError>
-    ensures { IfOk result (λ line. string_bytes line ≡ line_with name
-        (systems_pieces target source)) }
-{
-    let name = name_text(name);
-    format!(in alloc; "{name}: error: SystemsDiffer {target} {source}\n")
-}
-
 // The line of what is wrong with a control file.
 fn control_line(
     alloc: Global,
@@ -117,24 +104,6 @@ fn control_line(
             number_line(alloc, name, "Catalog", root, u64::from(*version))
         }
         ControlCause::Shape(root, field, value) => shape_line(alloc, name, root, *field, *value),
-    }
-}
-
-// The line of clusters or files that are unfit.
-fn unfit_line(
-    alloc: Global,
-    name: Option<CommandName>,
-    unfit: &RewindCause,
-) -> Result<String, AllocError>
-    ensures { IfOk result (λ line. string_bytes line ≡
-        line_of name (Cause.Rewind unfit.now)) }
-{
-    match unfit {
-        RewindCause::SystemsDiffer(target, source) => systems_line(alloc, name, *target, *source),
-        RewindCause::NotClean(root, state) => {
-            number_line(alloc, name, "NotClean", root, u64::from(*state))
-        }
-        RewindCause::KindsDiffer(path) => path_line(alloc, name, "KindsDiffer", path),
     }
 }
 
@@ -170,12 +139,18 @@ fn end_line(
     format!(in alloc; "{name}: error: LogEnds {at} {why}\n")
 }
 
-// The line of a start from which there is no record.
-fn place_line(alloc: Global, name: Option<CommandName>, at: Lsn) -> Result<String, AllocError>
-    ensures { IfOk result (λ line. string_bytes line ≡ line_with name (place_pieces at)) }
+// The line of a cause with a position.
+pub(crate) fn place_line(
+    alloc: Global,
+    name: Option<CommandName>,
+    what: &str,
+    at: Lsn,
+) -> Result<String, AllocError>
+    ensures { IfOk result (λ line. string_bytes line ≡ line_with name
+        (place_pieces what.now at)) }
 {
     let name = name_text(name);
-    format!(in alloc; "{name}: error: NoRecordAt {at}\n")
+    format!(in alloc; "{name}: error: {what} {at}\n")
 }
 
 // The line of a record that can't be read, with a number.
@@ -201,7 +176,7 @@ fn log_line(alloc: Global, name: Option<CommandName>, log: &LogCause) -> Result<
         LogCause::LogEnds(at, why) => end_line(alloc, name, *at, *why),
         LogCause::BadParts(at, offset) => record_line(alloc, name, "BadParts", *at, *offset),
         LogCause::Compressed(at, id) => record_line(alloc, name, "Compressed", *at, u32::from(*id)),
-        LogCause::NoRecordAt(at) => place_line(alloc, name, *at),
+        LogCause::NoRecordAt(at) => place_line(alloc, name, "NoRecordAt", *at),
         LogCause::NoWal(path) => path_line(alloc, name, "NoWal", path),
         LogCause::BadSegment(path) => path_line(alloc, name, "BadSegment", path),
     }
@@ -252,6 +227,7 @@ pub fn line_of(alloc: Global, name: Option<CommandName>, cause: &Cause) -> Resul
         Cause::Unfinished(path) => Line::Made(path_line(alloc, name, "Unfinished", path)?),
         Cause::Paths(paths) => path_cause_line(alloc, name, paths)?,
         Cause::Control(control) => Line::Made(control_line(alloc, name, control)?),
+        Cause::History(history) => history_line(alloc, name, history)?,
         Cause::Rewind(unfit) => Line::Made(unfit_line(alloc, name, unfit)?),
         Cause::Log(log) => Line::Made(log_line(alloc, name, log)?),
     })
