@@ -1,12 +1,11 @@
 -- Faults of clusters as faults of a rewind.
-use Rattle.std.proofs.Common.{◌≡◌, ◌⊎◌, inl, inr, Option, None, Some, Result, Ok, Err, option_map, refl, ap, ◌∙◌, sym}
+use Rattle.std.proofs.Common.{◌≡◌, ◌⊎◌, inl, inr, Option, Some, Result, Err, option_map, refl, ap}
 use Rattle.cluster_tree.specs.PathValue.{PathValue}
 use Rattle.clusters.specs.Faults.{IsFree}
 use Rattle.clusters.specs.declared.fault.ClusterFault.{ClusterFault}
 use Rattle.clusters.specs.declared.fault.ClusterFault.TheVariants as cluster
 use Rattle.rewind_core.specs.Faults.{of_cluster, told_by}
 use Rattle.rewind_core.specs.Faults as faults
-use Rattle.rewind_core.specs.declared.fault.RewindFault.{RewindFault}
 use Rattle.rewind_core.specs.declared.fault.RewindFault.TheVariants as fault
 
 free_by : (e : ClusterFault) → IsFree e → faults.IsFree (of_cluster e)

@@ -1,1 +1,4 @@
 pub mod FaultLemmas
+pub mod WalkLemmas
+pub mod PlanLemmas
+pub mod StageLemmas

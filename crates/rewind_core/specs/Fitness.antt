@@ -3,7 +3,6 @@ use Rattle.std.specs.Prelude.{◌==◌, ◌||◌, not, if◌then◌else◌, List
 use Rattle.cluster_tree.specs.PathValue.{PathValue}
 use Rattle.control_file.specs.declared.control.Control.{Control}
 use Rattle.control_file.specs.declared.field.Field.TheVariants as field
-use Rattle.control_file.specs.Reading.{timeline_of}
 use Rattle.rewind_core.specs.declared.fault.RewindFault.{RewindFault}
 use Rattle.rewind_core.specs.declared.fault.RewindFault.TheVariants as fault
 
@@ -26,10 +25,6 @@ no_hints target t = if not (t.walLogHints == 0) || (t.checksumVersion == 1) then
 unfoldable pub not_clean : PathValue → Control → Option RewindFault
 not_clean root c = if c.state == 1 then None else Some (fault.NotClean root c.state)
 
--- the timelines differ, which isn't built yet
-unfoldable pub other_timeline : Control → Control → Option RewindFault
-other_timeline t s = if timeline_of t == timeline_of s then None else Some fault.NotBuilt
-
 -- what the target's control file t and the source's s must meet, in order
 abbrev pub pair_points : PathValue → PathValue → Control → Control → List (Option RewindFault)
 pair_points target source t s =
@@ -37,5 +32,4 @@ pair_points target source t s =
     ∷ systems_differ t s
     ∷ no_hints target t
     ∷ not_clean target t
-    ∷ not_clean source s
-    ∷ other_timeline t s ∷ []
+    ∷ not_clean source s ∷ []

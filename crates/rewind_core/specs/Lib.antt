@@ -1,3 +1,4 @@
 pub mod Faults
 pub mod Fitness
-pub mod Rewind
+pub mod Plan
+pub mod Survey

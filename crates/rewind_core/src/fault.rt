@@ -2,6 +2,8 @@
 use cluster_tree::{OutOfMemory, Path};
 use control_file::Field;
 use thiserror::Error;
+use wal_base::Lsn;
+use wal_records::Why;
 
 /// Why nothing was rewound, in the order in which it is looked for. A root is the target's or the
 /// source's.
@@ -46,9 +48,28 @@ pub enum RewindFault {
     /// The root, a timeline, and the number of the line of its history that doesn't rise.
     #[error("line {2} of the history of timeline {1} of {0} doesn't rise")]
     NotRising(Path, u32, u64),
-    /// The timelines differ, which is not built yet.
-    #[error("a rewind from another timeline is not built yet")]
-    NotBuilt,
+    /// The histories of target and source have nothing in common.
+    #[error("the histories of target and source have nothing in common")]
+    NoCommonAncestor,
+    /// Where the target's log ends before a position that is needed, and why.
+    #[error("the target's log ends at {0}: {1:?}")]
+    LogEnds(Lsn, Why),
+    /// The start of a record without parts, and the offset in its body at which no rule fits.
+    #[error("the record at {0} has no parts from offset {1} on")]
+    BadParts(Lsn, u32),
+    /// The start of a record with a compressed image, and the id of its block reference.
+    #[error("the record at {0} has a compressed image of block {1}")]
+    Compressed(Lsn, u8),
+    /// The start of a record without one before it, up to which there is no checkpoint.
+    #[error("no checkpoint before the fork lies between it and {0}")]
+    NoCommonCheckpoint(Lsn),
+    /// The start of a record that changes relations in a way that isn't known, its resource manager
+    /// and its info byte.
+    #[error("the record at {0} of manager {1} with info {2:02X} is not known")]
+    UnknownSpecial(Lsn, u8, u8),
+    /// The end of the target's log, and the end of a record that starts below it and ends past it.
+    #[error("the target's log is to end at {0}, and a record goes on to {1}")]
+    EndNotRecord(Lsn, Lsn),
     /// A read of the device failed.
     #[error("a read failed")]
     ReadFault,
@@ -67,6 +88,17 @@ impl From<OutOfMemory> for RewindFault {
     ghost from_gives = { λ _ e. e ≡ fault.OutOfMemory };
 
     fn from(_: OutOfMemory) -> RewindFault {
+        RewindFault::OutOfMemory
+    }
+}
+
+impl From<wal_base::OutOfMemory> for RewindFault {
+    ghost use Rattle.std.specs.Prelude.{◌≡◌};
+    ghost use Rattle.rewind_core.specs.declared.fault.RewindFault.TheVariants as fault;
+
+    ghost from_gives = { λ _ e. e ≡ fault.OutOfMemory };
+
+    fn from(_: wal_base::OutOfMemory) -> RewindFault {
         RewindFault::OutOfMemory
     }
 }

@@ -3,7 +3,7 @@ ghost use Rattle.std.specs.Prelude.{◌≡◌, ◌≢◌, Err};
 ghost use Rattle.cluster_tree.specs.PathValue.{PathValue};
 ghost use Rattle.cluster_tree.specs.Causes.{Passes, first_of};
 ghost use Rattle.rewind_core.specs.Faults.{IsFree};
-ghost use Rattle.rewind_core.specs.Fitness.{pair_points, other_sizes, systems_differ, no_hints, not_clean, other_timeline};
+ghost use Rattle.rewind_core.specs.Fitness.{pair_points, other_sizes, systems_differ, no_hints, not_clean};
 
 use crate::RewindFault;
 use cluster_tree::Path;
@@ -28,8 +28,7 @@ pub(crate) fn check_pair(
     check_systems(t, s)?;
     check_hints(alloc, target, t)?;
     check_clean(alloc, target, t)?;
-    check_clean(alloc, source, s)?;
-    check_timelines(t, s)
+    check_clean(alloc, source, s)
 }
 
 // Refuses a source whose files are cut at another size than the target's.
@@ -83,19 +82,6 @@ fn check_clean(alloc: Global, root: &Path, c: &Control) -> Result<(), RewindFaul
 {
     if c.state != 1 {
         return Err(RewindFault::NotClean(root.copy(alloc)?, c.state));
-    }
-    Ok(())
-}
-
-// Refuses two timelines.
-#[tactic(auto, unfolding(crate::specs::Fitness::other_timeline))]
-fn check_timelines(t: &Control, s: &Control) -> Result<(), RewindFault>
-    ensures answer { Passes IsFree (other_timeline t.now s.now) result }
-    ensures read_fault { result ≢ Err RewindFault.ReadFault }
-    ensures changed { (p : PathValue) → result ≢ Err (RewindFault.Changed p) }
-{
-    if t.timeline() != s.timeline() {
-        return Err(RewindFault::NotBuilt);
     }
     Ok(())
 }

@@ -1,12 +1,16 @@
-//! Whether a cluster needs a rewind.
+//! What a rewind has to begin from: whether two clusters need one, where they parted, and which blocks
+//! the target's log touched since.
 #![tactic(auto)]
 
 mod answer;
 mod fault;
 mod fitness;
 mod outcome;
+mod parting;
 mod roots;
+mod walks;
 
-pub use answer::rewind;
+pub use answer::plan;
 pub use fault::RewindFault;
-pub use outcome::{Divergence, RewindDone, Told};
+pub use outcome::{Plan, Planned, Told};
+pub use timeline_history::Divergence;
