@@ -2,7 +2,7 @@
 // script of its own (tests/pg_control.py).
 use cluster_tree::{FailPlan, FailingTree, MemoryTree, Path, Tree};
 use clusters::{Found, read_whole};
-use rewind_core::rewind;
+use rewind_core::{Planned, plan};
 use std::alloc::Global;
 use std::process::Abort;
 use std::test::Fail;
@@ -95,7 +95,7 @@ fn two_clusters(alloc: Global, target: Given, source: Given, rt: &impl Abort) ->
     tree
 }
 
-// What a rewind of `t` from `s` says.
+// What the target `t` needs to follow `s`.
 fn said<F: Tree>(alloc: Global, tree: &mut F, rt: &impl Abort) -> Result<String, Fail> {
     let target = path(alloc, "t", rt);
     let source = path(alloc, "s", rt);
@@ -104,13 +104,15 @@ fn said<F: Tree>(alloc: Global, tree: &mut F, rt: &impl Abort) -> Result<String,
     let source_holds = source.holds(&target);
     assert!(rt; !target_holds);
     assert!(rt; !source_holds);
-    Ok(match rewind(alloc, tree, &target, &source, 1700000000) {
-        Ok(done) => format!(in alloc; "{done:?}")?,
+    Ok(match plan(alloc, tree, &target, &source) {
+        Ok(Planned::SameTimeline) => format!(in alloc; "nothing on one timeline")?,
+        Ok(Planned::EndsAtFork(fork)) => format!(in alloc; "nothing past {fork:?}")?,
+        Ok(Planned::Needed(plan)) => format!(in alloc; "{:?}", plan.told())?,
         Err(fault) => format!(in alloc; "{fault}")?,
     })
 }
 
-// Runs a rewind, which has to say this and to leave the tree as it is.
+// Plans a rewind, which has to say this and to leave the tree as it is.
 fn check(
     alloc: Global,
     tree: &mut MemoryTree,
@@ -128,16 +130,16 @@ fn check(
 fn two_control_files_are_fit_or_refused(rt: HostRuntime) -> Result<(), Fail> {
     let alloc = rt.alloc();
     let table = [
-        (PLAIN, PLAIN, "NotNeeded(None)"),
+        (PLAIN, PLAIN, "nothing on one timeline"),
         (
             edited(&[(176, 1, 0), (252, 4, 1)], 0x8C35_2B16),
             PLAIN,
-            "NotNeeded(None)",
+            "nothing on one timeline",
         ),
         (
             PLAIN,
             edited(&[(176, 1, 0)], 0xBFF9_90AA),
-            "NotNeeded(None)",
+            "nothing on one timeline",
         ),
         (
             edited(&[(100, 1, 1)], 0x9520_8C9A),
@@ -195,16 +197,50 @@ fn two_control_files_are_fit_or_refused(rt: HostRuntime) -> Result<(), Fail> {
         (
             PLAIN,
             edited(&[(48, 4, 2)], 0x90A4_0D21),
-            "a rewind from another timeline is not built yet",
+            "s has no history of timeline 2",
         ),
         (
             edited(&[(144, 4, 2)], 0x6801_8C0A),
             edited(&[(48, 4, 2)], 0x90A4_0D21),
-            "NotNeeded(None)",
+            "nothing on one timeline",
         ),
     ];
     for (target, source, expected) in table {
         let mut tree = two_clusters(alloc, target, source, &rt);
+        check(alloc, &mut tree, expected, &rt)?;
+    }
+    Ok(())
+}
+
+// What the history of the source's timeline 2 says, and what is then answered about a target on timeline
+// 1 that has no log.
+const HISTORIES: [(&[u8], &str); 4] = [
+    (
+        b"x\n",
+        "line 1 of the history of timeline 2 of s is no entry",
+    ),
+    (
+        b"1\t0/10\n1\t0/20\n",
+        "line 2 of the history of timeline 2 of s doesn't rise",
+    ),
+    (
+        b"# none\n",
+        "the histories of target and source have nothing in common",
+    ),
+    (
+        b"1\t0/1000A0\tpromoted\n",
+        "the target's log ends at 0/28: NoSegment",
+    ),
+];
+
+#[test]
+fn a_history_of_the_source_decides(rt: HostRuntime) -> Result<(), Fail> {
+    let alloc = rt.alloc();
+    let source = edited(&[(48, 4, 2)], 0x90A4_0D21);
+    for (history, expected) in HISTORIES {
+        let mut tree = two_clusters(alloc, PLAIN, source, &rt);
+        make_folder(alloc, &mut tree, "s/pg_wal", &rt);
+        make_file(alloc, &mut tree, "s/pg_wal/00000002.history", history, &rt);
         check(alloc, &mut tree, expected, &rt)?;
     }
     Ok(())
@@ -255,7 +291,7 @@ fn a_read_that_fails_is_told(rt: HostRuntime) -> Result<(), Fail> {
     let tree = two_clusters(alloc, PLAIN, PLAIN, &rt);
     let mut failing = FailingTree::new(tree, FailPlan::At(11));
     let text = said(alloc, &mut failing, &rt)?;
-    assert_eq!(rt; text.as_str(), "NotNeeded(None)");
+    assert_eq!(rt; text.as_str(), "nothing on one timeline");
     Ok(())
 }
 
