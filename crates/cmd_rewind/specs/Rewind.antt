@@ -1,9 +1,15 @@
--- What pg_rewind does: PostgreSQL 16 manual, reference page of pg_rewind.
-use Rattle.std.specs.Prelude.{◌≡◌, ◌⊎◌, ℕ, if◌then◌else◌, List, [], ◌∷◌, codes, Result, Ok, Err}
+-- What pg_rewind does: PostgreSQL 16 manual, reference page of pg_rewind; src/bin/pg_rewind/pg_rewind.c, main.
+use Rattle.std.specs.Prelude.{◌≡◌, ◌⊎◌, ℕ, if◌then◌else◌, IsTrue, Bool, List, [], ◌∷◌, codes, string_bytes, Result, Ok, Err}
+use Rattle.std.specs.Fmt.{decimal}
+use Rattle.std.specs.List.{concat}
 use Rattle.cluster_tree.specs.Contents.{Contents}
-use Rattle.rewind_core.specs.Rewind.{rewind_of}
+use Rattle.wal_base.specs.Lsn.{lsn_text}
+use Rattle.timeline_history.specs.declared.ancestor.Divergence.{Divergence}
+use Rattle.rewind_core.specs.Survey.{AtFork, OneTimeline, Parted, Survey, survey_of}
 use Rattle.rewind_core.specs.declared.fault.RewindFault.{RewindFault}
-use Rattle.rewind_core.specs.declared.outcome.RewindDone.{RewindDone}
+use Rattle.rewind_core.specs.declared.outcome.Planned.{Planned}
+use Rattle.rewind_core.specs.declared.outcome.Planned.TheVariants as planned
+use Rattle.rewind_core.specs.declared.outcome.Told.{Told}
 use Rattle.commands.specs.declared.rewind.RewindWords.{RewindWords}
 use Rattle.acts.specs.Acts.{Act, Report}
 use Rattle.run_acts.specs.Answers.{Answer, refused, does}
@@ -11,6 +17,8 @@ use Rattle.run_acts.specs.Causes.{IsOfLook}
 use Rattle.run_acts.specs.declared.cause.Cause.{Cause}
 use Rattle.run_acts.specs.declared.cause.Cause.TheVariants as cause
 use Rattle.cluster_causes.specs.Rewind.{rewind_cause}
+use Rattle.cmd_rewind.specs.declared.lines.Lines.{Lines}
+use Rattle.cmd_rewind.specs.declared.lines.Lines.TheVariants as lines
 
 unfoldable pub same_timeline : List ℕ
 same_timeline = codes "pg_rewind: source and target cluster are on the same timeline\n"
@@ -18,19 +26,64 @@ same_timeline = codes "pg_rewind: source and target cluster are on the same time
 unfoldable pub no_rewind : List ℕ
 no_rewind = codes "pg_rewind: no rewind required\n"
 
+-- where the clusters parted
+unfoldable pub diverged : Divergence → List ℕ
+diverged fork = concat (codes "pg_rewind: servers diverged at WAL location " ∷ lsn_text fork.at.0 ∷ codes " on timeline " ∷ decimal fork.tli ∷ codes "\n" ∷ [])
+
+-- from where the target is rewound
+unfoldable pub rewinding : Told → List ℕ
+rewinding told =
+    concat (codes "pg_rewind: rewinding from last common checkpoint at " ∷ lsn_text told.checkpoint.0 ∷ codes " on timeline " ∷ decimal told.tli ∷ codes "\n" ∷ [])
+
+unfoldable pub all_done : List ℕ
+all_done = codes "pg_rewind: Done!\n"
+
 -- both clusters are on one timeline, and nothing is to be done: two lines on standard error
 abbrev pub same_report : List Act
 same_report = Report same_timeline ∷ Report no_rewind ∷ []
 
+-- the target's log ends at the fork, and nothing is to be done: two lines
+abbrev pub fork_report : Divergence → List Act
+fork_report fork = Report (diverged fork) ∷ Report no_rewind ∷ []
+
+-- a rewind is needed: three lines
+abbrev pub rewind_report : Told → List Act
+rewind_report told = Report (diverged told.fork) ∷ Report (rewinding told) ∷ Report all_done ∷ []
+
+-- a rewind that is needed is reported in a dry run, and else isn't built yet
+abbrev pub needed_answer : Bool → Told → Answer
+needed_answer dry_run told = if dry_run then does (rewind_report told) else refused cause.NotBuilt
+
+-- what is done about two clusters
+abbrev pub survey_answer : Bool → Survey → Answer
+survey_answer dry_run OneTimeline = does same_report
+survey_answer dry_run (AtFork fork) = does (fork_report fork)
+survey_answer dry_run (Parted part) = needed_answer dry_run part.told
+
 -- the report, or why the rewind is refused
-abbrev pub report_answer : Result RewindDone RewindFault → Answer
-report_answer (Ok done) = does same_report
-report_answer (Err fault) = refused (rewind_cause fault)
+abbrev pub found_answer : Bool → Result Survey RewindFault → Answer
+found_answer dry_run (Ok survey) = survey_answer dry_run survey
+found_answer dry_run (Err fault) = refused (rewind_cause fault)
 
--- what is done about two clusters; a dry run isn't built yet
 abbrev pub rewind_answer : Contents → RewindWords → Answer
-rewind_answer c words = if words.dry_run then refused cause.NotBuilt else report_answer (rewind_of c words.target words.source)
+rewind_answer c words = found_answer words.dry_run (survey_of c words.target words.source)
 
--- over every tree: the report, or a refusal
-abbrev pub IsRewind : Answer → Type 0
-IsRewind answer = (answer ≡ does same_report) ⊎ ((e : Cause) × IsOfLook e × (answer ≡ refused e))
+-- the same of what was planned
+abbrev pub planned_answer : Bool → Planned → Answer
+planned_answer dry_run planned.SameTimeline = does same_report
+planned_answer dry_run (planned.EndsAtFork fork) = does (fork_report fork)
+planned_answer dry_run (planned.Needed plan) = needed_answer dry_run plan.told
+
+-- over every tree: a report, of a rewind only in a dry run, or a refusal
+abbrev pub IsRewind : RewindWords → Answer → Type 0
+IsRewind words answer =
+    (answer ≡ does same_report)
+    ⊎ ((fork : Divergence) × (answer ≡ does (fork_report fork)))
+    ⊎ ((told : Told) × IsTrue words.dry_run × (answer ≡ does (rewind_report told)))
+    ⊎ ((e : Cause) × IsOfLook e × (answer ≡ refused e))
+
+-- the report of lines that were made
+abbrev pub reported : Lines → List Act
+reported lines.Same = same_report
+reported (lines.AtFork first) = Report (string_bytes first) ∷ Report no_rewind ∷ []
+reported (lines.Rewind first second) = Report (string_bytes first) ∷ Report (string_bytes second) ∷ Report all_done ∷ []

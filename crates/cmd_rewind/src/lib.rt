@@ -1,6 +1,7 @@
 //! pg_rewind.
 #![tactic(auto)]
 
+mod lines;
 mod reports;
 mod rewinds;
 
