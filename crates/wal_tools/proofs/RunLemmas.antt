@@ -13,7 +13,7 @@ use Rattle.cmd_controldata.specs.Controldata.{IsControldata, controldata_answer}
 use Rattle.cmd_rewind.specs.Rewind.{IsRewind, rewind_answer}
 use Rattle.cmd_waldump.specs.Waldump.{AskForList, IsWaldump, waldump_answer}
 use Rattle.clusters.specs.RootControl.{control_at}
-use Rattle.rewind_core.specs.Rewind.{rewind_of}
+use Rattle.rewind_core.specs.Survey.{survey_of}
 use Rattle.acts.specs.Acts.{Seen, Sunk, seen}
 use Rattle.run_acts.specs.Answers.{Carries, cause_in}
 use Rattle.run_acts.specs.Causes.{IsFree, has_values}
@@ -36,7 +36,7 @@ use Rattle.wal_tools.specs.Words.{IsSeen, MayChange, NeedsNoTree, refused_by_wor
 
 -- what is done has the command's form, and begins with a look
 pub answered-form : (c : Contents) (now : ℤ) (asked : Result Command CommandFault) → IsAnswer now asked (answered c now asked)
-answered-form c now (Ok (command.Rewind words)) = rewind-form words.dry_run (rewind_of c words.target words.source)
+answered-form c now (Ok (command.Rewind words)) = rewind-form words (survey_of c words.target words.source)
 answered-form c now (Ok (command.Controldata words)) = control-form (control_at c words.root)
 answered-form c now (Ok (command.Waldump words)) = waldump-form c words
 answered-form c now (Ok (command.Resetwal words)) = reset-form c words now
@@ -44,7 +44,7 @@ answered-form c now (Ok (command.Archivecleanup words)) = cleanup-form c words
 answered-form c now (Err e) = refl
 
 pub answered-looks : (c : Contents) (now : ℤ) (asked : Result Command CommandFault) → Looks ((answered c now asked).acts)
-answered-looks c now (Ok (command.Rewind words)) = rewind-looks words.dry_run (rewind_of c words.target words.source)
+answered-looks c now (Ok (command.Rewind words)) = rewind-looks words.dry_run (survey_of c words.target words.source)
 answered-looks c now (Ok (command.Controldata words)) = control-looks (control_at c words.root)
 answered-looks c now (Ok (command.Waldump words)) = waldump-looks c words
 answered-looks c now (Ok (command.Resetwal words)) = reset-looks c words now
@@ -69,10 +69,12 @@ by_tree tells (inr none) = absurd none
 
 -- pg_rewind was carried out
 pub of_rewind : (tells : Bool) (c : Contents) (now : ℤ) {k : Command} {words : RewindWords} {o e : Bool} {ended : Cause} {s u : Seen} → k ≡ command.Rewind words
-    → Carries (IsTrue tells ⊎ IsTrue words.dry_run) (rewind_answer c words) IsRewind o e ended s u → CarriesOut tells c now o e (Ok k) ended s u
-of_rewind tells c now {o = o} {e} {ended} {s} {u} is p = let P : Command → Type 0 = λ x. CarriesOut tells c now o e (Ok x) ended s u in subst P (sym is) (unseen_seen (inr (λ may. may)) p)
+    → Carries (IsTrue tells) (rewind_answer c words) (IsRewind words) o e ended s u → CarriesOut tells c now o e (Ok k) ended s u
+of_rewind tells c now {o = o} {e} {ended} {s} {u} is p =
+    let P : Command → Type 0 = λ x. CarriesOut tells c now o e (Ok x) ended s u in
+    subst P (sym is) (unseen_known (by_tree tells) (unseen_seen (inr (λ may. may)) p))
 
--- pg_controldata was, whose words never decide alone
+-- pg_controldata was
 pub of_controldata : (tells : Bool) (c : Contents) (now : ℤ) {k : Command} {words : ControldataWords} {o e : Bool} {ended : Cause} {s u : Seen} → k ≡ command.Controldata words
     → Carries (IsTrue tells) (controldata_answer c words) IsControldata o e ended s u → CarriesOut tells c now o e (Ok k) ended s u
 of_controldata tells c now {o = o} {e} {ended} {s} {u} is p =

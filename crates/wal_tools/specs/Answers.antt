@@ -23,7 +23,7 @@ answered c now (Err e) = refused (words_cause e)
 
 -- what the command may do over any tree
 abbrev pub IsAnswer : ℤ → Result Command CommandFault → Answer → Type 0
-IsAnswer now (Ok (command.Rewind words)) answer = IsRewind answer
+IsAnswer now (Ok (command.Rewind words)) answer = IsRewind words answer
 IsAnswer now (Ok (command.Controldata words)) answer = IsControldata answer
 IsAnswer now (Ok (command.Waldump words)) answer = IsWaldump words answer
 IsAnswer now (Ok (command.Resetwal words)) answer = IsResetwal words now answer

@@ -1,5 +1,5 @@
 -- What the words alone decide, whatever files there are: PostgreSQL 16 manual, reference pages of pg_rewind, pg_controldata, pg_waldump, pg_resetwal and pg_archivecleanup.
-use Rattle.std.specs.Prelude.{◌≡◌, ◌⊎◌, IsTrue, not, is_some, if◌then◌else◌, Option, None, Some, Result, Ok, Err}
+use Rattle.std.specs.Prelude.{◌≡◌, ◌⊎◌, IsTrue, not, is_some, Option, None, Some, Result, Ok, Err}
 use Rattle.commands.specs.declared.command.Command.{Command}
 use Rattle.commands.specs.declared.command.Command.TheVariants as command
 use Rattle.commands.specs.declared.fault.CommandFault.{CommandFault}
@@ -18,9 +18,9 @@ words_cause (fault.TooDeep path) = cause.Paths (paths.TooDeep path)
 words_cause fault.PathsOverlap = cause.Paths paths.PathsOverlap
 words_cause fault.OutOfMemory = cause.OutOfMemory
 
--- why the words alone refuse, if they do: they ask for no command, or for a dry run, which isn't built yet
+-- why the words alone refuse, if they do: they ask for no command
 abbrev pub refused_by_words : Result Command CommandFault → Option Cause
-refused_by_words (Ok (command.Rewind words)) = if words.dry_run then Some cause.NotBuilt else None
+refused_by_words (Ok (command.Rewind words)) = None
 refused_by_words (Ok (command.Controldata words)) = None
 refused_by_words (Ok (command.Waldump words)) = None
 refused_by_words (Ok (command.Resetwal words)) = None
@@ -38,7 +38,7 @@ AreFaulty (Err e) = e ≡ fault.Usage
 
 -- what is asked for needs no tree: the list of resource managers, and words that refuse alone
 abbrev pub NeedsNoTree : Result Command CommandFault → Type 0
-NeedsNoTree (Ok (command.Rewind words)) = IsTrue words.dry_run
+NeedsNoTree (Ok (command.Rewind words)) = ⊥
 NeedsNoTree (Ok (command.Controldata words)) = ⊥
 NeedsNoTree (Ok (command.Waldump words)) = AskForList words
 NeedsNoTree (Ok (command.Resetwal words)) = ⊥

@@ -55,7 +55,7 @@ pub(crate) fn carry_out<F: Tree, O: Sink, E: Sink>(
     ensures frame { Came F.Tree tree.old tree.new }
 {
     match command {
-        Command::Rewind(words) => rewind(alloc, tree, err, words, now),
+        Command::Rewind(words) => rewind(alloc, tree, err, words),
         Command::Controldata(words) => controldata(alloc, tree, out, words),
         Command::Waldump(words) => waldump(alloc, tree, out, words),
         Command::Resetwal(words) => resetwal(alloc, tree, out, words, now),
