@@ -61,35 +61,46 @@ control t2 sysid=7300000000000000002
 run pg_rewind -D t --source-pgdata t2
 err pg_rewind: error: SystemsDiffer 7300000000000000001 7300000000000000002
 status 1
-case NotBuilt of a pair
+case NoHints t of a pair
 control t walLogHints=0
 control t2
 run pg_rewind -D t --source-pgdata t2
-err pg_rewind: error: NotBuilt
+err pg_rewind: error: NoHints t
 status 1
-case NotBuilt of a pair
+case NotClean t 6 of a pair
 control t state=6
 control t2
 run pg_rewind -D t --source-pgdata t2
-err pg_rewind: error: NotBuilt
+err pg_rewind: error: NotClean t 6
 status 1
-case NotBuilt of a pair
+case NotClean t2 6 of a pair
 control t
 control t2 state=6
 run pg_rewind -D t --source-pgdata t2
-err pg_rewind: error: NotBuilt
+err pg_rewind: error: NotClean t2 6
 status 1
-case NotBuilt of a pair
+case HistoryMissing t2 2 of a pair
 control t
 control t2 cp.tli=2
 run pg_rewind -D t --source-pgdata t2
-err pg_rewind: error: NotBuilt
+err pg_rewind: error: HistoryMissing t2 2
 status 1
-case NotBuilt of a pair
+case Unfinished t/pg_rewind.unfinished of a pair
+control t
+control t2
+file t/pg_rewind.unfinished
+file t2/pg_resetwal.unfinished
+run pg_rewind -D t --source-pgdata t2
+err pg_rewind: error: Unfinished t/pg_rewind.unfinished
+status 1
+run pg_rewind -D t2 --source-pgdata t -n
+err pg_rewind: error: Unfinished t2/pg_resetwal.unfinished
+status 1
+case HistoryMissing t2 2 of a pair
 control t
 control t2 time=1700000000 checkPoint=1048800 cp.redo=1048800 cp.tli=2 cp.prevTli=1 cp.fpw=1 cp.nextXid=701 cp.nextOid=16385 cp.nextMulti=1 cp.oldestXid=700 cp.oldestXidDb=1 cp.oldestMulti=1 cp.oldestMultiDb=1 cp.time=1700000000
 run pg_rewind -D t --source-pgdata t2
-err pg_rewind: error: NotBuilt
+err pg_rewind: error: HistoryMissing t2 2
 status 1
 case clusters that need no rewind
 control t

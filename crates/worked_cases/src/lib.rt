@@ -31,4 +31,8 @@ mod reset_words;
 #[cfg(test)]
 mod resets;
 #[cfg(test)]
+mod rewinds;
+#[cfg(test)]
+mod rewound_logs;
+#[cfg(test)]
 mod words;

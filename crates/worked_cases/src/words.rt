@@ -117,8 +117,9 @@ run pg_rewind -nD . --source-pgdata a/a/a/a/a/a/a/a/a/a/a/a/a/a/a/a/a/a/a/a/a/a/
 err pg_rewind: error: TooDeep a/a/a/a/a/a/a/a/a/a/a/a/a/a/a/a/a/a/a/a/a/a/a/a/a/a/a/a/a/a/a/a/a/a/a/a/a/a/a/a/a/a/a/a/a/a/a/a/a/a/a/a/a/a/a/a/a/a/a/a/a/a
 status 1
 run pg_rewind --dry-run -Dt --source-pgdata=t2
-err pg_rewind: error: NotBuilt
-status 1
+err pg_rewind: source and target cluster are on the same timeline
+err pg_rewind: no rewind required
+status 0
 ";
 
 // Each form in which words may be given.
