@@ -1,0 +1,15 @@
+pub mod Jobs
+pub mod JobLemmas
+pub mod ItemLemmas
+pub mod PairLemmas
+pub mod SideLemmas
+pub mod FitLemmas
+pub mod KeptLemmas
+pub mod PlaceLemmas
+pub mod FileLemmas
+pub mod SidesFit
+pub mod WholeLemmas
+pub mod PlanFit
+pub mod BytesLemmas
+pub mod RewoundLemmas
+pub mod FinalLemmas

@@ -1,0 +1,25 @@
+-- What follows from the definitions, for callers. Own: "The plan of a rewind".
+use Rattle.std.specs.Prelude.{◌≡◌, ℕ, List, None}
+use Rattle.cluster_tree.specs.Change.{all_changed, first_refusal}
+use Rattle.cluster_tree.specs.Contents.{Contents, entry_at}
+use Rattle.cluster_tree.specs.PathValue.{below}
+use Rattle.control_file.specs.declared.control.Control.{Control}
+use Rattle.backup_label.specs.declared.label.Label.{Label}
+use Rattle.file_walk.specs.declared.pair.Pair.{Pair}
+use Rattle.rewound_tree.specs.Rewound.{rewound}
+use Rattle.rewind_writes.specs.Plan.{plan_changes}
+use Rattle.rewind_writes.specs.declared.plan.Plan.{Plan}
+use Rattle.rewind_plan.specs.Planned.{Between}
+use Rattle.rewind_plan.specs.PlanOf.{IsPlanOf, rewinding}
+use Rattle.rewind_plan.specs.Sides.{Sides}
+
+-- none of a plan's changes is refused in its turn
+abbrev pub PlansAreNotRefused : Type 0
+PlansAreNotRefused = (c : Contents) (w : Between) (pairs : List Pair) (control : Control) (label : Label) (plan : Plan) →
+    Sides c w pairs → IsPlanOf w pairs control label plan → first_refusal c (plan_changes c plan) ≡ None
+
+-- and when they are done, the tree below the target's root is the rewound one, path by path
+abbrev pub PlansLeaveTheRewoundTree : Type 0
+PlansLeaveTheRewoundTree = (c : Contents) (w : Between) (pairs : List Pair) (control : Control) (label : Label) (plan : Plan) →
+    Sides c w pairs → IsPlanOf w pairs control label plan →
+    (parts : List (List ℕ)) → entry_at (all_changed c (plan_changes c plan)) (below w.target parts) ≡ rewound (rewinding c w control label) parts

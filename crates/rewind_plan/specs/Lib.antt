@@ -1,0 +1,5 @@
+pub mod Blocks
+pub mod Planned
+pub mod Sides
+pub mod PlanOf
+pub mod Laws

@@ -1,0 +1,13 @@
+// What follows from the definitions: the functions' contracts are laws.
+ghost use Rattle.rewind_plan.specs.Laws.{PlansAreNotRefused, PlansLeaveTheRewoundTree};
+
+/// Where two clusters were walked and paired, and no kinds differ, no change of the plan is refused in
+/// its turn.
+pub fn plans_are_not_refused()
+    ensures { PlansAreNotRefused }
+{}
+
+/// Then the plan's changes leave the rewound tree below the target's root, path by path.
+pub fn plans_leave_the_rewound_tree()
+    ensures { PlansLeaveTheRewoundTree }
+{}

@@ -1,0 +1,6 @@
+//! The plan of a rewind: which changes it makes, and what they leave.
+#![tactic(auto)]
+
+mod laws;
+
+pub use laws::{plans_are_not_refused, plans_leave_the_rewound_tree};
