@@ -43,7 +43,7 @@ const NEXT_PAGE: &[u8] = &[
 
 /// A page logged for a hint between the redo of an online checkpoint and its record, and then a
 /// shutdown checkpoint, which ends at 0/1001E0.
-const HINTED: &[Cell<'static>] = &[
+pub(crate) const HINTED: &[Cell<'static>] = &[
     FIRST,
     Cell::Record(0x10_00A0, 0x10_0028, 0, 0xA0, HINT),
     Cell::Checkpoint(0x10_00F0, 0x10_00A0, 0x10, 0x10_00A0),

@@ -2,8 +2,11 @@
 use crate::records::has;
 use crate::walk_control::control;
 use crate::walk_logs::{cursor, size, tree_of};
-use crate::walk_rows::{COMMON, CommonRow, ENDS, EndRow, REFUSED, RefusedRow, TOUCHED, TouchedRow};
-use log_walk::{common_checkpoint, end_of_target, touch_log};
+use crate::walk_rows::{
+    COMMON, CommonRow, ENDS, EndRow, HINTED, REFUSED, RefusedRow, TOUCHED, TouchedRow,
+};
+use cluster_tree::{FailPlan, FailingTree};
+use log_walk::{LogWalkFault, common_checkpoint, end_of_target, touch_log};
 use std::alloc::Global;
 use std::test::*;
 use wal_base::Lsn;
@@ -47,6 +50,26 @@ fn is_touched(alloc: Global, row: &TouchedRow<'_>) -> Result<bool, Fail> {
     let there = row.there.iter().all(|of| has(&set, *of));
     let absent = row.absent.iter().any(|of| has(&set, *of));
     Ok(there && !absent && counts == row.counts)
+}
+
+/// How many chunks the log with the hint touches, by the three walks on one cursor, where these reads
+/// fail.
+fn walked(alloc: Global, plan: FailPlan) -> Result<Result<usize, LogWalkFault>, Fail> {
+    let size = size()?;
+    let mut tree = FailingTree::new(tree_of(alloc, HINTED)?, plan);
+    let mut cursor = cursor(alloc, size)?;
+    let end = match end_of_target(&mut cursor, &mut tree, &control(0x10_0168, 0)) {
+        Ok(end) => end,
+        Err(fault) => return Ok(Err(fault)),
+    };
+    let redo = match common_checkpoint(&mut cursor, &mut tree, size, Lsn(0x10_0168)) {
+        Ok(found) => Lsn(found.checkpoint.redo),
+        Err(fault) => return Ok(Err(fault)),
+    };
+    match touch_log(alloc, &mut cursor, &mut tree, redo, end) {
+        Ok(set) => Ok(Ok(set.chunk_count())),
+        Err(fault) => Ok(Err(fault)),
+    }
 }
 
 /// The number of the first row that isn't as it says.
@@ -107,5 +130,20 @@ fn each_fault_is_told_in_the_order_of_the_log(rt: HostRuntime) -> Result<(), Fai
 #[test]
 fn a_log_touches_what_it_names_from_the_redo_on(rt: HostRuntime) -> Result<(), Fail> {
     assert_eq!(rt; wrong_touched(rt.alloc())?, None);
+    Ok(())
+}
+
+#[test]
+fn three_walks_read_one_page_once(rt: HostRuntime) -> Result<(), Fail> {
+    assert_eq!(rt; walked(rt.alloc(), FailPlan::From(2))?, Ok(1));
+    Ok(())
+}
+
+#[test]
+fn a_read_that_fails_is_told(rt: HostRuntime) -> Result<(), Fail> {
+    assert_eq!(rt;
+        walked(rt.alloc(), FailPlan::At(1))?,
+        Err(LogWalkFault::ReadFault)
+    );
     Ok(())
 }
