@@ -1,12 +1,11 @@
 -- The forms of what pg_rewind does.
-use Rattle.std.proofs.Common.{◌≡◌, Bool, true, false, IsTrue, inl, inr, refl, Result, Ok, Err, ap, sym, ◌∙◌, subst}
+use Rattle.std.proofs.Common.{◌≡◌, Bool, true, false, inl, inr, refl, Result, Ok, Err, ap, sym, ◌∙◌}
 use Rattle.rewind_core.specs.Survey.{AtFork, Fits, FitsFound, OneTimeline, Parted, Survey}
 use Rattle.rewind_core.specs.declared.fault.RewindFault.{RewindFault}
 use Rattle.rewind_core.specs.declared.outcome.Planned.{Planned}
 use Rattle.rewind_core.specs.declared.outcome.Planned.TheVariants as planned
 use Rattle.rewind_core.specs.declared.outcome.Told.{Told}
 use Rattle.commands.specs.declared.rewind.RewindWords.{RewindWords}
-use Rattle.run_acts.specs.Answers.{Answer, refused}
 use Rattle.run_acts.specs.declared.cause.Cause.TheVariants as cause
 use Rattle.run_acts.proofs.AnswerSteps.{Looks}
 use Rattle.cluster_causes.specs.Rewind.{rewind_cause}

@@ -1,7 +1,6 @@
 // The lines of a report that are made in memory, before the first is put.
-ghost use Rattle.std.specs.Prelude.{◌≡◌, ◌≢◌, ◌⊎◌, true, IfErr, IfOk, Err, IsTrue, MatchResult, string_bytes};
+ghost use Rattle.std.specs.Prelude.{◌≡◌, ◌≢◌, ◌⊎◌, true, IfErr, IfOk, Err, MatchResult, string_bytes};
 ghost use Rattle.run_acts.specs.Answers.{does, refused};
-ghost use Rattle.run_acts.specs.Causes.{IsOfLook, is_of_files};
 ghost use Rattle.cmd_rewind.specs.Rewind.{diverged, needed_answer, planned_answer, reported, rewind_report, rewinding};
 
 use rewind_core::{Divergence, Planned, Told};

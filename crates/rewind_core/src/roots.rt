@@ -1,5 +1,5 @@
 // What stands at a root, or why a rewind is refused for it.
-ghost use Rattle.std.specs.Prelude.{◌≡◌, ◌≢◌, ◌≤◌, ℕ, length, IfErr, IfOk, IsTrue, Some, Err, IsErrOf, option_map};
+ghost use Rattle.std.specs.Prelude.{◌≡◌, ◌≢◌, ◌≤◌, length, IfErr, IfOk, IsTrue, Some, Err, IsErrOf, option_map};
 ghost use Rattle.cluster_tree.specs.Contents.{Contents};
 ghost use Rattle.cluster_tree.specs.PathValue.{PathValue};
 ghost use Rattle.cluster_tree.specs.Causes.{Meets, Passes, Rose};

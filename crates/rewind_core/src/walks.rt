@@ -1,5 +1,5 @@
 // What the target's log says, or why a rewind is refused for it.
-ghost use Rattle.std.specs.Prelude.{◌≡◌, ◌≢◌, ℕ, IfOk, IsTrue, Err, IsErrOf, option_map};
+ghost use Rattle.std.specs.Prelude.{◌≡◌, ◌≢◌, IfOk, IsTrue, Err, IsErrOf, option_map};
 ghost use Rattle.cluster_tree.specs.PathValue.{PathValue};
 ghost use Rattle.cluster_tree.specs.Causes.{Meets, Passes, Rose};
 ghost use Rattle.cluster_tree.specs.Frame.{Reads};
