@@ -1,5 +1,5 @@
 -- What lies below a root, and what is wrong there. Own: "The order of a walk", "A path too deep is told unasked".
-use Rattle.std.specs.Prelude.{ℕ, ◌+◌, ◌%◌, ◌==◌, Bool, true, false, not, cond, ◌&&◌, nat_lt, List, [], ◌∷◌, length, drop, filter, map, Option, None, Some, Result, Ok, Err, option_map, is_some, if◌then◌else◌}
+use Rattle.std.specs.Prelude.{ℕ, ◌+◌, ◌%◌, ◌==◌, Bool, false, not, cond, ◌&&◌, nat_lt, List, length, drop, filter, map, Option, None, Some, Result, Ok, option_map, is_some, if◌then◌else◌}
 use Rattle.std.specs.FinMap.{entries}
 use Rattle.std.specs.List.{filter_map, list_all}
 use Rattle.cluster_tree.specs.Causes.{first_of, unless}
