@@ -1,0 +1,111 @@
+//! Runs the rows of a text. README.md has their form.
+use crate::logs::cursor_over;
+use crate::pages::{changes, made};
+use crate::texts::{byte, bytes_of, cut_at, number};
+use block_effects::is_gone;
+use block_refs::{BlockName, Fork, Parts, RelName, split_record};
+use page_layout::{Page, RedoWhy};
+use record_effects::{act_on, redo};
+use std::alloc::Global;
+use std::process::Abort;
+use std::test::Fail;
+use storage_pages::redo_map;
+use wal_records::Record;
+
+/// A block of the default tablespace by its numbers.
+fn block_of(text: &str) -> Result<BlockName, Fail> {
+    let (database, behind) = cut_at(text, " ");
+    let (relation, behind) = cut_at(behind, " ");
+    let (fork, block) = cut_at(behind, " ");
+    let rel = RelName {
+        space: 1663,
+        database: number(database)?,
+        relation: number(relation)?,
+    };
+    let fork = Fork::from_number(byte(fork)?).ok_or("no fork")?;
+    Ok(BlockName {
+        rel,
+        fork,
+        block: number(block)?,
+    })
+}
+
+/// Whether a record takes a block away.
+fn gone(alloc: Global, rec: &Record, parts: &Parts, words: &str) -> Result<String, Fail> {
+    let gone = is_gone(rec, parts, block_of(words)?);
+    let told = if gone { "gone" } else { "stays" };
+    Ok(format!(in alloc; "{told}")?)
+}
+
+/// What is done at each reference, in their order.
+fn acts(alloc: Global, rec: &Record, parts: &Parts) -> Result<String, Fail> {
+    let mut told = String::new(alloc);
+    for at in 0..parts.count() {
+        if let Some(block) = parts.get(at) {
+            let act = act_on(rec, parts, &block);
+            let gap = if told.is_empty() { "" } else { " " };
+            write!(told, "{gap}{act:?}")?;
+        }
+    }
+    Ok(told)
+}
+
+/// An answer, and what it left of the page.
+fn left(
+    alloc: Global,
+    answer: Result<(), RedoWhy>,
+    before: &Page,
+    page: &Page,
+) -> Result<String, Fail> {
+    let left = changes(alloc, before.bytes(), page.bytes())?;
+    match answer {
+        Ok(()) => Ok(left),
+        Err(why) => Ok(format!(in alloc; "{why:?}{left}")?),
+    }
+}
+
+/// Redo on the page of a reference.
+fn redone(alloc: Global, rec: &Record, parts: &Parts, words: &str) -> Result<String, Fail> {
+    let (id, commands) = cut_at(words, " ");
+    let before = made(alloc, commands)?;
+    let mut page = made(alloc, commands)?;
+    let answer = redo(rec, parts, byte(id)?, &mut page);
+    left(alloc, answer, &before, &page)
+}
+
+/// Redo on the map's page.
+fn mapped(alloc: Global, rec: &Record, parts: &Parts, commands: &str) -> Result<String, Fail> {
+    let before = made(alloc, commands)?;
+    let mut page = made(alloc, commands)?;
+    let answer = redo_map(rec, parts, &mut page);
+    left(alloc, answer, &before, &page)
+}
+
+/// What a call says of the record and the words behind it.
+fn told(alloc: Global, row: &str) -> Result<String, Fail> {
+    let (call, behind) = cut_at(row, " ");
+    let (manager, behind) = cut_at(behind, " ");
+    let (info, behind) = cut_at(behind, " ");
+    let (body, words) = cut_at(behind, " ");
+    let body = bytes_of(alloc, body)?;
+    let cursor = cursor_over(alloc, byte(manager)?, byte(info)?, &body)?;
+    let rec = cursor.current().ok_or("no record")?;
+    let parts = split_record(rec)?;
+    match call {
+        "gone" => gone(alloc, rec, &parts, words),
+        "acts" => acts(alloc, rec, &parts),
+        "redo" => redone(alloc, rec, &parts, words),
+        _ => mapped(alloc, rec, &parts, words),
+    }
+}
+
+/// Of each row of a text is told what it has behind its sign of equality.
+pub fn check<R: AllocGlobal + Abort>(rt: &R, text: &str) -> Result<(), Fail> {
+    for line in text.split('\n') {
+        if let Some((row, meant)) = line.split_once(" = ") {
+            let told = told(rt.alloc(), row)?;
+            assert_eq!(rt; told.as_str(), meant, "{line}");
+        }
+    }
+    Ok(())
+}
