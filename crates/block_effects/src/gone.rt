@@ -116,10 +116,10 @@ fn gone_by(op: Operation, main: &[u8], name: BlockName) -> bool
     }
 }
 
-/// Whether a record takes a block away: a truncation of the main fork its blocks from the cut on, the
-/// end of a transaction those of the relations that it drops, of every fork, and the drop of a database
-/// those of every relation in it. Fields that aren't whole take nothing. The parts have to be those of
-/// the record.
+/// Whether a record takes a block away: a truncation of the main fork its blocks from the cut on,
+/// the end of a transaction those of the relations that it drops, of every fork, and the drop of a
+/// database those of every relation in it. Fields that aren't whole take nothing. The parts have to
+/// be those of the record.
 pub fn is_gone(rec: &Record, parts: &Parts, name: BlockName) -> bool
     requires parts { ArePartsOf rec.now parts.now }
     ensures { result ≡ is_gone rec.now parts.now name }

@@ -1,4 +1,4 @@
-//! What a record does to a block, whatever its manager: gone, an image, a page made anew, a change, or nothing.
+//! What a record does to a block, by the rules of its manager.
 #![tactic(auto)]
 
 mod gone;

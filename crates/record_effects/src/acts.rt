@@ -169,10 +169,10 @@ fn act_at(rec: &Record, parts: &Parts, block: &BlockRef) -> Act
     act_by_rules(rec, parts, block)
 }
 
-/// What replay does at a reference of a record: nothing where the record takes the block away, nor where
-/// it is of the free space map; an image that is applied is put in place; else its manager makes the page
-/// of a main fork anew or changes it, and VISIBLE sets bits of the map's page. The parts have to be those
-/// of the record, and the reference one of them.
+/// What replay does at a reference of a record: nothing where the record takes the block away, nor
+/// where it is of the free space map; an image that is applied is put in place; else its manager
+/// makes the page of a main fork anew or changes it, and VISIBLE sets bits of the map's page. The
+/// parts have to be those of the record, and the reference one of them.
 pub fn act_on(rec: &Record, parts: &Parts, block: &BlockRef) -> Act
     requires parts { ArePartsOf rec.now parts.now }
     ensures { result ≡ act_on rec.now parts.now block.now }

@@ -26,7 +26,8 @@ pub fn records_have_effects()
 
 /// What is done at a reference is the effect on its block, where no two references name one block.
 pub fn acts_are_effects()
-    ensures { (rec : LogRecord) (parts : PartsView) (at : ℕ) (placed : Placed) → ArePartsOf rec parts →
+    ensures { (rec : LogRecord) (parts : PartsView) (at : ℕ) (placed : Placed) →
+        ArePartsOf rec parts →
         are_known parts.blocks ≡ true → slice_get parts.blocks at ≡ Some placed →
         IsDone rec parts placed.block.id (act_on rec parts placed.block)
         (effect_on rec parts placed.block.name) }

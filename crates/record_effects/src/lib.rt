@@ -1,4 +1,4 @@
-//! What records of the server's own managers do to blocks: the effect of each, and its redo on a page.
+//! What records of the server's own managers do to blocks, and their redo on a page.
 #![tactic(auto)]
 
 mod acts;

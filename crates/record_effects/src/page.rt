@@ -37,12 +37,12 @@ fn redo_by(
 }
 
 /// Redoes a record on the main fork's page of its block with an id, where `act_on` says `Make` or
-/// `Change`; the page then has the record's end as LSN. A page that is made anew may be any before. The
-/// parts have to be those of the record.
+/// `Change`; the page then has the record's end as LSN. A page that is made anew may be any before.
+/// The parts have to be those of the record.
 ///
-/// Answers what the manager's own call answers: `Layout`, `PageShape`, `Place` or `Room`, in this order;
-/// of a record of XLOG, which acts by its images alone, `Layout`. A refused call leaves the page as it
-/// was, and no call takes memory.
+/// Answers what the manager's own call answers: `Layout`, `PageShape`, `Place` or `Room`, in this
+/// order; of a record of XLOG, which acts by its images alone, `Layout`. A refused call leaves the
+/// page as it was, and no call takes memory.
 pub fn redo(rec: &Record, parts: &Parts, id: u8, page: &mut Page) -> Result<(), RedoWhy>
     requires parts { ArePartsOf rec.now parts.now }
     ensures exact { Redoes (stamped rec.now.end ((rules_of rec.now).operation rec.now parts.now id)

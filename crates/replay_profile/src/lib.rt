@@ -1,4 +1,4 @@
-//! Which records replay takes, judged before anything is changed, also where a record's layout is cut.
+//! Which records replay takes, judged before anything is changed, also where a layout is cut.
 #![tactic(auto)]
 
 mod fault;

@@ -38,8 +38,8 @@ fn is_known_place(rel: RelName) -> bool
     is_known_space(rel.space) && is_known_database(rel.database)
 }
 
-/// Whether replay takes a relation of this name: its number isn't 0, and it is in `pg_global` and in
-/// no database, or in the default tablespace and in a database.
+/// Whether replay takes a relation of this name: its number isn't 0, and it is in `pg_global` and
+/// in no database, or in the default tablespace and in a database.
 pub fn is_known_rel(rel: RelName) -> bool
     ensures { result ≡ is_known_rel rel }
 {

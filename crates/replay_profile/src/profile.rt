@@ -21,11 +21,12 @@ fn done_by(rec: &Record) -> Operation
     Operation::of(header.manager, header.info)
 }
 
-/// Whether replay takes a record: each block that it references, and each relation and database that
-/// it makes, cuts or drops, has a name that replay knows; it references no block twice; its operation
-/// is one that replay knows; and the values of a checkpoint and of changed settings are those that a
-/// control file of a cluster with `wal_log_hints` may have. Names and values of a layout that isn't
-/// whole are looked at as far as they are there. The parts have to be those of the record.
+/// Whether replay takes a record: each block that it references, and each relation and database
+/// that it makes, cuts or drops, has a name that replay knows; it references no block twice; its
+/// operation is one that replay knows; and the values of a checkpoint and of changed settings are
+/// those that a control file of a cluster with `wal_log_hints` may have. Names and values of a
+/// layout that isn't whole are looked at as far as they are there. The parts have to be those of
+/// the record.
 pub fn is_in_profile(rec: &Record, parts: &Parts) -> bool
     requires parts { ArePartsOf rec.now parts.now }
     ensures { result ≡ is_in_profile rec.now parts.now }
@@ -34,9 +35,9 @@ pub fn is_in_profile(rec: &Record, parts: &Parts) -> bool
     are_known(parts) && is_known_operation(op) && takes_fields(op, parts.main_bytes(rec))
 }
 
-/// Whether the main bytes of a record lack some of its layout. An operation whose layout isn't read is
-/// never short, and what a block's own bytes lack isn't looked at. The parts have to be those of the
-/// record.
+/// Whether the main bytes of a record lack some of its layout. An operation whose layout isn't read
+/// is never short, and what a block's own bytes lack isn't looked at. The parts have to be those of
+/// the record.
 pub fn is_short(rec: &Record, parts: &Parts) -> bool
     requires parts { ArePartsOf rec.now parts.now }
     ensures { result ≡ is_short rec.now parts.now }
@@ -55,10 +56,11 @@ fn outside(rec: &Record) -> ProfileFault
 /// Reads the parts of a record into `parts`, in place of what is there, and judges it. It takes no
 /// memory.
 ///
-/// Answers `BadParts` and `Compressed` where the record has no parts, as `split_into` does, and then
-/// there are none; and `NotInProfile` where replay doesn't take it.
+/// Answers `BadParts` and `Compressed` where the record has no parts, as `split_into` does, and
+/// then there are none; and `NotInProfile` where replay doesn't take it.
 pub fn judge(rec: &Record, parts: &mut Parts) -> Result<(), ProfileFault>
-    ensures exact { MatchResult result (λ _. judged rec.now ≡ Ok parts.new) (λ e. judged rec.now ≡ Err e) }
+    ensures exact { MatchResult result (λ _. judged rec.now ≡ Ok parts.new)
+        (λ e. judged rec.now ≡ Err e) }
     ensures left { parts.new ≡ parts_or_none (record_parts rec.now) }
     ensures parts { OnOk result (ArePartsOf rec.now parts.new) }
 {

@@ -101,11 +101,12 @@ fn change_map(rec: &Record, parts: &Parts, page: &mut [u8]) -> Result<(), RedoWh
 
 /// Redoes VISIBLE on the page of the visibility map that its block 0 names: sets the bits that its
 /// flags have, 1 all visible and 2 all frozen, of the heap block that its block 1 names, and writes
-/// the record's end as LSN. A page of zeros counts as an empty one. Nothing else is asked of the page,
-/// nor whether it is the one that has that heap block's bits. The parts have to be those of the record.
+/// the record's end as LSN. A page of zeros counts as an empty one. Nothing else is asked of the
+/// page, nor whether it is the one that has that heap block's bits. The parts have to be those of
+/// the record.
 ///
-/// Answers `Layout` where the main bytes are too few or there is no block 1, and then the page is as
-/// it was. It takes no memory.
+/// Answers `Layout` where the main bytes are too few or there is no block 1, and then the page is
+/// as it was. It takes no memory.
 #[tactic(auto, using(page_layout::proofs::Lent::over_same))]
 pub fn redo_map(rec: &Record, parts: &Parts, page: &mut Page) -> Result<(), RedoWhy>
     requires parts { ArePartsOf rec.now parts.now }

@@ -75,12 +75,12 @@ fn make_page(rec: &Record, parts: &Parts, page: &mut [u8]) -> Result<(), RedoWhy
     put_sequence(page, log.tuple.slice())
 }
 
-/// Redoes LOG of the manager Sequence: makes the sequence's page anew, whatever it was, with the tuple
-/// that stands behind the name in the main bytes, and with the record's end as LSN. The parts have to
-/// be those of the record.
+/// Redoes LOG of the manager Sequence: makes the sequence's page anew, whatever it was, with the
+/// tuple that stands behind the name in the main bytes, and with the record's end as LSN. The parts
+/// have to be those of the record.
 ///
-/// Answers `Layout` where the main bytes are too few for the name, then `Room` where the tuple doesn't
-/// fit; then the page is as it was. It takes no memory.
+/// Answers `Layout` where the main bytes are too few for the name, then `Room` where the tuple
+/// doesn't fit; then the page is as it was. It takes no memory.
 #[tactic(auto, using(page_layout::proofs::Lent::over_same))]
 pub fn redo_sequence(rec: &Record, parts: &Parts, page: &mut Page) -> Result<(), RedoWhy>
     requires parts { ArePartsOf rec.now parts.now }
