@@ -1,4 +1,6 @@
 //! Runs the rows of a text. README.md has their form.
+ghost use Rattle.block_refs.specs.Parts.{ArePartsOf};
+
 use crate::logs::cursor_over;
 use crate::pages::{changes, made};
 use crate::texts::{byte, bytes_of, cut_at, number};
@@ -31,14 +33,18 @@ fn block_of(text: &str) -> Result<BlockName, Fail> {
 }
 
 /// Whether a record takes a block away.
-fn gone(alloc: Global, rec: &Record, parts: &Parts, words: &str) -> Result<String, Fail> {
+fn gone(alloc: Global, rec: &Record, parts: &Parts, words: &str) -> Result<String, Fail>
+    requires parts { ArePartsOf rec.now parts.now }
+{
     let gone = is_gone(rec, parts, block_of(words)?);
     let told = if gone { "gone" } else { "stays" };
     Ok(format!(in alloc; "{told}")?)
 }
 
 /// What is done at each reference, in their order.
-fn acts(alloc: Global, rec: &Record, parts: &Parts) -> Result<String, Fail> {
+fn acts(alloc: Global, rec: &Record, parts: &Parts) -> Result<String, Fail>
+    requires parts { ArePartsOf rec.now parts.now }
+{
     let mut told = String::new(alloc);
     for at in 0..parts.count() {
         if let Some(block) = parts.get(at) {
@@ -65,7 +71,9 @@ fn left(
 }
 
 /// Redo on the page of a reference.
-fn redone(alloc: Global, rec: &Record, parts: &Parts, words: &str) -> Result<String, Fail> {
+fn redone(alloc: Global, rec: &Record, parts: &Parts, words: &str) -> Result<String, Fail>
+    requires parts { ArePartsOf rec.now parts.now }
+{
     let (id, commands) = cut_at(words, " ");
     let before = made(alloc, commands)?;
     let mut page = made(alloc, commands)?;
@@ -74,7 +82,9 @@ fn redone(alloc: Global, rec: &Record, parts: &Parts, words: &str) -> Result<Str
 }
 
 /// Redo on the map's page.
-fn mapped(alloc: Global, rec: &Record, parts: &Parts, commands: &str) -> Result<String, Fail> {
+fn mapped(alloc: Global, rec: &Record, parts: &Parts, commands: &str) -> Result<String, Fail>
+    requires parts { ArePartsOf rec.now parts.now }
+{
     let before = made(alloc, commands)?;
     let mut page = made(alloc, commands)?;
     let answer = redo_map(rec, parts, &mut page);
