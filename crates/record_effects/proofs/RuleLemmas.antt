@@ -7,10 +7,12 @@ use Rattle.record_layouts.specs.declared.operation.Operation.TheVariants as op
 use Rattle.wal_records.specs.Reading.{LogRecord}
 use Rattle.block_effects.specs.Rules.{AreRules}
 use Rattle.block_effects.proofs.MeetLemmas.{no_rules_are}
+use Rattle.btree_laws.proofs.Fresh.{fresh_same as btree_fresh_same}
+use Rattle.btree_laws.proofs.Replayed.{record_law as btree_record_law}
 use Rattle.heap_laws.proofs.Fresh.{fresh_same}
 use Rattle.heap_laws.proofs.Replayed.{record_law}
 use Rattle.storage_pages.proofs.SequenceLaws.{operation_is}
-use Rattle.record_effects.specs.Managers.{done_by, heap_rules, rules_for, rules_of, sequence_rules, without_image, xlog_rules}
+use Rattle.record_effects.specs.Managers.{btree_rules, done_by, heap_rules, rules_for, rules_of, sequence_rules, without_image, xlog_rules}
 
 -- what refuses every page can't tell any two
 refusal_is : (rec : LogRecord) (parts : PartsView) (id block : ℕ) → IsOperation (view block) (without_image rec parts id)
@@ -31,6 +33,12 @@ heap_rules_are = record {
   fresh = λ rec parts id p q e. fresh_same rec parts id p q e;
 }
 
+btree_rules_are : AreRules btree_rules
+btree_rules_are = record {
+  mask = λ rec parts placed of_rec named. btree_record_law placed.block.name.block rec parts placed.block.id;
+  fresh = λ rec parts id p q e. btree_fresh_same rec parts id p q e;
+}
+
 sequence_rules_are : AreRules sequence_rules
 sequence_rules_are = record {
   mask = λ rec parts placed of_rec named. operation_is rec parts placed.block.id placed.block.name.block;
@@ -41,6 +49,7 @@ rules_are : (o : Operation) → AreRules (rules_for o)
 rules_are (op.Xlog o) = xlog_rules_are
 rules_are (op.Heap o) = heap_rules_are
 rules_are (op.Heap2 o) = heap_rules_are
+rules_are (op.Btree o) = btree_rules_are
 rules_are (op.Sequence o) = sequence_rules_are
 rules_are _ = no_rules_are
 

@@ -14,6 +14,7 @@ use Rattle.replay_law.specs.Effect.{Effect}
 use Rattle.wal_records.specs.Reading.{LogRecord}
 use Rattle.block_effects.specs.Effects.{effect_by}
 use Rattle.block_effects.specs.Rules.{BlockRules, no_rules}
+use Rattle.btree_replay.specs.Operation.{btree_acts, btree_fresh, btree_operation}
 use Rattle.heap_replay.specs.Operation.{heap_acts, heap_fresh, heap_operation}
 use Rattle.storage_pages.specs.SequencePage.{sequence_acts, sequence_operation}
 
@@ -44,6 +45,10 @@ xlog_rules = record { acts = xlog_acts; fresh = xlog_acts; operation = without_i
 abbrev pub heap_rules : BlockRules
 heap_rules = record { acts = heap_acts; fresh = heap_fresh; operation = heap_operation }
 
+-- the manager Btree, but for posting lists
+abbrev pub btree_rules : BlockRules
+btree_rules = record { acts = btree_acts; fresh = btree_fresh; operation = btree_operation }
+
 -- a sequence's page is always made anew
 abbrev pub sequence_rules : BlockRules
 sequence_rules = record { acts = sequence_acts; fresh = sequence_acts; operation = sequence_operation }
@@ -53,6 +58,7 @@ abbrev pub rules_for : Operation → BlockRules
 rules_for (op.Xlog o) = xlog_rules
 rules_for (op.Heap o) = heap_rules
 rules_for (op.Heap2 o) = heap_rules
+rules_for (op.Btree o) = btree_rules
 rules_for (op.Sequence o) = sequence_rules
 rules_for _ = no_rules
 

@@ -111,12 +111,14 @@ fn is_map_page(rec: &Record, block: &BlockRef) -> bool
 
 /// Whether the manager's operation does something to the page of the reference with an id.
 fn acts(rec: &Record, parts: &Parts, id: u8) -> bool
+    requires parts { ArePartsOf rec.now parts.now }
     ensures { result ≡ (rules_of rec.now).acts rec.now parts.now id }
 {
     let op = done_by(rec);
     match op {
         Operation::Xlog(op) => is_full_page(op),
         Operation::Heap(_) | Operation::Heap2(_) => acts_on(op, id),
+        Operation::Btree(_) => btree_replay::acts(rec, parts, id),
         Operation::Sequence(_) => makes_sequence(op) && id == 0,
         _ => false,
     }
@@ -124,18 +126,21 @@ fn acts(rec: &Record, parts: &Parts, id: u8) -> bool
 
 /// Whether it makes the page anew.
 fn is_fresh(rec: &Record, parts: &Parts, id: u8) -> bool
+    requires parts { ArePartsOf rec.now parts.now }
     ensures { result ≡ (rules_of rec.now).fresh rec.now parts.now id }
 {
     let op = done_by(rec);
     match op {
         Operation::Xlog(op) => is_full_page(op),
         Operation::Heap(_) | Operation::Heap2(_) => makes_anew(op) && id == 0,
+        Operation::Btree(_) => btree_replay::is_fresh(rec, parts, id),
         Operation::Sequence(_) => makes_sequence(op) && id == 0,
         _ => false,
     }
 }
 
 fn made_or_changed(rec: &Record, parts: &Parts, block: &BlockRef) -> Act
+    requires parts { ArePartsOf rec.now parts.now }
     ensures { result ≡ made_or_changed rec.now parts.now block.now }
 {
     if is_fresh(rec, parts, block.id) {
@@ -146,6 +151,7 @@ fn made_or_changed(rec: &Record, parts: &Parts, block: &BlockRef) -> Act
 }
 
 fn act_by_rules(rec: &Record, parts: &Parts, block: &BlockRef) -> Act
+    requires parts { ArePartsOf rec.now parts.now }
     ensures { result ≡ act_by_rules rec.now parts.now block.now }
 {
     if is_main(block.name.fork) && acts(rec, parts, block.id) {
@@ -158,6 +164,7 @@ fn act_by_rules(rec: &Record, parts: &Parts, block: &BlockRef) -> Act
 }
 
 fn act_at(rec: &Record, parts: &Parts, block: &BlockRef) -> Act
+    requires parts { ArePartsOf rec.now parts.now }
     ensures { result ≡ act_at rec.now parts.now block.now }
 {
     if is_left(block.name.fork) {

@@ -7,6 +7,7 @@ ghost use Rattle.record_effects.specs.Managers.{rules_for, rules_of};
 
 use crate::acts::done_by;
 use block_refs::Parts;
+use btree_replay::redo_btree;
 use heap_replay::redo_heap;
 use page_layout::{Page, RedoWhy};
 use record_layouts::Operation;
@@ -28,6 +29,7 @@ fn redo_by(
     match op {
         Operation::Xlog(_) => Err(RedoWhy::Layout),
         Operation::Heap(_) | Operation::Heap2(_) => redo_heap(rec, parts, id, page),
+        Operation::Btree(_) => redo_btree(rec, parts, id, page),
         Operation::Sequence(_) => redo_sequence(rec, parts, page),
         _ => {
             page.set_lsn(rec.end());
