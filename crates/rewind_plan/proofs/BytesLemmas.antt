@@ -290,7 +290,7 @@ put-runs-length new size (run ∷ runs) old l m fine =
 
 -- ---- a file of blocks
 
-abbrev AllEnd : ℕ → List Run → Type 0
+abbrev pub AllEnd : ℕ → List Run → Type 0
 AllEnd end [] = Unit {0}
 AllEnd end (run ∷ runs) = (run.first + run.count ≤ end) × AllEnd end runs
 
@@ -302,7 +302,7 @@ end_with block end (run ∷ runs) l more = by (run.first == block + 1) refl
     by true is = let same = eq_of run.first (block + 1) is in (omega (arith, same, more.0), more.1)
     by false is = (omega (arith, l), more)
 
-runs_end : (p : ℕ → Bool) (block count end : ℕ) → block + count ≤ end → AllEnd end (runs_of p block count)
+pub runs_end : (p : ℕ → Bool) (block count end : ℕ) → block + count ≤ end → AllEnd end (runs_of p block count)
 runs_end p block zero end l = tt
 runs_end p block (suc count) end l = by (p block) (runs_end p (block + 1) count end (omega (arith, l)))
   where

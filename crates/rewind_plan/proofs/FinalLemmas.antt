@@ -220,10 +220,10 @@ module _ (c : Contents) (w : Between) (all : List Pair) (sides : Sides c w all) 
 -- ---- the changes of a plan are those of its jobs
 
 module _ (c : Contents) (w : Between) (all : List Pair) (new : Control) (label : Label) (plan : Plan) (sides : Sides c w all) (of : IsPlanOf w all new label plan) where
-  abbrev text : List ℕ
+  abbrev pub text : List ℕ
   text = codes "pg_rewind 1\n"
 
-  abbrev jobs : List Job
+  abbrev pub jobs : List Job
   jobs = plan_jobs c w all sides text (label_text label) (control_bytes new)
 
   closing_is : closing_changes plan.label plan.control ≡ MakesFile (below w.target label_parts) ∷ Writes (below w.target label_parts) 0 (label_text label) ∷ Writes (below w.target control_parts) 0 (control_bytes new) ∷ []

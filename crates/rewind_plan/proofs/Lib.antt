@@ -13,3 +13,4 @@ pub mod PlanFit
 pub mod BytesLemmas
 pub mod RewoundLemmas
 pub mod FinalLemmas
+pub mod FoundLemmas

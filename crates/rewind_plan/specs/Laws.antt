@@ -7,7 +7,7 @@ use Rattle.control_file.specs.declared.control.Control.{Control}
 use Rattle.backup_label.specs.declared.label.Label.{Label}
 use Rattle.file_walk.specs.declared.pair.Pair.{Pair}
 use Rattle.rewound_tree.specs.Rewound.{rewound}
-use Rattle.rewind_writes.specs.Plan.{plan_changes}
+use Rattle.rewind_writes.specs.Plan.{IsFound, plan_changes}
 use Rattle.rewind_writes.specs.declared.plan.Plan.{Plan}
 use Rattle.rewind_plan.specs.Planned.{Between}
 use Rattle.rewind_plan.specs.PlanOf.{IsPlanOf, rewinding}
@@ -23,3 +23,8 @@ abbrev pub PlansLeaveTheRewoundTree : Type 0
 PlansLeaveTheRewoundTree = (c : Contents) (w : Between) (pairs : List Pair) (control : Control) (label : Label) (plan : Plan) →
     Sides c w pairs → IsPlanOf w pairs control label plan →
     (parts : List (List ℕ)) → entry_at (all_changed c (plan_changes c plan)) (below w.target parts) ≡ rewound (rewinding c w control label) parts
+
+-- what its steps read is there, and none of its changes is on it
+abbrev pub PlansFindWhatTheyRead : Type 0
+PlansFindWhatTheyRead = (c : Contents) (w : Between) (pairs : List Pair) (control : Control) (label : Label) (plan : Plan) →
+    Sides c w pairs → IsPlanOf w pairs control label plan → IsFound c plan

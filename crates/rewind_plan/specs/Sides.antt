@@ -2,6 +2,7 @@
 use Rattle.std.specs.Prelude.{◌≡◌, ◌≢◌, ℕ, ◌%◌, ◌==◌, Bool, true, false, ◌||◌, List, [], ◌∷◌, codes, length, Option, None, Some, is_some}
 use Rattle.std.specs.List.{list_any}
 use Rattle.cluster_tree.specs.PathValue.{PathValue, below, path_of}
+use Rattle.cluster_tree.specs.Apart.{AreApart}
 use Rattle.cluster_tree.specs.PathOrder.{path_eq}
 use Rattle.cluster_tree.specs.Contents.{Contents, Entry, FolderEntry, FileEntry, IsTree, entry_at, is_folder, parent}
 use Rattle.file_walk.specs.declared.action.Action.TheVariants as action
@@ -59,6 +60,7 @@ control_parts = codes "global" ∷ codes "pg_control" ∷ []
 
 -- two clusters and all paths below them, side by side
 pub record Sides (c : Contents) (w : Between) (pairs : List Pair) : Type 0 where
+  pub apart : AreApart w.target w.source
   pub tree : IsTree c
   pub target_root : is_folder (entry_at c w.target) ≡ true
   pub source_root : is_folder (entry_at c w.source) ≡ true

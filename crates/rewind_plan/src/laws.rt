@@ -1,5 +1,5 @@
 // What follows from the definitions: the functions' contracts are laws.
-ghost use Rattle.rewind_plan.specs.Laws.{PlansAreNotRefused, PlansLeaveTheRewoundTree};
+ghost use Rattle.rewind_plan.specs.Laws.{PlansAreNotRefused, PlansFindWhatTheyRead, PlansLeaveTheRewoundTree};
 
 /// Where two clusters were walked and paired, and no kinds differ, no change of the plan is refused in
 /// its turn.
@@ -10,4 +10,9 @@ pub fn plans_are_not_refused()
 /// Then the plan's changes leave the rewound tree below the target's root, path by path.
 pub fn plans_leave_the_rewound_tree()
     ensures { PlansLeaveTheRewoundTree }
+{}
+
+/// What the plan's steps read is there, and none of its changes is on it.
+pub fn plans_find_what_they_read()
+    ensures { PlansFindWhatTheyRead }
 {}

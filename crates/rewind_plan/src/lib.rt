@@ -3,4 +3,4 @@
 
 mod laws;
 
-pub use laws::{plans_are_not_refused, plans_leave_the_rewound_tree};
+pub use laws::{plans_are_not_refused, plans_find_what_they_read, plans_leave_the_rewound_tree};
