@@ -13,7 +13,8 @@ use Rattle.marked_runs.specs.Runs.{writes_at}
 use Rattle.rewind_writes.specs.Steps.{part_of, steps_changes}
 use Rattle.rewind_writes.specs.declared.step.Step.TheVariants.{Cut}
 use Rattle.rewound_tree.specs.Mixed.{mixed, mixed_byte}
-use Rattle.rewind_plan.specs.Blocks.{Run, block_steps, is_copied, onto_runs, range_step, runs_of}
+use Rattle.rewind_plan.specs.Blocks.{AllEnd, block_steps, is_copied, onto_runs, range_step, runs_of}
+use Rattle.rewind_plan.specs.declared.runs.Run.{Run}
 use Rattle.rewind_plan.proofs.Jobs.{made_of}
 use Rattle.rewind_plan.proofs.FileLemmas.{AllWithin, begin_within, runs_begin, runs_below}
 
@@ -289,10 +290,6 @@ put-runs-length new size (run ∷ runs) old l m fine =
     by block (inr h) longer rest reach own = rest block h
 
 -- ---- a file of blocks
-
-abbrev pub AllEnd : ℕ → List Run → Type 0
-AllEnd end [] = Unit {0}
-AllEnd end (run ∷ runs) = (run.first + run.count ≤ end) × AllEnd end runs
 
 end_with : (block end : ℕ) (runs : List Run) → block < end → AllEnd end runs → AllEnd end (onto_runs block runs)
 end_with block end [] l more = (omega (arith, l), tt)

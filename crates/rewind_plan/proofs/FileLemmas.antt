@@ -14,7 +14,8 @@ use Rattle.cluster_tree.proofs.OrderLemmas.{path_eq-own}
 use Rattle.marked_runs.specs.Runs.{writes_at}
 use Rattle.rewind_writes.specs.Steps.{opened, part_of, steps_changes}
 use Rattle.rewind_writes.specs.declared.step.Step.TheVariants.{Cut, Whole}
-use Rattle.rewind_plan.specs.Blocks.{Run, block_steps, is_copied, onto_runs, range_step, runs_of}
+use Rattle.rewind_plan.specs.Blocks.{block_steps, is_copied, onto_runs, range_step, runs_of}
+use Rattle.rewind_plan.specs.declared.runs.Run.{Run}
 use Rattle.rewind_plan.proofs.Jobs.{AllFit, is_own}
 use Rattle.rewind_plan.proofs.ItemLemmas.{all_folders}
 

@@ -26,11 +26,12 @@ use Rattle.rewind_writes.specs.declared.plan.Plan.{Plan}
 use Rattle.rewind_writes.specs.declared.step.Step.{Step}
 use Rattle.rewind_writes.specs.declared.step.Step.TheVariants.{Cut}
 use Rattle.rewind_plan.proofs.Jobs.{Job, JobsFit, Standing, after_job, changes_in}
-use Rattle.rewind_plan.specs.Blocks.{Run, block_steps, is_copied, range_step, runs_of}
+use Rattle.rewind_plan.specs.Blocks.{AllEnd, block_steps, is_copied, range_step, runs_of}
+use Rattle.rewind_plan.specs.declared.runs.Run.{Run}
 use Rattle.rewind_plan.specs.PlanOf.{IsPlanOf}
 use Rattle.rewind_plan.specs.Planned.{Between, action_of, all_file_steps, both_files, file_steps, folder_step, folder_steps, in_source, in_target, removal_step, removal_steps, steps_of, touched_steps, wants, whole_step}
 use Rattle.rewind_plan.specs.Sides.{AllPaired, IsKind, IsPaired, Sides, control_parts, label_parts, mark_parts}
-use Rattle.rewind_plan.proofs.BytesLemmas.{AllEnd, runs_end}
+use Rattle.rewind_plan.proofs.BytesLemmas.{runs_end}
 use Rattle.rewind_plan.proofs.FinalLemmas.{changes-are, jobs, text}
 use Rattle.rewind_plan.proofs.ItemLemmas.{Clears, Doing, Fills, Leaves, Makes, all_jobs, file_of, files, folder_of, folders, removal_of, removals}
 use Rattle.rewind_plan.proofs.JobLemmas.{owns-off}

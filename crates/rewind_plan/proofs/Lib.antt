@@ -11,6 +11,8 @@ pub mod SidesFit
 pub mod WholeLemmas
 pub mod PlanFit
 pub mod BytesLemmas
+pub mod CodeLemmas
+pub mod RoomLemmas
 pub mod RewoundLemmas
 pub mod FinalLemmas
 pub mod FoundLemmas

@@ -1,13 +1,9 @@
 -- The blocks of a file that are copied: PostgreSQL 16, src/bin/pg_rewind/filemap.c and datapagemap.c. Own: "The plan of a rewind".
-use Rattle.std.specs.Prelude.{ℕ, zero, suc, ◌+◌, ◌*◌, ◌/◌, ◌==◌, ◌||◌, Bool, cond, List, [], ◌∷◌, ◌++◌, map, nat_le, nat_lt}
+use Rattle.std.specs.Prelude.{ℕ, zero, suc, ◌+◌, ◌*◌, ◌/◌, ◌==◌, ◌≤◌, ◌||◌, Bool, cond, List, [], ◌∷◌, ◌++◌, map, nat_le, nat_lt}
 use Rattle.cluster_tree.specs.PathValue.{PathValue}
+use Rattle.rewind_plan.specs.declared.runs.Run.{Run}
 use Rattle.rewind_writes.specs.declared.step.Step.{Step}
 use Rattle.rewind_writes.specs.declared.step.Step.TheVariants.{Cut, Range}
-
--- blocks that stand side by side: the first, and how many
-pub record Run : Type 0 where
-  pub first : ℕ
-  pub count : ℕ
 
 -- a block joins the run behind it
 abbrev pub onto_runs : ℕ → List Run → List Run
@@ -19,6 +15,11 @@ onto_runs block (run ∷ runs) =
 abbrev pub runs_of : (ℕ → Bool) → (block count : ℕ) → List Run
 runs_of wanted block zero = []
 runs_of wanted block (suc count) = cond (wanted block) (onto_runs block (runs_of wanted (block + 1) count)) (runs_of wanted (block + 1) count)
+
+-- all end at a block or before it
+abbrev pub AllEnd : ℕ → List Run → Type 0
+AllEnd end [] = Unit {0}
+AllEnd end (run ∷ runs) = (run.first + run.count ≤ end) × AllEnd end runs
 
 -- a run of blocks of 8192 bytes is copied
 abbrev pub range_step : (from to : PathValue) → Run → Step

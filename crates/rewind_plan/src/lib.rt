@@ -1,6 +1,13 @@
 //! The plan of a rewind: which changes it makes, and what they leave.
 #![tactic(auto)]
 
+mod clusters;
+mod files;
 mod laws;
+mod place;
+mod runs;
+mod steps;
 
+pub use clusters::Clusters;
 pub use laws::{plans_are_not_refused, plans_find_what_they_read, plans_leave_the_rewound_tree};
+pub use steps::steps_of;
