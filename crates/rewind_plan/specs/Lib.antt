@@ -1,7 +1,8 @@
 pub mod Blocks
 pub mod Planned
 pub mod Between
-pub mod Room
 pub mod Sides
+pub mod Checks
+pub mod Room
 pub mod PlanOf
 pub mod Laws

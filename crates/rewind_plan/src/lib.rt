@@ -1,6 +1,7 @@
 //! The plan of a rewind: which changes it makes, and what they leave.
 #![tactic(auto)]
 
+mod checks;
 mod clusters;
 mod files;
 mod laws;
@@ -8,6 +9,7 @@ mod place;
 mod runs;
 mod steps;
 
+pub use checks::{first_difference, first_lacking};
 pub use clusters::Clusters;
 pub use laws::{plans_are_not_refused, plans_find_what_they_read, plans_leave_the_rewound_tree};
 pub use steps::steps_of;

@@ -8,4 +8,8 @@ mod kinds;
 #[cfg(test)]
 mod labels;
 #[cfg(test)]
+mod plans;
+#[cfg(test)]
 mod relations;
+#[cfg(test)]
+mod touching;

@@ -1,4 +1,4 @@
-use Rattle.std.proofs.Common.{◌≡◌, ◌<◌, length, ap, sym, ◌∙◌, add-one, arith}
+use Rattle.std.proofs.Common.{◌<◌, length, ap, sym, ◌∙◌, add-one, arith}
 use Rattle.cluster_tree.specs.PathValue.{below}
 use Rattle.cluster_tree.proofs.PartLemmas.{part_admitted, part_at, part_kept}
 use Rattle.rewind_plan.proofs.CodeLemmas.{place_more, place_room}
