@@ -18,9 +18,7 @@ const HEAP: u8 = 10;
 
 /// What a record's body says of a block of the main fork of relation 16385 of database 5, but for the
 /// block's number: its id, no flags, no data, and the relation's three numbers.
-const REFERENCE: [u8; 16] = [
-    0, 0, 0, 0, 0x7F, 6, 0, 0, 5, 0, 0, 0, 1, 0x40, 0, 0,
-];
+const REFERENCE: [u8; 16] = [0, 0, 0, 0, 0x7F, 6, 0, 0, 5, 0, 0, 0, 1, 0x40, 0, 0];
 
 // A log of one record that references a block.
 #[tactic(auto, using(wal_records::proofs::NearLemmas::ends_near))]
