@@ -1,4 +1,0 @@
-pub mod FaultLemmas
-pub mod WalkLemmas
-pub mod PlanLemmas
-pub mod StageLemmas

@@ -1,4 +1,0 @@
-pub mod Faults
-pub mod Fitness
-pub mod Plan
-pub mod Survey

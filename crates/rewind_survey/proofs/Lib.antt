@@ -1,0 +1,4 @@
+pub mod FaultLemmas
+pub mod WalkLemmas
+pub mod GivenLemmas
+pub mod StageLemmas

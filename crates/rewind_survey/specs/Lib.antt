@@ -1,0 +1,4 @@
+pub mod Faults
+pub mod Fitness
+pub mod Marks
+pub mod Survey
