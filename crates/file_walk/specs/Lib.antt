@@ -2,4 +2,12 @@ pub mod Relations
 pub mod Excluded
 pub mod Actions
 pub mod Walk
+pub mod Faults
+pub mod Listed
+pub mod Pairs
+pub mod Paired
+pub mod Merging
+pub mod Seeing
+pub mod Waiting
+pub mod Stepping
 pub mod Laws

@@ -1,5 +1,6 @@
 // What follows from the definitions, for callers: each function's contract is a law.
 ghost use Rattle.file_walk.specs.Laws.{BelowIsExcluded, RelationsAreFiles};
+ghost use Rattle.file_walk.specs.Paired.{PairsAreWhole, WalksAreInOrder};
 
 /// A path is that of a main fork's file exactly where that file lies.
 pub fn relation_files_lie_there()
@@ -9,4 +10,15 @@ pub fn relation_files_lie_there()
 /// What lies below an excluded path is excluded too.
 pub fn excluded_below()
     ensures { BelowIsExcluded }
+{}
+
+/// A walk tells each path once, in ascending order of the texts.
+pub fn walks_are_in_order()
+    ensures { WalksAreInOrder }
+{}
+
+/// The pairs of two walks are each path below either root once, behind the folder that it lies in,
+/// with what stands there on both sides.
+pub fn pairs_are_whole()
+    ensures { PairsAreWhole }
 {}

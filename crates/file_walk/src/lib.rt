@@ -2,17 +2,24 @@
 #![tactic(auto)]
 
 mod action;
+mod entries;
 mod entry;
 mod excluding;
 mod fault;
 mod laws;
 mod pair;
+mod place;
 mod relation;
+mod see;
+mod waiting;
+mod walking;
 
 pub use action::{Action, decide};
+pub use entries::Entries;
 pub use entry::{Entry, EntryKind};
 pub use excluding::excluded;
 pub use fault::WalkFault;
-pub use laws::{excluded_below, relation_files_lie_there};
-pub use pair::Pair;
+pub use laws::{excluded_below, pairs_are_whole, relation_files_lie_there, walks_are_in_order};
+pub use pair::{Pair, pair_up};
 pub use relation::is_relation_file;
+pub use walking::walk;

@@ -1,7 +1,7 @@
 -- Two clusters by their code. Own: "The plan of a rewind".
 use Rattle.touched_blocks.specs.Set.{has_in}
 use Rattle.rewind_plan.specs.Planned.{Between}
-use Rattle.rewind_plan.specs.declared.clusters.Clusters.{Clusters}
+use Rattle.rewind_plan.specs.declared.roots.Clusters.{Clusters}
 
 -- the blocks that are wanted are those of the set
 abbrev pub between : Clusters → Between

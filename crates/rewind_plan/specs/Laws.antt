@@ -1,17 +1,22 @@
 -- What follows from the definitions, for callers. Own: "The plan of a rewind".
 use Rattle.std.specs.Prelude.{◌≡◌, ℕ, List, None}
+use Rattle.cluster_tree.specs.Apart.{AreApart}
 use Rattle.cluster_tree.specs.Change.{all_changed, first_refusal}
-use Rattle.cluster_tree.specs.Contents.{Contents, entry_at}
+use Rattle.cluster_tree.specs.Contents.{Contents, IsTree, entry_at}
 use Rattle.cluster_tree.specs.PathValue.{below}
 use Rattle.control_file.specs.declared.control.Control.{Control}
 use Rattle.backup_label.specs.declared.label.Label.{Label}
+use Rattle.file_walk.specs.Pairs.{pairs_of}
+use Rattle.file_walk.specs.declared.entry.Entry.{Entry}
 use Rattle.file_walk.specs.declared.pair.Pair.{Pair}
 use Rattle.rewound_tree.specs.Rewound.{rewound}
 use Rattle.rewind_writes.specs.Plan.{IsFound, plan_changes}
 use Rattle.rewind_writes.specs.declared.plan.Plan.{Plan}
+use Rattle.rewind_plan.specs.Checks.{first_difference}
 use Rattle.rewind_plan.specs.Planned.{Between}
 use Rattle.rewind_plan.specs.PlanOf.{IsPlanOf, rewinding}
 use Rattle.rewind_plan.specs.Sides.{Sides}
+use Rattle.rewind_plan.specs.Walks.{IsWalked}
 
 -- none of a plan's changes is refused in its turn
 abbrev pub PlansAreNotRefused : Type 0
@@ -28,3 +33,9 @@ PlansLeaveTheRewoundTree = (c : Contents) (w : Between) (pairs : List Pair) (con
 abbrev pub PlansFindWhatTheyRead : Type 0
 PlansFindWhatTheyRead = (c : Contents) (w : Between) (pairs : List Pair) (control : Control) (label : Label) (plan : Plan) →
     Sides c w pairs → IsPlanOf w pairs control label plan → IsFound c plan
+
+-- two clusters that were seen, side by side
+abbrev pub WalksAreSides : Type 0
+WalksAreSides = (c : Contents) (w : Between) (target source : Control) (found there : List Entry) →
+    IsTree c → AreApart w.target w.source → IsWalked c w.target target found → IsWalked c w.source source there →
+    first_difference (pairs_of found there) ≡ None → Sides c w (pairs_of found there)

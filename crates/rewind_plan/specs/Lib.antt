@@ -4,5 +4,6 @@ pub mod Between
 pub mod Sides
 pub mod Checks
 pub mod Room
+pub mod Walks
 pub mod PlanOf
 pub mod Laws

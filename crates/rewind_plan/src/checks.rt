@@ -6,7 +6,7 @@ ghost use Rattle.rewind_plan.specs.Checks.{first_difference, is_difference};
 ghost use Rattle.rewind_plan.specs.Planned.{action_of};
 ghost use Rattle.rewind_plan.specs.Room.{AllHaveRoom, first_lacking, is_past, lacks_room, makes};
 
-use crate::clusters::Clusters;
+use crate::roots::Clusters;
 use cluster_tree::Path;
 use file_walk::{Action, Pair, decide};
 

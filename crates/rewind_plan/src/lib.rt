@@ -2,14 +2,16 @@
 #![tactic(auto)]
 
 mod checks;
-mod clusters;
 mod files;
 mod laws;
 mod place;
+mod roots;
 mod runs;
 mod steps;
 
 pub use checks::{first_difference, first_lacking};
-pub use clusters::Clusters;
-pub use laws::{plans_are_not_refused, plans_find_what_they_read, plans_leave_the_rewound_tree};
+pub use roots::Clusters;
+pub use laws::{
+    plans_are_not_refused, plans_find_what_they_read, plans_leave_the_rewound_tree, walks_are_sides,
+};
 pub use steps::steps_of;

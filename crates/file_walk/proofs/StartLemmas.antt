@@ -1,0 +1,67 @@
+-- How a walk begins: the names in the root wait.
+use Rattle.std.proofs.Common.{◌≡◌, ℕ, Bool, true, false, cond, ◌||◌, List, [], ◌∷◌, ◌++◌, map, filter, None, refl, ap, ap₂, sym, subst, ◌∙◌, append-nil}
+use Rattle.std.specs.FinMap.{entries}
+use Rattle.std.specs.List.{list_all, list_any}
+use Rattle.cluster_tree.specs.Causes.{first_of}
+use Rattle.cluster_tree.specs.Contents.{Contents, Entry, IsTree}
+use Rattle.cluster_tree.specs.Folders.{IsListing, lies_in, names_in}
+use Rattle.cluster_tree.specs.PathValue.{PathValue, below, is_part, path_of}
+use Rattle.cluster_tree.proofs.NamesLemmas.{listing_names}
+use Rattle.cluster_tree.proofs.OrderLemmas.{same_path}
+use Rattle.file_walk.specs.declared.place.Place.{Place}
+use Rattle.file_walk.specs.declared.waiting.Waiting.{Waiting}
+use Rattle.file_walk.specs.Actions.{here}
+use Rattle.file_walk.specs.Waiting.{put_names}
+use Rattle.file_walk.specs.Walk.{found_below}
+use Rattle.file_walk.proofs.AscendLemmas.{found, itself, key, value}
+use Rattle.file_walk.proofs.FoundLemmas.{children}
+use Rattle.file_walk.proofs.LoopLemmas.{same_pass}
+use Rattle.file_walk.proofs.ProgressLemmas.{Progress, queue_of}
+use Rattle.file_walk.proofs.QueueLemmas.{entry, put_all, put_part, waits}
+use Rattle.file_walk.proofs.StepLemmas.{found_put, names_put, place_of, put_paths}
+use Rattle.file_walk.proofs.WholeLemmas.{all_closed, found_in_order, holds, top}
+
+none_pass : {X : Type 0} (xs : List X) → filter (λ (x : X). false) xs ≡ []
+none_pass [] = refl
+none_pass (x ∷ xs) = none_pass xs
+
+or_none : (b : Bool) → b ≡ (b || false)
+or_none true = refl
+or_none false = refl
+
+module _ (c : Contents) (root : PathValue) where
+  same_root : root ≡ below root []
+  same_root = same_path root (below root []) refl (sym (append-nil root.parts))
+
+  top_waits : put_all (key root) (value root) [] (filter top (found_below c root)) ≡ queue_of root [] (found_below c root)
+  top_waits =
+      ap (λ (l : List (PathValue × Entry)). put_all (key root) (value root) (map (entry (key root) (value root)) l) (filter top (found_below c root))) (sym (none_pass (found_below c root)))
+      ∙ put_part (key root) (value root) (λ x. false) top (found_below c root) (λ x. itself (key root x)) (found_in_order c root)
+      ∙ ap (map (entry (key root) (value root))) (same_pass top (waits top holds []) (found_below c root) (λ y. or_none (top y)))
+
+  -- the names in the root, put into nothing
+  names_wait : list_all is_part root.parts ≡ true → (names : List (List ℕ)) → IsListing c (below root []) names → list_all is_part names ≡ true
+      → put_names (place_of root here) [] names ≡ queue_of root [] (found_below c root)
+  unfolding found_below names_in
+  names_wait proper names listing parts =
+      let named : names ≡ names_in c (below root []) = listing_names c (below root []) names listing in
+      let good : list_all is_part (names_in c (below root [])) ≡ true = ap (list_all is_part) (sym named) ∙ parts in
+      let whole : list_all is_part (root.parts ++ []) ≡ true = ap (list_all is_part) (append-nil root.parts) ∙ proper in
+      names_put root here names []
+      ∙ ap (λ (l : List (List ℕ)). put_paths root [] (map (λ (n : List ℕ). below here (n ∷ [])) l)) named
+      ∙ ap (put_paths root []) (sym (children root here refl whole (entries c) good))
+      ∙ sym (found_put root (filter top (found_below c root)) [])
+      ∙ top_waits
+
+  pub started : IsTree c → list_all is_part root.parts ≡ true → (place : Place) → place.own ≡ here → place.full ≡ root
+      → (names : List (List ℕ)) → IsListing c root names → list_all is_part names ≡ true → (queue : List (List ℕ × Waiting)) → queue ≡ put_names place [] names → Progress c root [] queue
+  unfolding first_of
+  started tree proper place own full names listing parts queue is =
+      let same : place ≡ place_of root here = ap₂ (λ (o f : PathValue). record { own = o; full = f }) own (full ∙ same_root) in
+      record {
+        done = []; others = found_below c root;
+        split = refl; listed_is = refl; flawless = refl;
+        queue_is = is ∙ ap (λ (p : Place). put_names p [] names) same ∙ names_wait proper names (subst (λ (p : PathValue). IsListing c p names) same_root listing) parts;
+        closed = all_closed c tree root;
+        ascends = found_in_order c root;
+      }
