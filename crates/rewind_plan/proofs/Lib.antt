@@ -16,6 +16,7 @@ pub mod RoomLemmas
 pub mod RewoundLemmas
 pub mod FinalLemmas
 pub mod FoundLemmas
+pub mod FileRoom
 pub mod WalkLemmas
 pub mod TurnLemmas
 pub mod FoundOutLemmas

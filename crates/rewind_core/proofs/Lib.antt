@@ -1,0 +1,5 @@
+pub mod FaultLemmas
+pub mod ControlLemmas
+pub mod PlanLemmas
+pub mod SurveyLemmas
+pub mod PerformLemmas

@@ -1,0 +1,85 @@
+-- What is meant, stage by stage.
+use Rattle.std.proofs.Common.{◌≡◌, ◌⊎◌, inl, inr, List, [], ◌∷◌, Option, None, Some, Result, Ok, Err, option_map, refl, ap, ◌∙◌}
+use Rattle.cluster_tree.specs.Apart.{AreApart}
+use Rattle.cluster_tree.specs.Causes.{first_of, given, unless}
+use Rattle.cluster_tree.specs.Contents.{Contents, IsTree}
+use Rattle.cluster_tree.specs.PathValue.{PathValue}
+use Rattle.file_walk.specs.Pairs.{pairs_of}
+use Rattle.file_walk.specs.Walk.{walk_of}
+use Rattle.file_walk.specs.declared.entry.Entry.{Entry}
+use Rattle.file_walk.specs.declared.fault.WalkFault.{WalkFault}
+use Rattle.rewind_plan.proofs.WalksFit.{walks-fit}
+use Rattle.rewind_plan.specs.Checks.{first_difference}
+use Rattle.rewind_plan.specs.PlanOf.{IsPlanOf}
+use Rattle.rewind_plan.specs.Planned.{Between}
+use Rattle.rewind_plan.specs.Room.{first_lacking}
+use Rattle.rewind_plan.specs.Walks.{HasParts}
+use Rattle.rewind_survey.specs.Faults.{IsFree}
+use Rattle.rewind_survey.specs.declared.fault.RewindFault.{RewindFault}
+use Rattle.rewind_survey.specs.declared.fault.RewindFault.TheVariants as fault
+use Rattle.rewind_core.specs.Faults.{seen}
+use Rattle.rewind_core.specs.Fits.{IsPlanFor}
+use Rattle.rewind_core.specs.Planned.{Aim, Needing, Needs, from_pairs, from_walks, pairs_refusal}
+use Rattle.rewind_core.specs.Rooted.{IsRooted}
+use Rattle.rewind_core.specs.declared.outcome.Plan.{Plan}
+
+-- a reading that is refused
+pub given-err : {A B : Type 0} (meant : Result A RewindFault) (k : A → Result B RewindFault) (e : RewindFault) → IsFree e ⊎ (meant ≡ Err e) → IsFree e ⊎ (given meant k ≡ Err e)
+given-err meant k e (inl free) = inl free
+given-err meant k e (inr is) = inr (ap (λ m. given m k) is)
+
+-- and one that isn't
+given-ok : {A B : Type 0} {meant : Result A RewindFault} {v : A} (k : A → Result B RewindFault) → meant ≡ Ok v → given meant k ≡ k v
+given-ok k is = ap (λ m. given m k) is
+
+pub ok-walk : {A : Type 0} (meant : Result A WalkFault) (v : A) → seen meant ≡ Ok v → meant ≡ Ok v
+ok-walk (Ok w) v h = cc h
+ok-walk (Err e) v h = absurd (cc h)
+
+-- no refusal of the pairs is none of their kinds
+no-difference : (a b : Option PathValue) → first_of (option_map fault.TooDeep a ∷ option_map fault.KindsDiffer b ∷ []) ≡ None → b ≡ None
+unfolding first_of
+no-difference None None h = refl
+no-difference None (Some p) h = absurd (cc h)
+no-difference (Some p) b h = absurd (cc h)
+
+module _ (c : Contents) (aim : Aim) where
+  abbrev w : Between
+  w = aim.between
+
+  -- a walk is refused
+  pub target-refused : (e : RewindFault) → IsFree e ⊎ (seen (walk_of c w.target) ≡ Err e) → IsFree e ⊎ (from_walks c aim ≡ Err e)
+  unfolding from_walks
+  target-refused e h = given-err _ _ e h
+
+  module _ (ts : List Entry) (told : seen (walk_of c w.target) ≡ Ok ts) where
+    pub source-refused : (e : RewindFault) → IsFree e ⊎ (seen (walk_of c w.source) ≡ Err e) → IsFree e ⊎ (from_walks c aim ≡ Err e)
+    unfolding from_walks
+    source-refused e (inl free) = inl free
+    source-refused e (inr is) = inr (given-ok _ told ∙ ap (λ m. given m (λ ss. from_pairs aim (pairs_of ts ss))) is)
+
+    module _ (ss : List Entry) (there : seen (walk_of c w.source) ≡ Ok ss) where
+      walked-on : from_walks c aim ≡ from_pairs aim (pairs_of ts ss)
+      unfolding from_walks
+      walked-on = given-ok _ told ∙ given-ok (λ ss. from_pairs aim (pairs_of ts ss)) there
+
+      -- the pairs are refused
+      pub pairs-refused : (e : RewindFault) → IsFree e ⊎ (pairs_refusal w (pairs_of ts ss) ≡ Some e) → IsFree e ⊎ (from_walks c aim ≡ Err e)
+      pairs-refused e (inl free) = inl free
+      pairs-refused e (inr is) = inr (walked-on ∙ ap (λ r. unless r (Ok (Needs (record { aim = aim; pairs = pairs_of ts ss })))) is)
+
+      -- or the plan is made
+      pub planned-for : (plan : Plan) → IsTree c → AreApart w.target w.source → IsRooted c w.target → IsRooted c w.source → HasParts c w.target → HasParts c w.source
+          → pairs_refusal w (pairs_of ts ss) ≡ None → plan.told ≡ aim.told → IsPlanOf w (pairs_of ts ss) aim.control aim.label plan.writes
+          → (n : Needing) × (from_walks c aim ≡ Ok (Needs n)) × IsPlanFor c n plan
+      planned-for plan tree apart target source target_parts source_parts none is writes = (
+        record { aim = aim; pairs = pairs_of ts ss },
+        walked-on ∙ ap (λ r. unless r (Ok (Needs (record { aim = aim; pairs = pairs_of ts ss })))) none,
+        record {
+          told = is;
+          writes = writes;
+          sides = walks-fit c w target.1.0 source.1.0 ts ss
+              (record { finished = target.0; read = target.1.1; parts = target_parts; walk = ok-walk _ ts told })
+              (record { finished = source.0; read = source.1.1; parts = source_parts; walk = ok-walk _ ss there })
+              tree apart (no-difference (first_lacking w (pairs_of ts ss)) (first_difference (pairs_of ts ss)) none);
+        })

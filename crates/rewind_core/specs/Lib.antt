@@ -1,0 +1,4 @@
+pub mod Faults
+pub mod Planned
+pub mod Rooted
+pub mod Fits

@@ -1,0 +1,17 @@
+//! A rewind: what it has to do, planned, and carried out.
+#![tactic(auto)]
+
+mod faults;
+mod outcome;
+mod pairs;
+mod performing;
+mod planning;
+mod rewinding;
+mod walks;
+
+pub use marked_runs::PerformFault;
+pub use outcome::{Plan, Planned, RewindDone};
+pub use performing::perform;
+pub use planning::plan;
+pub use rewind_survey::{Divergence, RewindFault, Told};
+pub use rewinding::rewind;

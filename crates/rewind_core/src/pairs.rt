@@ -1,0 +1,53 @@
+// The plan of the paths of two clusters, side by side.
+ghost use Rattle.std.specs.Prelude.{◌≡◌, ◌≢◌, ◌≤◌, length, IfErr, IfOk, OnOk, Err};
+ghost use Rattle.cluster_tree.specs.Causes.{Passes};
+ghost use Rattle.cluster_tree.specs.PathValue.{PathValue};
+ghost use Rattle.control_file.specs.Admission.{IsControl};
+ghost use Rattle.rewound_tree.specs.RewoundControl.{rewound_control};
+ghost use Rattle.rewind_plan.specs.Between.{between};
+ghost use Rattle.rewind_plan.specs.Room.{AllHaveRoom};
+ghost use Rattle.rewind_survey.specs.Faults.{IsFree};
+ghost use Rattle.rewind_core.specs.Planned.{pairs_refusal};
+
+use control_file::Control;
+use file_walk::Pair;
+use rewind_plan::{Clusters, first_difference, first_lacking};
+use rewind_survey::RewindFault;
+use std::alloc::Global;
+
+/// The control file that a rewind leaves.
+#[tactic(auto, using(crate::proofs::ControlLemmas::control_steps))]
+pub(crate) fn rewound_control(source: &Control, now: i64) -> Control
+    requires { IsControl source.now }
+    ensures value { result ≡ rewound_control source.now now }
+    ensures control { IsControl result }
+{
+    Control {
+        state: 5,
+        time: now,
+        minRecoveryPoint: source.checkPoint,
+        minRecoveryPointTli: source.cp.tli,
+        ..*source
+    }
+}
+
+/// Refuses the least path that has no room where it is made, and then the least whose kinds differ.
+pub(crate) fn check_pairs(
+    alloc: Global,
+    clusters: &Clusters<'_>,
+    pairs: &[Pair],
+) -> Result<(), RewindFault>
+    ensures answer { Passes IsFree (pairs_refusal (between clusters.now) pairs.now) result }
+    ensures room { IfOk result (λ _. AllHaveRoom (between clusters.now) pairs.now) }
+    ensures read { result ≢ Err RewindFault.ReadFault }
+    ensures changed { (p : PathValue) → result ≢ Err (RewindFault.Changed p) }
+    ensures never_writes { result ≢ Err RewindFault.WriteFault }
+{
+    if let Some(path) = first_lacking(clusters, pairs) {
+        return Err(RewindFault::TooDeep(path.copy(alloc)?));
+    }
+    if let Some(path) = first_difference(pairs) {
+        return Err(RewindFault::KindsDiffer(path.copy(alloc)?));
+    }
+    Ok(())
+}

@@ -1,0 +1,41 @@
+// The public call that carries out.
+ghost use Rattle.std.specs.Prelude.{◌≡◌, ◌≢◌, IsTrue, Err, IsErrOf, OnOk};
+ghost use Rattle.cluster_tree.specs.Causes.{Rose};
+ghost use Rattle.cluster_tree.specs.Frame.{Came};
+ghost use Rattle.cluster_tree.specs.PathValue.{PathValue};
+ghost use Rattle.marked_runs.specs.Runs.{Runs, is_done};
+ghost use Rattle.rewind_writes.specs.Plan.{plan_changes};
+ghost use Rattle.rewind_writes.specs.Steps.{AllAreFit};
+ghost use Rattle.rewind_core.specs.Fits.{IsPlanFor, IsRewound};
+ghost use Rattle.rewind_core.specs.Planned.{Needing};
+
+use crate::outcome::Plan;
+use cluster_tree::Tree;
+use marked_runs::PerformFault;
+
+/// Carries out a rewind that was planned. Its mark stands from before the first other change until
+/// after the last sync; it takes no memory, and writes pieces of at most 65536 bytes.
+///
+/// Answers `ReadFault` only where a read failed and `WriteFault` only where a changing call did, which
+/// the tree has counted, and `Changed` never where the tree tells and is as it was when this was
+/// planned.
+pub fn perform<F: Tree>(tree: &mut F, plan: Plan) -> Result<(), PerformFault>
+    requires fit { AllAreFit plan.writes.steps.items }
+    // these changes ran, in this order: all of them where it is done, else the first ones, of the last
+    // perhaps a part
+    ensures runs { IsTrue F.tells → (n : Needing) → IsPlanFor (F.contents tree.old) n plan →
+        Runs (plan_changes (F.contents tree.old) plan.writes) (F.calls tree.old) (F.calls tree.new)
+            (F.contents tree.old) (F.contents tree.new) (is_done result) }
+    // then the tree below the target's root is the rewound one
+    ensures rewound { IsTrue F.tells → (n : Needing) → IsPlanFor (F.contents tree.old) n plan →
+        OnOk result (IsRewound (F.contents tree.old) n (F.contents tree.new)) }
+    ensures changed { IsTrue F.tells → (n : Needing) → IsPlanFor (F.contents tree.old) n plan →
+        (p : PathValue) → result ≢ Err (PerformFault.Changed p) }
+    ensures frame { Came F.Tree tree.old tree.new }
+    ensures read_fault { IsErrOf result PerformFault.ReadFault →
+        Rose (F.failed_reads tree.old) (F.failed_reads tree.new) }
+    ensures write_fault { IsErrOf result PerformFault.WriteFault →
+        Rose (F.failed_changes tree.old) (F.failed_changes tree.new) }
+{
+    rewind_writes::perform(tree, plan.writes)
+}
