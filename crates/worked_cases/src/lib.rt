@@ -33,6 +33,8 @@ mod resets;
 #[cfg(test)]
 mod rewinds;
 #[cfg(test)]
+mod rewinds_made;
+#[cfg(test)]
 mod rewound_logs;
 #[cfg(test)]
 mod words;
