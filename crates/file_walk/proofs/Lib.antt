@@ -12,11 +12,10 @@ pub mod AscendLemmas
 pub mod ClosedLemmas
 pub mod WholeLemmas
 pub mod FolderStepLemmas
+pub mod NamedLemmas
 pub mod SoundLemmas
 pub mod ProgressLemmas
 pub mod StartLemmas
 pub mod ListedLemmas
-pub mod KindLemmas
 pub mod InOrderLemmas
-pub mod PairedLemmas
 pub mod MergeLemmas

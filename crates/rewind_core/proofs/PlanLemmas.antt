@@ -13,7 +13,7 @@ use Rattle.rewind_plan.specs.Checks.{first_difference}
 use Rattle.rewind_plan.specs.PlanOf.{IsPlanOf}
 use Rattle.rewind_plan.specs.Planned.{Between}
 use Rattle.rewind_plan.specs.Room.{first_lacking}
-use Rattle.rewind_plan.specs.Walks.{HasParts}
+use Rattle.file_walk.specs.Walk.{HasParts}
 use Rattle.rewind_survey.specs.Faults.{IsFree}
 use Rattle.rewind_survey.specs.declared.fault.RewindFault.{RewindFault}
 use Rattle.rewind_survey.specs.declared.fault.RewindFault.TheVariants as fault

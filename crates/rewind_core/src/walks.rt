@@ -6,7 +6,7 @@ ghost use Rattle.cluster_tree.specs.PathValue.{PathValue};
 ghost use Rattle.file_walk.specs.Listed.{AreInOrder};
 ghost use Rattle.file_walk.specs.Pairs.{pairs_of};
 ghost use Rattle.file_walk.specs.Walk.{walk_of};
-ghost use Rattle.rewind_plan.specs.Walks.{HasParts};
+ghost use Rattle.file_walk.specs.Walk.{HasParts};
 ghost use Rattle.rewind_survey.specs.Faults.{IsFree};
 ghost use Rattle.rewind_core.specs.Faults.{seen};
 

@@ -21,7 +21,7 @@ use Rattle.file_walk.specs.Walk.{entry_flaw, flaw_at, found_below, from_root, ki
 use Rattle.file_walk.proofs.AscendLemmas.{deeper, found, found_by, proper_below}
 use Rattle.file_walk.proofs.FoundLemmas.{back_below, told_below}
 use Rattle.rewind_plan.specs.Sides.{IsKind, IsWhole}
-use Rattle.rewind_plan.specs.Walks.{HasParts}
+use Rattle.file_walk.specs.Walk.{HasParts}
 use Rattle.rewind_plan.proofs.PlaceLemmas.{deep_in}
 use Rattle.rewind_plan.proofs.SideLemmas.{below-same}
 
