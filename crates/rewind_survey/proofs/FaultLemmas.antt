@@ -53,4 +53,20 @@ changed-by cluster.ReadFault p h = absurd (cc h)
 changed-by (cluster.Changed path) p h = cc h
 changed-by cluster.OutOfMemory p h = absurd (cc h)
 
-pub ruleset fault_steps = (refused-by, told-err, read-by, changed-by)
+-- and none of a changing call
+pub unwritten-by : (e : ClusterFault) → of_cluster e ≡ fault.WriteFault → ⊥
+unwritten-by (cluster.Unfinished path) h = cc h
+unwritten-by (cluster.ControlMissing root) h = cc h
+unwritten-by (cluster.Size root n) h = cc h
+unwritten-by (cluster.Crc root n k) h = cc h
+unwritten-by (cluster.Version root n) h = cc h
+unwritten-by (cluster.Catalog root n) h = cc h
+unwritten-by (cluster.Shape root field n) h = cc h
+unwritten-by (cluster.HistoryMissing root n) h = cc h
+unwritten-by (cluster.BadLine root n k) h = cc h
+unwritten-by (cluster.NotRising root n k) h = cc h
+unwritten-by cluster.ReadFault h = cc h
+unwritten-by (cluster.Changed path) h = cc h
+unwritten-by cluster.OutOfMemory h = cc h
+
+pub ruleset fault_steps = (refused-by, told-err, read-by, changed-by, unwritten-by)

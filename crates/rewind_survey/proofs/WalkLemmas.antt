@@ -44,4 +44,15 @@ unchanged-walk (walk.EndNotRecord end found) p h = cc h
 unchanged-walk walk.ReadFault p h = cc h
 unchanged-walk walk.OutOfMemory p h = cc h
 
-pub ruleset walk_steps = (unread-by, walked-err, read-walk, unchanged-walk)
+-- nor of a changing call
+pub unwritten-walk : (e : LogWalkFault) → of_walk e ≡ fault.WriteFault → ⊥
+unwritten-walk (walk.LogEnds at why) h = cc h
+unwritten-walk (walk.BadParts at n) h = cc h
+unwritten-walk (walk.Compressed at n) h = cc h
+unwritten-walk (walk.NoCommonCheckpoint at) h = cc h
+unwritten-walk (walk.UnknownSpecial at n k) h = cc h
+unwritten-walk (walk.EndNotRecord end found) h = cc h
+unwritten-walk walk.ReadFault h = cc h
+unwritten-walk walk.OutOfMemory h = cc h
+
+pub ruleset walk_steps = (unread-by, walked-err, read-walk, unchanged-walk, unwritten-walk)

@@ -51,6 +51,7 @@ fn survey_apart<F: Tree>(
     ensures read_fault { IsErrOf result RewindFault.ReadFault →
         Rose (F.failed_reads tree.old) (F.failed_reads tree.new) }
     ensures changed { IsTrue F.tells → (p : PathValue) → result ≢ Err (RewindFault.Changed p) }
+    ensures never_writes { result ≢ Err RewindFault.WriteFault }
 {
     let a = history_at(alloc, tree, target, t.timeline())?;
     let b = history_at(alloc, tree, source, s.timeline())?;
@@ -78,6 +79,7 @@ fn survey_pair<F: Tree>(
     ensures read_fault { IsErrOf result RewindFault.ReadFault →
         Rose (F.failed_reads tree.old) (F.failed_reads tree.new) }
     ensures changed { IsTrue F.tells → (p : PathValue) → result ≢ Err (RewindFault.Changed p) }
+    ensures never_writes { result ≢ Err RewindFault.WriteFault }
 {
     check_pair(alloc, target, source, t, s)?;
     if t.timeline() == s.timeline() {
@@ -111,6 +113,7 @@ pub fn survey<F: Tree>(
     ensures read_fault { IsErrOf result RewindFault.ReadFault →
         Rose (F.failed_reads tree.old) (F.failed_reads tree.new) }
     ensures changed { IsTrue F.tells → (p : PathValue) → result ≢ Err (RewindFault.Changed p) }
+    ensures never_writes { result ≢ Err RewindFault.WriteFault }
 {
     check_marks(alloc, tree, target)?;
     check_marks(alloc, tree, source)?;

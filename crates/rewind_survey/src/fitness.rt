@@ -23,6 +23,7 @@ pub(crate) fn check_pair(
         result }
     ensures read_fault { result ≢ Err RewindFault.ReadFault }
     ensures changed { (p : PathValue) → result ≢ Err (RewindFault.Changed p) }
+    ensures never_writes { result ≢ Err RewindFault.WriteFault }
 {
     check_sizes(alloc, source, t, s)?;
     check_systems(t, s)?;
@@ -37,6 +38,7 @@ fn check_sizes(alloc: Global, source: &Path, t: &Control, s: &Control) -> Result
     ensures answer { Passes IsFree (other_sizes source.now t.now s.now) result }
     ensures read_fault { result ≢ Err RewindFault.ReadFault }
     ensures changed { (p : PathValue) → result ≢ Err (RewindFault.Changed p) }
+    ensures never_writes { result ≢ Err RewindFault.WriteFault }
 {
     if s.relseg != t.relseg {
         return Err(RewindFault::Shape(source.copy(alloc)?, Field::Relseg, s.relseg as u64));
@@ -53,6 +55,7 @@ fn check_systems(t: &Control, s: &Control) -> Result<(), RewindFault>
     ensures answer { Passes IsFree (systems_differ t.now s.now) result }
     ensures read_fault { result ≢ Err RewindFault.ReadFault }
     ensures changed { (p : PathValue) → result ≢ Err (RewindFault.Changed p) }
+    ensures never_writes { result ≢ Err RewindFault.WriteFault }
 {
     if t.sysid != s.sysid {
         return Err(RewindFault::SystemsDiffer(t.sysid, s.sysid));
@@ -66,6 +69,7 @@ fn check_hints(alloc: Global, root: &Path, t: &Control) -> Result<(), RewindFaul
     ensures answer { Passes IsFree (no_hints root.now t.now) result }
     ensures read_fault { result ≢ Err RewindFault.ReadFault }
     ensures changed { (p : PathValue) → result ≢ Err (RewindFault.Changed p) }
+    ensures never_writes { result ≢ Err RewindFault.WriteFault }
 {
     if t.walLogHints == 0 && t.checksumVersion != 1 {
         return Err(RewindFault::NoHints(root.copy(alloc)?));
@@ -79,6 +83,7 @@ fn check_clean(alloc: Global, root: &Path, c: &Control) -> Result<(), RewindFaul
     ensures answer { Passes IsFree (not_clean root.now c.now) result }
     ensures read_fault { result ≢ Err RewindFault.ReadFault }
     ensures changed { (p : PathValue) → result ≢ Err (RewindFault.Changed p) }
+    ensures never_writes { result ≢ Err RewindFault.WriteFault }
 {
     if c.state != 1 {
         return Err(RewindFault::NotClean(root.copy(alloc)?, c.state));

@@ -36,6 +36,7 @@ fn read_from<F: Tree>(
     ensures read_fault { IsErrOf result RewindFault.ReadFault →
         Rose (F.failed_reads tree.old) (F.failed_reads tree.new) }
     ensures changed { (p : PathValue) → result ≢ Err (RewindFault.Changed p) }
+    ensures never_writes { result ≢ Err RewindFault.WriteFault }
 {
     let redo = Lsn(found.checkpoint.redo);
     let touched = touch_log(alloc, cursor, tree, redo, end)?;
@@ -68,6 +69,7 @@ fn walk_back<F: Tree>(
     ensures read_fault { IsErrOf result RewindFault.ReadFault →
         Rose (F.failed_reads tree.old) (F.failed_reads tree.new) }
     ensures changed { (p : PathValue) → result ≢ Err (RewindFault.Changed p) }
+    ensures never_writes { result ≢ Err RewindFault.WriteFault }
 {
     let found = common_checkpoint(cursor, tree, size, fork.at)?;
     read_from(alloc, cursor, tree, fork, end, found)
@@ -91,6 +93,7 @@ pub(crate) fn survey_parted<F: Tree>(
     ensures read_fault { IsErrOf result RewindFault.ReadFault →
         Rose (F.failed_reads tree.old) (F.failed_reads tree.new) }
     ensures changed { (p : PathValue) → result ≢ Err (RewindFault.Changed p) }
+    ensures never_writes { result ≢ Err RewindFault.WriteFault }
 {
     let end = end_of_target(cursor, tree, target)?;
     if end.0 <= fork.at.0 {

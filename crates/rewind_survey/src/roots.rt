@@ -57,6 +57,7 @@ pub(crate) fn check_marks<F: Tree>(
     ensures read_fault { IsErrOf result RewindFault.ReadFault →
         Rose (F.failed_reads tree.old) (F.failed_reads tree.new) }
     ensures changed { IsTrue F.tells → (p : PathValue) → result ≢ Err (RewindFault.Changed p) }
+    ensures never_writes { result ≢ Err RewindFault.WriteFault }
 {
     match clusters::check_marks(alloc, tree, root) {
         Ok(()) => Ok(()),
@@ -79,6 +80,7 @@ pub(crate) fn control_at<F: Tree>(
     ensures read_fault { IsErrOf result RewindFault.ReadFault →
         Rose (F.failed_reads tree.old) (F.failed_reads tree.new) }
     ensures changed { IsTrue F.tells → (p : PathValue) → result ≢ Err (RewindFault.Changed p) }
+    ensures never_writes { result ≢ Err RewindFault.WriteFault }
 {
     match clusters::control_at(alloc, tree, root) {
         Ok(control) => Ok(control),
@@ -102,6 +104,7 @@ pub(crate) fn history_at<F: Tree>(
     ensures read_fault { IsErrOf result RewindFault.ReadFault →
         Rose (F.failed_reads tree.old) (F.failed_reads tree.new) }
     ensures changed { IsTrue F.tells → (p : PathValue) → result ≢ Err (RewindFault.Changed p) }
+    ensures never_writes { result ≢ Err RewindFault.WriteFault }
 {
     match clusters::history_at(alloc, tree, root, tli) {
         Ok(history) => Ok(history),

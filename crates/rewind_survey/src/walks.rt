@@ -57,6 +57,7 @@ pub(crate) fn end_of_target<F: Tree>(
     ensures read_fault { IsErrOf result RewindFault.ReadFault →
         Rose (F.failed_reads tree.old) (F.failed_reads tree.new) }
     ensures changed { (p : PathValue) → result ≢ Err (RewindFault.Changed p) }
+    ensures never_writes { result ≢ Err RewindFault.WriteFault }
 {
     match log_walk::end_of_target(cursor, tree, target) {
         Ok(end) => Ok(end),
@@ -82,6 +83,7 @@ pub(crate) fn common_checkpoint<F: Tree>(
     ensures read_fault { IsErrOf result RewindFault.ReadFault →
         Rose (F.failed_reads tree.old) (F.failed_reads tree.new) }
     ensures changed { (p : PathValue) → result ≢ Err (RewindFault.Changed p) }
+    ensures never_writes { result ≢ Err RewindFault.WriteFault }
 {
     match log_walk::common_checkpoint(cursor, tree, size, fork) {
         Ok(found) => Ok(found),
@@ -108,6 +110,7 @@ pub(crate) fn touch_log<F: Tree>(
     ensures read_fault { IsErrOf result RewindFault.ReadFault →
         Rose (F.failed_reads tree.old) (F.failed_reads tree.new) }
     ensures changed { (p : PathValue) → result ≢ Err (RewindFault.Changed p) }
+    ensures never_writes { result ≢ Err RewindFault.WriteFault }
 {
     match log_walk::touch_log(alloc, cursor, tree, redo, end) {
         Ok(touched) => Ok(touched),
