@@ -2,7 +2,7 @@
 // script of its own (tests/pg_control.py).
 use cluster_tree::{FailPlan, FailingTree, MemoryTree, Path, Tree};
 use clusters::{Found, read_whole};
-use rewind_core::{Planned, plan};
+use rewind_survey::{Surveyed, survey};
 use std::alloc::Global;
 use std::process::Abort;
 use std::test::Fail;
@@ -104,15 +104,15 @@ fn said<F: Tree>(alloc: Global, tree: &mut F, rt: &impl Abort) -> Result<String,
     let source_holds = source.holds(&target);
     assert!(rt; !target_holds);
     assert!(rt; !source_holds);
-    Ok(match plan(alloc, tree, &target, &source) {
-        Ok(Planned::SameTimeline) => format!(in alloc; "nothing on one timeline")?,
-        Ok(Planned::EndsAtFork(fork)) => format!(in alloc; "nothing past {fork:?}")?,
-        Ok(Planned::Needed(plan)) => format!(in alloc; "{:?}", plan.told())?,
+    Ok(match survey(alloc, tree, &target, &source) {
+        Ok(Surveyed::SameTimeline) => format!(in alloc; "nothing on one timeline")?,
+        Ok(Surveyed::EndsAtFork(fork)) => format!(in alloc; "nothing past {fork:?}")?,
+        Ok(Surveyed::Parted(found)) => format!(in alloc; "{:?}", found.told)?,
         Err(fault) => format!(in alloc; "{fault}")?,
     })
 }
 
-// Plans a rewind, which has to say this and to leave the tree as it is.
+// Surveys both, which has to say this and to leave the tree as it is.
 fn check(
     alloc: Global,
     tree: &mut MemoryTree,

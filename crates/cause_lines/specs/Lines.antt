@@ -48,9 +48,9 @@ fixed_line name f = line_with name (fixed_name f ∷ [])
 abbrev pub path_pieces : List ℕ → PathValue → List (List ℕ)
 path_pieces what path = what ∷ codes " " ∷ path_text path ∷ []
 
--- a cause with a root and a number
+-- a cause with a path and a number
 abbrev pub number_pieces : List ℕ → PathValue → ℕ → List (List ℕ)
-number_pieces what root n = what ∷ codes " " ∷ path_text root ∷ codes " " ∷ decimal n ∷ []
+number_pieces what path n = what ∷ codes " " ∷ path_text path ∷ codes " " ∷ decimal n ∷ []
 
 -- a root and two checksums, as %08X
 abbrev pub crc_pieces : PathValue → ℕ → ℕ → List (List ℕ)
@@ -137,6 +137,7 @@ line_of name (cause.Rewind (rewind.EndNotRecord end found)) = line_with name (en
 line_of name (cause.Rewind (rewind.NoCommonCheckpoint at)) = line_with name (place_pieces (codes "NoCommonCheckpoint") at)
 line_of name (cause.Rewind (rewind.UnknownSpecial at manager info)) = line_with name (special_pieces at manager info)
 line_of name (cause.Rewind (rewind.KindsDiffer path)) = line_with name (path_pieces (codes "KindsDiffer") path)
+line_of name (cause.Rewind (rewind.OddSize path n)) = line_with name (number_pieces (codes "OddSize") path n)
 line_of name (cause.Log (logs.LogEnds at why)) = line_with name (end_pieces at why)
 line_of name (cause.Log (logs.BadParts at offset)) = line_with name (record_pieces (codes "BadParts") at offset)
 line_of name (cause.Log (logs.Compressed at id)) = line_with name (record_pieces (codes "Compressed") at id)

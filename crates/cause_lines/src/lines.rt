@@ -27,19 +27,19 @@ pub(crate) fn path_line(
     format!(in alloc; "{name}: error: {what} {path}\n")
 }
 
-// The line of a cause with a root and a number.
+// The line of a cause with a path and a number.
 pub(crate) fn number_line(
     alloc: Global,
     name: Option<CommandName>,
     what: &str,
-    root: &Path,
+    path: &Path,
     number: u64,
 ) -> Result<String, AllocError>
     ensures { IfOk result (λ line. string_bytes line ≡ line_with name
-        (number_pieces what.now root.now number)) }
+        (number_pieces what.now path.now number)) }
 {
     let name = name_text(name);
-    format!(in alloc; "{name}: error: {what} {root} {number}\n")
+    format!(in alloc; "{name}: error: {what} {path} {number}\n")
 }
 
 // The line of a field that is out of shape.

@@ -74,6 +74,7 @@ pub(crate) fn unfit_line(
             special_line(alloc, name, *at, *manager, *info)
         }
         RewindCause::KindsDiffer(path) => path_line(alloc, name, "KindsDiffer", path),
+        RewindCause::OddSize(path, bytes) => number_line(alloc, name, "OddSize", path, *bytes),
     }
 }
 

@@ -1,11 +1,12 @@
 -- The faults of a rewind as causes of a run. Own: "The line of a cause".
-use Rattle.rewind_core.specs.declared.fault.RewindFault.{RewindFault}
-use Rattle.rewind_core.specs.declared.fault.RewindFault.TheVariants as fault
+use Rattle.rewind_survey.specs.declared.fault.RewindFault.{RewindFault}
+use Rattle.rewind_survey.specs.declared.fault.RewindFault.TheVariants as fault
 use Rattle.run_acts.specs.declared.cause.Cause.{Cause}
 use Rattle.run_acts.specs.declared.cause.Cause.TheVariants as cause
 use Rattle.run_acts.specs.declared.cause.ControlCause.TheVariants as control
 use Rattle.run_acts.specs.declared.cause.HistoryCause.TheVariants as history
 use Rattle.run_acts.specs.declared.cause.LogCause.TheVariants as logs
+use Rattle.run_acts.specs.declared.cause.PathCause.TheVariants as paths
 use Rattle.run_acts.specs.declared.cause.RewindCause.TheVariants as rewind
 
 -- the cause of a fault of a rewind
@@ -30,6 +31,13 @@ rewind_cause (fault.Compressed at id) = cause.Log (logs.Compressed at id)
 rewind_cause (fault.NoCommonCheckpoint at) = cause.Rewind (rewind.NoCommonCheckpoint at)
 rewind_cause (fault.UnknownSpecial at manager info) = cause.Rewind (rewind.UnknownSpecial at manager info)
 rewind_cause (fault.EndNotRecord end found) = cause.Rewind (rewind.EndNotRecord end found)
+rewind_cause (fault.Link path) = cause.Paths (paths.Link path)
+rewind_cause (fault.NotFolder root) = cause.Paths (paths.NotFolder root)
+rewind_cause (fault.NameNotText path) = cause.Paths (paths.NameNotText path)
+rewind_cause (fault.TooDeep path) = cause.Paths (paths.TooDeep path)
+rewind_cause (fault.OddSize path n) = cause.Rewind (rewind.OddSize path n)
+rewind_cause (fault.KindsDiffer path) = cause.Rewind (rewind.KindsDiffer path)
 rewind_cause fault.ReadFault = cause.ReadFault
+rewind_cause fault.WriteFault = cause.WriteFault
 rewind_cause (fault.Changed path) = cause.Changed path
 rewind_cause fault.OutOfMemory = cause.OutOfMemory

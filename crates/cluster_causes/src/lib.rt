@@ -2,7 +2,9 @@
 #![tactic(auto)]
 
 mod of_cluster;
+mod performed;
 mod rewind;
 
 pub use of_cluster::cluster_cause;
+pub use performed::perform_cause;
 pub use rewind::rewind_cause;

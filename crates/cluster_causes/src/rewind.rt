@@ -1,17 +1,24 @@
 // The faults of a rewind as causes.
-ghost use Rattle.std.specs.Prelude.{◌≡◌, ◌≢◌, IsTrue};
-ghost use Rattle.run_acts.specs.Causes.{IsOfLook, is_of_files};
+ghost use Rattle.std.specs.Prelude.{◌≡◌, ◌≢◌, ◌⊎◌, IsTrue};
+ghost use Rattle.cluster_tree.specs.PathValue.{PathValue};
+ghost use Rattle.run_acts.specs.Causes.{IsOfLook, is_deep, is_of_files};
 ghost use Rattle.cluster_causes.specs.Rewind.{rewind_cause};
 
-use rewind_core::RewindFault as Fault;
-use run_acts::{Cause, ControlCause, HistoryCause, LogCause, RewindCause};
+use rewind_survey::RewindFault as Fault;
+use run_acts::{Cause, ControlCause, HistoryCause, LogCause, PathCause, RewindCause};
 
-/// The cause that a fault of a rewind has.
+/// The cause that a fault of a rewind has. It comes while the command looks, and is one of files, but
+/// where a path below a root has too many parts, and where a change failed.
 pub fn rewind_cause(fault: Fault) -> Cause
     ensures value { result ≡ rewind_cause fault }
-    ensures look { IsOfLook result }
-    ensures files { IsTrue (is_of_files result) }
+    ensures look { IsOfLook result ⊎ (fault ≡ Fault.WriteFault) }
+    ensures files { IsTrue (is_of_files result) ⊎ IsTrue (is_deep result) ⊎
+        (fault ≡ Fault.WriteFault) }
     ensures built { result ≢ Cause.NotBuilt }
+    ensures read { result ≡ Cause.ReadFault → fault ≡ Fault.ReadFault }
+    ensures write { result ≡ Cause.WriteFault → fault ≡ Fault.WriteFault }
+    ensures sink { result ≢ Cause.SinkFault }
+    ensures changed { (p : PathValue) → result ≡ Cause.Changed p → fault ≡ Fault.Changed p }
 {
     match fault {
         Fault::Unfinished(path) => Cause::Unfinished(path),
@@ -36,7 +43,14 @@ pub fn rewind_cause(fault: Fault) -> Cause
             Cause::Rewind(RewindCause::UnknownSpecial(at, n, info))
         }
         Fault::EndNotRecord(end, found) => Cause::Rewind(RewindCause::EndNotRecord(end, found)),
+        Fault::Link(path) => Cause::Paths(PathCause::Link(path)),
+        Fault::NotFolder(root) => Cause::Paths(PathCause::NotFolder(root)),
+        Fault::NameNotText(path) => Cause::Paths(PathCause::NameNotText(path)),
+        Fault::TooDeep(path) => Cause::Paths(PathCause::TooDeep(path)),
+        Fault::OddSize(path, bytes) => Cause::Rewind(RewindCause::OddSize(path, bytes)),
+        Fault::KindsDiffer(path) => Cause::Rewind(RewindCause::KindsDiffer(path)),
         Fault::ReadFault => Cause::ReadFault,
+        Fault::WriteFault => Cause::WriteFault,
         Fault::Changed(path) => Cause::Changed(path),
         Fault::OutOfMemory => Cause::OutOfMemory,
     }

@@ -22,10 +22,10 @@ use Rattle.run_acts.specs.Unseen.{CarriesUnseen}
 use Rattle.run_acts.specs.declared.cause.Cause.{Cause}
 use Rattle.run_acts.specs.declared.cause.Cause.TheVariants as cause
 use Rattle.run_acts.proofs.AnswerSteps.{carries_look, carries_refused, last_exact, last_print}
+use Rattle.run_acts.proofs.MadeSteps.{made_all, made_in_part}
 use Rattle.run_acts.proofs.UnseenSteps.{still, unseen_still}
 use Rattle.cmd_resetwal.specs.Resetwal.{IsResetwal, done_line, reset_acts, reset_cause, resetwal_answer, told_answer}
 use Rattle.cmd_resetwal.proofs.FormLemmas.{answer-form, answer-looks}
-use Rattle.cmd_resetwal.proofs.MadeLemmas.{made_all, made_in_part}
 
 -- ---- what the faults of a reset say
 

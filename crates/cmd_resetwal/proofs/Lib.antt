@@ -1,4 +1,3 @@
 pub mod MeantLemmas
 pub mod FormLemmas
-pub mod MadeLemmas
 pub mod CarryLemmas

@@ -1,1 +1,2 @@
+pub mod MeantLemmas
 pub mod FormLemmas

@@ -5,11 +5,11 @@ use Rattle.std.specs.List.{concat}
 use Rattle.cluster_tree.specs.Contents.{Contents}
 use Rattle.wal_base.specs.Lsn.{lsn_text}
 use Rattle.timeline_history.specs.declared.ancestor.Divergence.{Divergence}
-use Rattle.rewind_core.specs.Survey.{AtFork, OneTimeline, Parted, Survey, survey_of}
-use Rattle.rewind_core.specs.declared.fault.RewindFault.{RewindFault}
-use Rattle.rewind_core.specs.declared.outcome.Planned.{Planned}
-use Rattle.rewind_core.specs.declared.outcome.Planned.TheVariants as planned
-use Rattle.rewind_core.specs.declared.outcome.Told.{Told}
+use Rattle.rewind_survey.specs.Survey.{AtFork, OneTimeline, Parted, Survey, survey_of}
+use Rattle.rewind_survey.specs.declared.fault.RewindFault.{RewindFault}
+use Rattle.rewind_survey.specs.declared.outcome.Surveyed.{Surveyed}
+use Rattle.rewind_survey.specs.declared.outcome.Surveyed.TheVariants as surveyed
+use Rattle.rewind_survey.specs.declared.outcome.Told.{Told}
 use Rattle.commands.specs.declared.rewind.RewindWords.{RewindWords}
 use Rattle.acts.specs.Acts.{Act, Report}
 use Rattle.run_acts.specs.Answers.{Answer, refused, does}
@@ -68,11 +68,11 @@ found_answer dry_run (Err fault) = refused (rewind_cause fault)
 abbrev pub rewind_answer : Contents → RewindWords → Answer
 rewind_answer c words = found_answer words.dry_run (survey_of c words.target words.source)
 
--- the same of what was planned
-abbrev pub planned_answer : Bool → Planned → Answer
-planned_answer dry_run planned.SameTimeline = does same_report
-planned_answer dry_run (planned.EndsAtFork fork) = does (fork_report fork)
-planned_answer dry_run (planned.Needed plan) = needed_answer dry_run plan.told
+-- the same of what was surveyed
+abbrev pub surveyed_answer : Bool → Surveyed → Answer
+surveyed_answer dry_run surveyed.SameTimeline = does same_report
+surveyed_answer dry_run (surveyed.EndsAtFork fork) = does (fork_report fork)
+surveyed_answer dry_run (surveyed.Parted found) = needed_answer dry_run found.told
 
 -- over every tree: a report, of a rewind only in a dry run, or a refusal
 abbrev pub IsRewind : RewindWords → Answer → Type 0

@@ -1,9 +1,9 @@
 // The lines of a report that are made in memory, before the first is put.
 ghost use Rattle.std.specs.Prelude.{◌≡◌, ◌≢◌, ◌⊎◌, true, IfErr, IfOk, Err, MatchResult, string_bytes};
 ghost use Rattle.run_acts.specs.Answers.{does, refused};
-ghost use Rattle.cmd_rewind.specs.Rewind.{diverged, needed_answer, planned_answer, reported, rewind_report, rewinding};
+ghost use Rattle.cmd_rewind.specs.Rewind.{diverged, needed_answer, reported, rewind_report, rewinding, surveyed_answer};
 
-use rewind_core::{Divergence, Planned, Told};
+use rewind_survey::{Divergence, Surveyed, Told};
 use run_acts::Cause;
 use std::alloc::{AllocError, Global};
 
@@ -50,20 +50,20 @@ fn rewind_lines(alloc: Global, told: Told) -> Result<Lines, AllocError>
 }
 
 /// The lines for what a target needs. A rewind is told of in a dry run alone: else it isn't built.
-pub(crate) fn lines_of(alloc: Global, planned: &Planned, dry_run: bool) -> Result<Lines, Cause>
+pub(crate) fn lines_of(alloc: Global, surveyed: &Surveyed, dry_run: bool) -> Result<Lines, Cause>
     ensures exact { MatchResult result
-        (λ lines. does (reported lines) ≡ planned_answer dry_run planned.now)
-        (λ e. (e ≡ Cause.OutOfMemory) ⊎ (planned_answer dry_run planned.now ≡ refused e)) }
+        (λ lines. does (reported lines) ≡ surveyed_answer dry_run surveyed.now)
+        (λ e. (e ≡ Cause.OutOfMemory) ⊎ (surveyed_answer dry_run surveyed.now ≡ refused e)) }
     ensures only { IfErr result (λ e. (e ≡ Cause.OutOfMemory) ⊎ (e ≡ Cause.NotBuilt)) }
     ensures built { dry_run ≡ true → result ≢ Err Cause.NotBuilt }
 {
-    match planned {
-        Planned::SameTimeline => Ok(Lines::Same),
-        Planned::EndsAtFork(fork) => match diverged(alloc, *fork) {
+    match surveyed {
+        Surveyed::SameTimeline => Ok(Lines::Same),
+        Surveyed::EndsAtFork(fork) => match diverged(alloc, *fork) {
             Ok(first) => Ok(Lines::AtFork(first)),
             Err(_) => Err(Cause::OutOfMemory),
         },
-        Planned::Needed(plan) => needed_lines(alloc, plan.told(), dry_run),
+        Surveyed::Parted(found) => needed_lines(alloc, found.told, dry_run),
     }
 }
 

@@ -5,9 +5,9 @@ ghost use Rattle.cluster_tree.specs.Frame.{Reads};
 ghost use Rattle.cluster_tree.specs.PathValue.{PathValue};
 ghost use Rattle.commands.specs.Fit.{AreFitRoots};
 ghost use Rattle.acts.specs.Acts.{Sunk, seen, sunk};
-ghost use Rattle.rewind_core.specs.Survey.{FitsFound, survey_of};
+ghost use Rattle.rewind_survey.specs.Survey.{FitsFound, survey_of};
 ghost use Rattle.run_acts.specs.Answers.{Blames, Carries, does, refused};
-ghost use Rattle.run_acts.specs.Causes.{IsFree, IsOfLook, cause_of, is_of_files};
+ghost use Rattle.run_acts.specs.Causes.{IsFree, IsOfLook, cause_of, is_deep, is_of_files};
 ghost use Rattle.cmd_rewind.specs.Rewind.{IsRewind, reported, rewind_answer};
 
 use crate::lines::{Lines, lines_of};
@@ -15,26 +15,26 @@ use crate::reports::report;
 use cluster_causes::rewind_cause;
 use cluster_tree::{Sink, Tree};
 use commands::RewindWords;
-use rewind_core::{Planned, plan};
+use rewind_survey::{Surveyed, survey};
 use run_acts::Cause;
 use std::alloc::Global;
 
 // What the target needs.
-fn look<F: Tree>(alloc: Global, tree: &mut F, words: &RewindWords) -> Result<Planned, Cause>
+fn look<F: Tree>(alloc: Global, tree: &mut F, words: &RewindWords) -> Result<Surveyed, Cause>
     requires { AreFitRoots words.now.target words.now.source }
     ensures exact { IsTrue F.tells → MatchResult result
         (FitsFound (survey_of (F.contents tree.old) words.now.target words.now.source))
         (λ e. IsFree e ⊎ (rewind_answer (F.contents tree.old) words.now ≡ refused e)) }
     ensures look { IfErr result IsOfLook }
-    ensures only { IfErr result (λ e. IsTrue (is_of_files e)) }
+    ensures only { IfErr result (λ e. IsTrue (is_of_files e) ⊎ IsTrue (is_deep e)) }
     ensures built { result ≢ Err Cause.NotBuilt }
     ensures reads { Reads F.Tree tree.old tree.new }
     ensures read_fault { IsErrOf result Cause.ReadFault →
         Rose (F.failed_reads tree.old) (F.failed_reads tree.new) }
     ensures changed { IsTrue F.tells → (p : PathValue) → result ≢ Err (Cause.Changed p) }
 {
-    match plan(alloc, tree, &words.target, &words.source) {
-        Ok(planned) => Ok(planned),
+    match survey(alloc, tree, &words.target, &words.source) {
+        Ok(surveyed) => Ok(surveyed),
         Err(fault) => Err(rewind_cause(fault)),
     }
 }
@@ -47,15 +47,15 @@ fn check<F: Tree>(alloc: Global, tree: &mut F, words: &RewindWords) -> Result<Li
         (λ e. IsFree e ⊎ (rewind_answer (F.contents tree.old) words.now ≡ refused e)) }
     ensures form { IfOk result (λ lines. IsRewind words.now (does (reported lines))) }
     ensures look { IfErr result IsOfLook }
-    ensures only { IfErr result (λ e. IsTrue (is_of_files e)) }
+    ensures only { IfErr result (λ e. IsTrue (is_of_files e) ⊎ IsTrue (is_deep e)) }
     ensures built { IsTrue words.now.dry_run → result ≢ Err Cause.NotBuilt }
     ensures reads { Reads F.Tree tree.old tree.new }
     ensures read_fault { IsErrOf result Cause.ReadFault →
         Rose (F.failed_reads tree.old) (F.failed_reads tree.new) }
     ensures changed { IsTrue F.tells → (p : PathValue) → result ≢ Err (Cause.Changed p) }
 {
-    let planned = look(alloc, tree, words)?;
-    lines_of(alloc, &planned, words.dry_run)
+    let surveyed = look(alloc, tree, words)?;
+    lines_of(alloc, &surveyed, words.dry_run)
 }
 
 /// Looks what the target needs to follow the source's log, and reports it on `err`. It changes
@@ -84,7 +84,7 @@ pub fn rewind<F: Tree, E: Sink>(
         (F.failed_reads tree.old) (F.failed_reads tree.new)
         (F.failed_changes tree.old) (F.failed_changes tree.new) n n
         (E.failed_writes err.old) (E.failed_writes err.new) }
-    ensures only { IfErr result (λ e. IsTrue (is_of_files e)) }
+    ensures only { IfErr result (λ e. IsTrue (is_of_files e) ⊎ IsTrue (is_deep e)) }
     ensures built { IsTrue words.now.dry_run → result ≢ Err Cause.NotBuilt }
     ensures changed { IsTrue F.tells → (p : PathValue) → result ≢ Err (Cause.Changed p) }
     ensures reads { Reads F.Tree tree.old tree.new }

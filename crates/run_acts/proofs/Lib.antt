@@ -2,4 +2,5 @@ pub mod BlameSteps
 pub mod AnswerSteps
 pub mod GrowSteps
 pub mod UnseenSteps
+pub mod MadeSteps
 pub mod LawLemmas

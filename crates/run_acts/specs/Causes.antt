@@ -58,6 +58,11 @@ is_of_files (cause.History h) = true
 is_of_files (cause.Rewind c) = true
 is_of_files (cause.Log c) = true
 
+-- a path has too many parts: a root's own, or one that a walk finds below it
+abbrev pub is_deep : Cause → Bool
+is_deep (cause.Paths (paths.TooDeep path)) = true
+is_deep _ = false
+
 -- the cause of an outcome
 abbrev pub cause_of : Result (Unit {0}) Cause → Cause
 cause_of (Ok u) = cause.Done

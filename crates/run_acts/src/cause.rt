@@ -43,15 +43,17 @@ pub enum PathCause {
     /// A root or the folder of a log has a part `..`.
     DotDot,
     /// A root has more than 61 parts, or the folder of a log more than 62; of one with more than 64
-    /// parts the first 64.
+    /// parts the first 64. Or a path that a rewind finds below a root has more than 64 with those of
+    /// its root or of the target; of it the first 64 behind the root's.
     TooDeep(Path),
     /// One of two roots is the other or lies in it.
     PathsOverlap,
     /// What has to be a folder isn't there, or is a file.
     NotFolder(Path),
-    /// What has to be a folder, or a file that is to be removed, is a link or a special file.
+    /// What has to be a folder, or a file that is to be removed, is a link or a special file; or one
+    /// stands below a root of a rewind, at this path below it.
     Link(Path),
-    /// A folder holds a name that isn't text.
+    /// A folder holds a name that isn't text. In a rewind it is the folder's path below its root.
     NameNotText(Path),
 }
 
@@ -101,8 +103,11 @@ pub enum RewindCause {
     /// A record that changes relations in a way that isn't known: its start, its resource manager
     /// and its info byte.
     UnknownSpecial(Lsn, u8, u8),
-    /// A folder stands in the place of a file.
+    /// A folder stands in the place of a file. In a rewind a file stands at this path below one root
+    /// and a folder below the other.
     KindsDiffer(Path),
+    /// A file of a main fork at this path below a root, and its bytes, which make no whole blocks.
+    OddSize(Path, u64),
 }
 
 /// What is wrong with a log.

@@ -13,7 +13,7 @@ use Rattle.cmd_controldata.specs.Controldata.{IsControldata, controldata_answer}
 use Rattle.cmd_rewind.specs.Rewind.{IsRewind, rewind_answer}
 use Rattle.cmd_waldump.specs.Waldump.{AskForList, IsWaldump, waldump_answer}
 use Rattle.clusters.specs.RootControl.{control_at}
-use Rattle.rewind_core.specs.Survey.{survey_of}
+use Rattle.rewind_survey.specs.Survey.{survey_of}
 use Rattle.acts.specs.Acts.{Seen, Sunk, seen}
 use Rattle.run_acts.specs.Answers.{Carries, cause_in}
 use Rattle.run_acts.specs.Causes.{IsFree, has_values}
@@ -30,13 +30,14 @@ use Rattle.commands.specs.declared.resetwal.ResetwalWords.{ResetwalWords}
 use Rattle.commands.specs.declared.archivecleanup.ArchivecleanupWords.{ArchivecleanupWords}
 use Rattle.cmd_controldata.proofs.FormLemmas.{answer-form as control-form, answer-looks as control-looks}
 use Rattle.cmd_rewind.proofs.FormLemmas.{answer-form as rewind-form, answer-looks as rewind-looks}
+use Rattle.cmd_rewind.proofs.MeantLemmas.{meant as rewind-meant}
 use Rattle.cmd_waldump.proofs.FormLemmas.{answer-form as waldump-form, answer-looks as waldump-looks}
 use Rattle.wal_tools.specs.Answers.{IsAnswer, answered}
 use Rattle.wal_tools.specs.Words.{IsSeen, MayChange, NeedsNoTree, refused_by_words, words_cause}
 
 -- what is done has the command's form, and begins with a look
 pub answered-form : (c : Contents) (now : ℤ) (asked : Result Command CommandFault) → IsAnswer now asked (answered c now asked)
-answered-form c now (Ok (command.Rewind words)) = rewind-form words (survey_of c words.target words.source)
+answered-form c now (Ok (command.Rewind words)) = rewind-form words (survey_of c words.target words.source) (rewind-meant c words.target words.source)
 answered-form c now (Ok (command.Controldata words)) = control-form (control_at c words.root)
 answered-form c now (Ok (command.Waldump words)) = waldump-form c words
 answered-form c now (Ok (command.Resetwal words)) = reset-form c words now

@@ -54,6 +54,15 @@ MayChange (Ok (command.Resetwal words)) = IsTrue (not (is_some words.options.dry
 MayChange (Ok (command.Archivecleanup words)) = IsTrue (not words.dry_run)
 MayChange (Err e) = ⊥
 
+-- a command that walks over folders, and may find a path below its roots that is too deep
+abbrev pub Walks : Result Command CommandFault → Type 0
+Walks (Ok (command.Rewind words)) = Unit {0}
+Walks (Ok (command.Controldata words)) = ⊥
+Walks (Ok (command.Waldump words)) = ⊥
+Walks (Ok (command.Resetwal words)) = ⊥
+Walks (Ok (command.Archivecleanup words)) = ⊥
+Walks (Err e) = ⊥
+
 -- what a run does to the tree is seen: the tree tells what it holds, or the command changes nothing
 abbrev pub IsSeen : (tells : Type 0) → Result Command CommandFault → Type 0
 IsSeen tells asked = tells ⊎ (MayChange asked → ⊥)

@@ -5,10 +5,10 @@ ghost use Rattle.cluster_tree.specs.PathValue.{PathValue};
 ghost use Rattle.commands.specs.Fit.{IsFit};
 ghost use Rattle.acts.specs.Acts.{seen, sunk};
 ghost use Rattle.run_acts.specs.Answers.{Blames};
-ghost use Rattle.run_acts.specs.Causes.{cause_of, is_of_files};
+ghost use Rattle.run_acts.specs.Causes.{cause_of, is_deep, is_of_files};
 ghost use Rattle.run_acts.specs.Unseen.{CarriesUnseen};
 ghost use Rattle.wal_tools.specs.Answers.{IsAnswer, answered};
-ghost use Rattle.wal_tools.specs.Words.{AreFaulty, IsSeen, MayChange, NeedsNoTree, refused_by_words};
+ghost use Rattle.wal_tools.specs.Words.{AreFaulty, IsSeen, MayChange, NeedsNoTree, Walks, refused_by_words};
 
 use cluster_tree::{Sink, Tree};
 use cmd_archivecleanup::archivecleanup;
@@ -47,7 +47,8 @@ pub(crate) fn carry_out<F: Tree, O: Sink, E: Sink>(
         (E.failed_writes err.old) (E.failed_writes err.new) }
     ensures only { IfErr result (λ e. IsTrue (is_of_files e) ⊎
         ((e ≡ Cause.Usage) × AreFaulty (Ok command.now)) ⊎
-        ((e ≡ Cause.WriteFault) × MayChange (Ok command.now))) }
+        ((e ≡ Cause.WriteFault) × MayChange (Ok command.now)) ⊎
+        (IsTrue (is_deep e) × Walks (Ok command.now))) }
     ensures unfit { (e : Cause) → refused_by_words (Ok command.now) ≡ Some e → result ≡ Err e }
     ensures apart { NeedsNoTree (Ok command.now) → tree.new ≡ tree.old }
     ensures changed { IsTrue F.tells → (p : PathValue) → result ≢ Err (Cause.Changed p) }

@@ -6,12 +6,12 @@ ghost use Rattle.commands.specs.Name.{name_of};
 ghost use Rattle.tool_words.specs.Command.{command_of};
 ghost use Rattle.acts.specs.Acts.{seen, sunk};
 ghost use Rattle.run_acts.specs.Answers.{Blames, cause_in};
-ghost use Rattle.run_acts.specs.Causes.{IsFree, cause_of, is_of_text, status_of};
+ghost use Rattle.run_acts.specs.Causes.{IsFree, cause_of, is_deep, is_of_text, status_of};
 ghost use Rattle.run_acts.specs.Unseen.{CarriesUnseen};
 ghost use Rattle.cause_lines.specs.Lines.{line_of};
 ghost use Rattle.wal_tools.specs.Answers.{IsAnswer, answered};
 ghost use Rattle.wal_tools.specs.Runs.{Runs};
-ghost use Rattle.wal_tools.specs.Words.{AreFaulty, IsSeen, MayChange, NeedsNoTree, refused_by_words};
+ghost use Rattle.wal_tools.specs.Words.{AreFaulty, IsSeen, MayChange, NeedsNoTree, Walks, refused_by_words};
 
 use crate::commanded::carry_out;
 use crate::ending::finish;
@@ -51,7 +51,8 @@ fn answer<F: Tree, O: Sink, E: Sink>(
     ensures unfit { (e : Cause) → refused_by_words (command_of (map string_bytes words.now))
         ≡ Some e → (result ≡ Err e) ⊎ (result ≡ Err Cause.OutOfMemory) }
     ensures texts { (p : PathCause) → IsTrue (is_of_text p) → result ≡ Err (Cause.Paths p) →
-        refused_by_words (command_of (map string_bytes words.now)) ≡ Some (Cause.Paths p) }
+        (refused_by_words (command_of (map string_bytes words.now)) ≡ Some (Cause.Paths p)) ⊎
+        (IsTrue (is_deep (Cause.Paths p)) × Walks (command_of (map string_bytes words.now))) }
     ensures apart { NeedsNoTree (command_of (map string_bytes words.now)) → tree.new ≡ tree.old }
     ensures changed { IsTrue F.tells → (p : PathValue) → result ≢ Err (Cause.Changed p) }
     ensures write_fault { result ≡ Err Cause.WriteFault →
@@ -123,8 +124,10 @@ pub fn run<F: Tree, O: Sink, E: Sink>(
     ensures nameless { name_of (map string_bytes words.now) ≡ None → result.cause ≡ Cause.Usage }
     ensures unfit { (e : Cause) → refused_by_words (command_of (map string_bytes words.now))
         ≡ Some e → (result.cause ≡ e) ⊎ (result.cause ≡ Cause.OutOfMemory) }
+    // and where a walk over folders finds a path that is too deep
     ensures texts { (p : PathCause) → IsTrue (is_of_text p) → result.cause ≡ Cause.Paths p →
-        refused_by_words (command_of (map string_bytes words.now)) ≡ Some (Cause.Paths p) }
+        (refused_by_words (command_of (map string_bytes words.now)) ≡ Some (Cause.Paths p)) ⊎
+        (IsTrue (is_deep (Cause.Paths p)) × Walks (command_of (map string_bytes words.now))) }
 
     // the list of resource managers, and words that refuse, need no tree; what only reads changes none
     ensures apart { NeedsNoTree (command_of (map string_bytes words.now)) → tree.new ≡ tree.old }
