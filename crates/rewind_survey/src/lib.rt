@@ -13,4 +13,5 @@ mod walks;
 pub use answer::survey;
 pub use fault::RewindFault;
 pub use outcome::{Parted, Surveyed, Told};
+pub use roots::control_at;
 pub use timeline_history::Divergence;

@@ -65,9 +65,12 @@ pub(crate) fn check_marks<F: Tree>(
     }
 }
 
-/// What the control file of a root says.
+/// What the control file of a root says. It changes nothing.
+///
+/// Answers `ControlMissing` where `global/pg_control` is not a file, then `Size`, `Crc`, `Version`,
+/// `Catalog` and `Shape`, with the root.
 #[tactic(auto, using(crate::proofs::FaultLemmas::fault_steps))]
-pub(crate) fn control_at<F: Tree>(
+pub fn control_at<F: Tree>(
     alloc: Global,
     tree: &mut F,
     root: &Path,
