@@ -28,9 +28,7 @@ put s/base/5/16384 8192 BB
 put s/base/5/16384 16384 B2
 file s/base/5/PG_VERSION 31360A
 folder s/pg_wal
-log s/pg_wal
-record $checkpoint
-end
+zeros s/pg_wal/000000010000000000000001 1048576
 file $promoted
 zeros s/pg_wal/000000020000000000000001 1048576
 put s/pg_wal/000000020000000000000001 1048575 5A
