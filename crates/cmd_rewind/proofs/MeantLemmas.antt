@@ -1,5 +1,5 @@
 -- Each refusal of what two clusters are comes while the command looks.
-use Rattle.std.proofs.Common.{◌≡◌, ℕ, Bool, true, false, List, [], ◌∷◌, inl, inr, refl, Option, None, Some, option_map, Result, Ok, Err}
+use Rattle.std.proofs.Common.{ℕ, Bool, true, false, List, [], ◌∷◌, inl, inr, refl, Option, None, Some, option_map, Result, Ok, Err}
 use Rattle.std.specs.Prelude.{if◌then◌else◌, ◌||◌, ◌==◌, not, nat_le}
 use Rattle.cluster_tree.specs.Causes.{first_of, given, unless}
 use Rattle.cluster_tree.specs.Contents.{Contents}
@@ -13,6 +13,7 @@ use Rattle.clusters.specs.declared.fault.ClusterFault.{ClusterFault}
 use Rattle.clusters.specs.declared.fault.ClusterFault.TheVariants as cluster
 use Rattle.control_file.specs.Reading.{timeline_of}
 use Rattle.control_file.specs.declared.control.Control.{Control}
+use Rattle.control_file.specs.declared.field.Field.TheVariants as field
 use Rattle.timeline_history.specs.Ancestor.{divergence_of}
 use Rattle.timeline_history.specs.declared.ancestor.Ancestor.{Ancestor}
 use Rattle.timeline_history.specs.declared.ancestor.Ancestor.TheVariants.{Common, NoCommonAncestor}
@@ -28,8 +29,9 @@ use Rattle.log_walk.specs.declared.fault.LogWalkFault.{LogWalkFault}
 use Rattle.log_walk.specs.declared.fault.LogWalkFault.TheVariants as walk
 use Rattle.rewind_survey.specs.Faults.{of_cluster, of_walk, told_by, walked}
 use Rattle.rewind_survey.specs.Fitness.{pair_points, other_sizes, systems_differ, no_hints, not_clean}
-use Rattle.rewind_survey.specs.Survey.{AtFork, OneTimeline, Survey, fork_in, from_controls, from_histories, in_log, parted, past_fork, read_from, survey_of, target_log, walked_back}
+use Rattle.rewind_survey.specs.Survey.{AtFork, OneTimeline, fork_in, from_controls, from_histories, in_log, parted, past_fork, read_from, survey_of, target_log, walked_back}
 use Rattle.rewind_survey.specs.declared.fault.RewindFault.{RewindFault}
+use Rattle.rewind_survey.specs.declared.fault.RewindFault.TheVariants as fault
 use Rattle.run_acts.specs.Causes.{IsOfLook}
 use Rattle.cluster_causes.specs.Rewind.{rewind_cause}
 
@@ -108,7 +110,7 @@ sizes-look : (source : PathValue) (t s : Control) → MayLook (other_sizes sourc
 unfolding other_sizes
 sizes-look source t s = by (s.relseg == t.relseg)
   where
-    by : (b : Bool) → MayLook (if b then (if s.walSegSize == t.walSegSize then None else Some _) else Some _)
+    by : (b : Bool) → MayLook (if b then (if s.walSegSize == t.walSegSize then None else Some (fault.Shape source field.WalSegSize s.walSegSize)) else Some (fault.Shape source field.Relseg s.relseg))
     by true = may-if (s.walSegSize == t.walSegSize) _ (inr (inr refl))
     by false = inr (inr refl)
 
