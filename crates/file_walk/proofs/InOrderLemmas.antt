@@ -1,18 +1,19 @@
 -- What a walk told is in order.
-use Rattle.std.proofs.Common.{◌≡◌, ℕ, Bool, true, false, not, ◌&&◌, inl, inr, List, [], ◌∷◌, ◌++◌, map, Option, None, Some, Result, Ok, option_map, refl, ap, sym, subst, ◌∙◌, true≢false}
+use Rattle.std.proofs.Common.{◌≡◌, ℕ, Bool, true, false, not, ◌&&◌, inl, inr, List, [], ◌∷◌, ◌++◌, length, map, Option, None, Some, Result, Ok, Err, option_map, refl, ap, sym, subst, ◌∙◌, true≢false}
 use Rattle.std.proofs.lemmas.List.Folds.{list_all-append}
 use Rattle.std.specs.declared.cmp.Ordering.TheVariants.{Less}
 use Rattle.std.specs.List.{AllByRecursion, cons_option, filter_map, list_all}
 use Rattle.std.specs.List.Sorted.{IsStrictlySortedBy}
-use Rattle.cluster_tree.specs.Contents.{Contents, Entry}
+use Rattle.cluster_tree.specs.Causes.{first_of, unless}
+use Rattle.cluster_tree.specs.Contents.{Contents, Entry, entry_at}
 use Rattle.cluster_tree.specs.PathValue.{PathValue, is_part, path_text}
 use Rattle.file_walk.specs.declared.entry.Entry.{Entry as Walked}
 use Rattle.file_walk.specs.declared.entry.EntryKind.{EntryKind}
+use Rattle.file_walk.specs.declared.fault.WalkFault.{WalkFault}
 use Rattle.file_walk.specs.Listed.{AreInOrder, is_relative, texts_of}
-use Rattle.file_walk.specs.Walk.{found_below, kind_of_entry, walk_of, walked}
+use Rattle.file_walk.specs.Walk.{flaw_at, found_below, kind_of_entry, root_flaw, walk_of, walked}
 use Rattle.file_walk.proofs.AscendLemmas.{key, value}
 use Rattle.file_walk.proofs.ClosedLemmas.{In}
-use Rattle.file_walk.proofs.KindLemmas.{told_all}
 use Rattle.file_walk.proofs.ProgressLemmas.{stood, Stood}
 use Rattle.file_walk.proofs.QueueLemmas.{text_cmp, AllAbove, Ascends}
 use Rattle.file_walk.proofs.WholeLemmas.{found_in_order}
@@ -58,9 +59,18 @@ found_relative c root x h =
     let proper : list_all is_part x.0.parts ≡ true = behind (list_all is_part root.parts) (list_all is_part x.0.parts) (sym (list_all-append is_part root.parts x.0.parts) ∙ s.proper) in
     ap (λ b. not b && list_all is_part x.0.parts) s.relative ∙ proper
 
+told_by : (o q : Option WalkFault) (l ts : List Walked) → unless o (unless q (Ok l)) ≡ Ok ts → ts ≡ l
+told_by None None l ts h = cc
+told_by None (Some e) l ts h = absurd cc
+told_by (Some e) q l ts h = absurd cc
+
+told_all : (c : Contents) (root : PathValue) (ts : List Walked) → walk_of c root ≡ Ok ts → ts ≡ filter_map walked (found_below c root)
+unfolding walk_of
+told_all c root ts h = told_by (root_flaw root (entry_at c root)) (first_of (map (flaw_at (length root.parts)) (found_below c root))) (filter_map walked (found_below c root)) ts h
+
 pub walk_in_order : (c : Contents) (root : PathValue) (ts : List Walked) → walk_of c root ≡ Ok ts → AreInOrder ts
 walk_in_order c root ts told =
-    let is : ts ≡ filter_map walked (found_below c root) = (told_all c root ts told).1 in
+    let is : ts ≡ filter_map walked (found_below c root) = told_all c root ts told in
     record {
       relative = ap (list_all (λ (e : Walked). is_relative e.path)) is ∙ all_relative (found_below c root) (found_relative c root);
       ascending = subst (λ (l : List Walked). IsStrictlySortedBy text_cmp (texts_of l)) (sym is) (texts_ascend root (found_below c root) (found_in_order c root));

@@ -16,7 +16,5 @@ pub mod SoundLemmas
 pub mod ProgressLemmas
 pub mod StartLemmas
 pub mod ListedLemmas
-pub mod KindLemmas
 pub mod InOrderLemmas
-pub mod PairedLemmas
 pub mod MergeLemmas

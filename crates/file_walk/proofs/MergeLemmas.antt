@@ -1,5 +1,6 @@
 -- What stands in the map of pairs, path by path.
 use Rattle.std.proofs.Common.{◌≡◌, ℕ, Bool, true, false, T, cond, not, ◌&&◌, ◌||◌, List, [], ◌∷◌, ◌++◌, map, Option, None, Some, is_some, refl, ap, ap₂, sym, subst, ◌∙◌, true≢false}
+use Rattle.std.proofs.lemmas.List.{map-append}
 use Rattle.std.specs.declared.cmp.Ordering.{Ordering}
 use Rattle.std.specs.declared.cmp.Ordering.TheVariants.{Less, Equal, Greater}
 use Rattle.std.specs.BTreeMap.{insert_entry}
@@ -21,7 +22,6 @@ use Rattle.file_walk.specs.Listed.{AreInOrder, is_relative, texts_of}
 use Rattle.file_walk.specs.Merging.{AreKeys, IsMerged, PairMap, of_source, of_target, pair_of, target_in, texted, with_sources, with_targets}
 use Rattle.file_walk.specs.Pairs.{kind_at, kind_in, pair_at, pairs_of, paths_of}
 use Rattle.file_walk.proofs.AscendLemmas.{itself}
-use Rattle.file_walk.proofs.PairedLemmas.{all, some_either}
 use Rattle.file_walk.proofs.QueueLemmas.{text_cmp}
 
 less_tied : (o : Ordering) → o ≡ Less → o ≡ Equal → ⊥
@@ -98,6 +98,32 @@ over_both q None None = refl
 over_both q None (Some k) = refl
 over_both q (Some j) None = refl
 over_both q (Some j) (Some k) = refl
+
+or_group : (a b d : Bool) → (a || (b || d)) ≡ ((a || b) || d)
+or_group true b d = refl
+or_group false b d = refl
+
+find_either : (p : PathValue) (xs ys : List (PathValue × EntryKind)) → is_some (find path_cmp p (xs ++ ys)) ≡ (is_some (find path_cmp p xs) || is_some (find path_cmp p ys))
+find_either p [] ys = refl
+find_either p (x ∷ xs) ys = by (eq_by_cmp path_cmp p x.0) (find_either p xs ys)
+  where
+    by : (b : Bool) → is_some (find path_cmp p (xs ++ ys)) ≡ (is_some (find path_cmp p xs) || is_some (find path_cmp p ys))
+        → is_some (cond b (Some x.1) (find path_cmp p (xs ++ ys))) ≡ (is_some (cond b (Some x.1) (find path_cmp p xs)) || is_some (find path_cmp p ys))
+    by true rest = refl
+    by false rest = rest
+
+-- what two walks tell, by paths
+module _ (ts ss : List Entry) where
+  abbrev pub all : FinMap path_cmp EntryKind
+  all = from_entries {R = path_cmp} (map kind_at (ts ++ ss))
+
+  some_either : (p : PathValue) → is_some (find path_cmp p (entries all)) ≡ (is_some (kind_in ts p) || is_some (kind_in ss p))
+  some_either p =
+      sym (ap is_some (get-entries all p))
+      ∙ ap is_some (get-from_entries path_cmp_total (map kind_at (ts ++ ss)) p)
+      ∙ ap (λ (l : List (PathValue × EntryKind)). is_some (find path_cmp p l)) (map-append kind_at ts ss)
+      ∙ find_either p (map kind_at ts) (map kind_at ss)
+      ∙ ap₂ (λ (a b : Option EntryKind). is_some a || is_some b) (sym (get-from_entries path_cmp_total (map kind_at ts) p)) (sym (get-from_entries path_cmp_total (map kind_at ss) p))
 
 module _ (ts ss : List Entry) (t : AreInOrder ts) (s : AreInOrder ss) where
   abbrev pub merged : PairMap

@@ -1,12 +1,16 @@
--- What follows from the definitions, for callers. Own: "What lies below an excluded path", "Files of relations in a rewind".
-use Rattle.std.specs.Prelude.{◌≡◌, ◌⊎◌, ◌↔◌, ℕ, ◌<◌, ◌^◌, true, List, Some}
+-- What follows from the definitions, for callers. Own: "What lies below an excluded path", "Files of relations in a rewind", "The order of a walk".
+use Rattle.std.specs.Prelude.{◌≡◌, ◌⊎◌, ◌↔◌, ℕ, ◌<◌, ◌^◌, true, List, Some, Ok}
+use Rattle.cluster_tree.specs.Contents.{Contents}
 use Rattle.cluster_tree.specs.PathValue.{PathValue, below}
 use Rattle.block_refs.specs.declared.names.Fork.TheVariants.{Main}
 use Rattle.block_refs.specs.declared.names.RelName.{RelName}
 use Rattle.relation_files.specs.Paths.{relation_file}
 use Rattle.file_walk.specs.Actions.{here}
 use Rattle.file_walk.specs.Excluded.{is_excluded}
+use Rattle.file_walk.specs.Listed.{AreInOrder}
 use Rattle.file_walk.specs.Relations.{relation_of}
+use Rattle.file_walk.specs.Walk.{walk_of}
+use Rattle.file_walk.specs.declared.entry.Entry.{Entry}
 
 -- a number from 1 to 2^32 - 1
 abbrev pub IsNumber : ℕ → Type 0
@@ -30,3 +34,7 @@ RelationsAreFiles = (path : PathValue) (rel : RelName) (segment : ℕ) → (rela
 -- what lies below an excluded path is excluded too
 abbrev pub BelowIsExcluded : Type 0
 BelowIsExcluded = (path : PathValue) (parts : List (List ℕ)) → is_excluded path ≡ true → is_excluded (below path parts) ≡ true
+
+-- a walk of a tree is in order
+abbrev pub WalksAreInOrder : Type 0
+WalksAreInOrder = (c : Contents) (root : PathValue) (entries : List Entry) → walk_of c root ≡ Ok entries → AreInOrder entries

@@ -5,7 +5,6 @@ pub mod Walk
 pub mod Faults
 pub mod Listed
 pub mod Pairs
-pub mod Paired
 pub mod Merging
 pub mod Seeing
 pub mod Waiting

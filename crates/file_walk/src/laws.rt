@@ -1,6 +1,5 @@
 // What follows from the definitions, for callers: each function's contract is a law.
-ghost use Rattle.file_walk.specs.Laws.{BelowIsExcluded, RelationsAreFiles};
-ghost use Rattle.file_walk.specs.Paired.{PairsAreWhole, WalksAreInOrder};
+ghost use Rattle.file_walk.specs.Laws.{BelowIsExcluded, RelationsAreFiles, WalksAreInOrder};
 
 /// A path is that of a main fork's file exactly where that file lies.
 pub fn relation_files_lie_there()
@@ -15,10 +14,4 @@ pub fn excluded_below()
 /// A walk tells each path once, in ascending order of the texts.
 pub fn walks_are_in_order()
     ensures { WalksAreInOrder }
-{}
-
-/// The pairs of two walks are each path below either root once, behind the folder that it lies in,
-/// with what stands there on both sides.
-pub fn pairs_are_whole()
-    ensures { PairsAreWhole }
 {}
