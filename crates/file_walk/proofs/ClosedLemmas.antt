@@ -119,7 +119,7 @@ in_some (x ∷ es) q e (inr later) = by (path_eq q x.0) (in_some es q e later)
     by true rest = refl
     by false rest = rest
 
-folder_there : (o : Option Entry) (parts : List (List ℕ)) → is_folder (or_root parts o) ≡ true → 0 < length parts → (b : Bool) × (o ≡ Some (FolderEntry b))
+pub folder_there : (o : Option Entry) (parts : List (List ℕ)) → is_folder (or_root parts o) ≡ true → 0 < length parts → (b : Bool) × (o ≡ Some (FolderEntry b))
 folder_there None [] h k = absurd (omega arith)
 folder_there None (part ∷ parts) h k = absurd (true≢false (sym h))
 folder_there (Some (FolderEntry b)) parts h k = (b, refl)
@@ -137,14 +137,18 @@ pub low_front : (root : PathValue) (parts : List (List ℕ)) → 0 < length part
 low_front root [] h k = absurd (omega arith)
 low_front root (part ∷ parts) h k = told_below root part parts k
 
+-- the folder of what has a name below a root
+pub parent_below : (root : PathValue) (parts : List (List ℕ)) (n : List ℕ) → parent (below root (parts ++ n ∷ [])) ≡ below root parts
+parent_below root parts n =
+    ap (λ l. parent (path_of root.absolute l)) (sym (append_assoc root.parts parts (n ∷ []))) ∙ ap (path_of root.absolute) (all_but_last (root.parts ++ parts) n)
+
 pub parent_found : (c : Contents) → IsTree c → (root path : PathValue) (e : Entry) → In (path, e) (entries c) → lies_below root path ≡ true
     → (own : PathValue) (n : List ℕ) → from_root root path ≡ below own (n ∷ []) → own.absolute ≡ false → 0 < length own.parts
     → (b : Bool) × In (own, FolderEntry b) (found root (entries c))
 parent_found c tree root path e h low own n is relative some =
     let whole : path ≡ below root (own.parts ++ n ∷ []) = back_below root path low ∙ ap (λ (p : PathValue). below root p.parts) is in
     let joined : root.parts ++ (own.parts ++ n ∷ []) ≡ (root.parts ++ own.parts) ++ n ∷ [] = sym (append_assoc root.parts own.parts (n ∷ [])) in
-    let up : parent path ≡ below root own.parts =
-    ap parent whole ∙ ap (λ l. parent (path_of root.absolute l)) joined ∙ ap (path_of root.absolute) (all_but_last (root.parts ++ own.parts) n) in
+    let up : parent path ≡ below root own.parts = ap parent whole ∙ parent_below root own.parts n in
     let folder : is_folder (entry_at c (below root own.parts)) ≡ true = ap (λ (p : PathValue). is_folder (entry_at c p)) (sym up) ∙ tree path (ap is_some (get-entries c path) ∙ in_some (entries c) path e h) in
     let size : 0 < length (root.parts ++ own.parts) = omega (arith, length-append root.parts own.parts) in
     let there = folder_there (get c (below root own.parts)) (root.parts ++ own.parts) folder size in

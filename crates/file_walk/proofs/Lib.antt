@@ -12,6 +12,7 @@ pub mod AscendLemmas
 pub mod ClosedLemmas
 pub mod WholeLemmas
 pub mod FolderStepLemmas
+pub mod NamedLemmas
 pub mod SoundLemmas
 pub mod ProgressLemmas
 pub mod StartLemmas

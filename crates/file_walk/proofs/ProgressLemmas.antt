@@ -28,13 +28,14 @@ use Rattle.file_walk.specs.declared.waiting.Waiting.TheVariants.{At, TooDeep}
 use Rattle.file_walk.specs.Faults.{IsFree}
 use Rattle.file_walk.specs.Seeing.{HasFlaw}
 use Rattle.file_walk.specs.Stepping.{FitsLook, FitsStep, IsFileStep, IsFolderStep, IsThere}
-use Rattle.file_walk.specs.Walk.{entry_flaw, flaw_at, found_below, root_flaw, size_flaw, walk_of, walked}
+use Rattle.file_walk.specs.Walk.{HasParts, entry_flaw, flaw_at, found_below, root_flaw, size_flaw, walk_of, walked}
 use Rattle.file_walk.specs.Waiting.{put_names}
 use Rattle.file_walk.proofs.AscendLemmas.{found, itself, key, value, deeper, proper_below}
 use Rattle.file_walk.proofs.ClosedLemmas.{In, found_stands, in_middle, Stands}
 use Rattle.file_walk.proofs.FolderStepLemmas.{folder_on, rest_up}
 use Rattle.file_walk.proofs.FoundLemmas.{back_below}
 use Rattle.file_walk.proofs.LoopLemmas.{next_is, none_left, same_pass}
+use Rattle.file_walk.proofs.NamedLemmas.{AreNamed, named_by, parts_below}
 use Rattle.file_walk.proofs.QueueLemmas.{text_cmp, entry, Ascends, IsClosed, waits, waits_more}
 use Rattle.file_walk.proofs.StepLemmas.{place_of, waiting_of}
 use Rattle.file_walk.proofs.WholeLemmas.{holds, top}
@@ -42,6 +43,10 @@ use Rattle.file_walk.proofs.WholeLemmas.{holds, top}
 -- what waits when these are done
 abbrev pub queue_of : (root : PathValue) → (done others : List (PathValue × Entry)) → List (List ℕ × Waiting)
 queue_of root done others = map (entry (key root) (value root)) (filter (waits top holds done) others)
+
+-- what lies right in a folder that is done has a name that is a part
+abbrev pub FoldersNamed : Contents → PathValue → List (PathValue × Entry) → Type 0
+FoldersNamed c root done = (x : PathValue × Entry) → In x done → is_folder (Some x.1) ≡ true → AreNamed c (below root x.0.parts)
 
 pub record Progress (c : Contents) (root : PathValue) (listed : List Walked) (queue : List (List ℕ × Waiting)) : Type 0 where
   pub done : List (PathValue × Entry)
@@ -52,6 +57,7 @@ pub record Progress (c : Contents) (root : PathValue) (listed : List Walked) (qu
   pub queue_is : queue ≡ queue_of root done others
   pub closed : IsClosed top holds done others
   pub ascends : Ascends (key root) (value root) (done ++ others)
+  pub named : FoldersNamed c root done
 
 -- the same where something waits: the first of the others is next
 pub record Next (c : Contents) (root : PathValue) (listed : List Walked) (w : Waiting) (rest : List (List ℕ × Waiting)) : Type 0 where
@@ -65,9 +71,10 @@ pub record Next (c : Contents) (root : PathValue) (listed : List Walked) (w : Wa
   pub rest_is : rest ≡ queue_of root done others
   pub closed : IsClosed top holds done (x ∷ others)
   pub ascends : Ascends (key root) (value root) (done ++ x ∷ others)
+  pub named : FoldersNamed c root done
 
 heads : {S V : Type 0} (s t : S) (v w : V) (xs ys : List (S × V)) → (s, v) ∷ xs ≡ (t, w) ∷ ys → (v ≡ w) × (xs ≡ ys)
-heads s t v w xs ys is = (cc, cc)
+heads {S} {V} s t v w xs ys is = let two : let P : Type 0 = S × V in let a : P = (s, v) in a ≡ (t, w) = cc in (ap (λ (p : S × V). p.1) two, cc)
 
 next_of : (c : Contents) (root : PathValue) (listed : List Walked) (text : List ℕ) (w : Waiting) (rest : List (List ℕ × Waiting))
     → (p : Progress c root listed ((text, w) ∷ rest)) → (others : List (PathValue × Entry)) → p.others ≡ others → Next c root listed w rest
@@ -84,6 +91,7 @@ next_of c root listed text w rest p (x ∷ others) is =
       listed_is = p.listed_is; flawless = p.flawless;
       next_waits = is_next.0; rest_is = is_next.1; closed = closed;
       ascends = subst (λ l. Ascends (key root) (value root) (p.done ++ l)) is p.ascends;
+      named = p.named;
     }
 
 pub next_up : (c : Contents) (root : PathValue) (listed : List Walked) (text : List ℕ) (w : Waiting) (rest : List (List ℕ × Waiting)) → Progress c root listed ((text, w) ∷ rest) → Next c root listed w rest
@@ -211,6 +219,13 @@ module _ (c : Contents) (root : PathValue) where
       walk_ends fine (ap (λ l. first_of (map flaw l)) all ∙ p.flawless)
       ∙ ap (λ (l : List Walked). Ok l) (ap (filter_map walked) all ∙ sym p.listed_is)
 
+  -- and all that lies below the root is of proper parts
+  pub ended_parts : (listed : List Walked) → Progress c root listed [] → IsTree c → list_all is_part root.parts ≡ true → AreNamed c root → HasParts c root
+  ended_parts listed p tree proper root_named =
+      let none : p.others ≡ [] = none_left (key root) (value root) top holds p.done p.others p.closed (sym p.queue_is) in
+      let all : found_below c root ≡ p.done = p.split ∙ ap (λ l. p.done ++ l) none ∙ append-nil p.done in
+      parts_below c root tree proper root_named (λ x inside folder. p.named x (subst (In x) all inside) folder)
+
   module _ (listed : List Walked) where
     next_stood : (w : Waiting) (rest : List (List ℕ × Waiting)) (n : Next c root listed w rest) → Stood c root n.x
     next_stood w rest n = stood c root n.x (subst (In n.x) (sym n.split) (in_middle n.x n.done n.others))
@@ -219,9 +234,17 @@ module _ (c : Contents) (root : PathValue) where
     next_flawed w rest n e fine h =
         walk_fails e fine (ap (λ l. first_of (map flaw l)) n.split ∙ first_on flaw n.done (n.x ∷ n.others) n.flawless ∙ first_flaw flaw n.x n.others e h)
 
+    named_more : (done : List (PathValue × Entry)) (x : PathValue × Entry) → FoldersNamed c root done → (is_folder (Some x.1) ≡ true → AreNamed c (below root x.0.parts)) → FoldersNamed c root (done ++ x ∷ [])
+    named_more [] x before names y (inl same) folder =
+        subst (λ (z : PathValue × Entry). AreNamed c (below root z.0.parts)) (sym same) (names (ap (λ (z : PathValue × Entry). is_folder (Some z.1)) (sym same) ∙ folder))
+    named_more [] x before names y (inr none) folder = absurd none
+    named_more (d ∷ done) x before names y (inl same) folder = before y (inl same) folder
+    named_more (d ∷ done) x before names y (inr later) folder = named_more done x (λ z k. before z (inr k)) names y later folder
+
     advance : (w : Waiting) (rest : List (List ℕ × Waiting)) (n : Next c root listed w rest) (e : Walked) (new : List (List ℕ × Waiting))
-        → flaw n.x ≡ None → walked n.x ≡ Some e → new ≡ queue_of root (n.done ++ n.x ∷ []) n.others → Progress c root (listed ++ e ∷ []) new
-    advance w rest n e new fine is queued = record {
+        → flaw n.x ≡ None → walked n.x ≡ Some e → new ≡ queue_of root (n.done ++ n.x ∷ []) n.others
+        → (is_folder (Some n.x.1) ≡ true → AreNamed c (below root n.x.0.parts)) → Progress c root (listed ++ e ∷ []) new
+    advance w rest n e new fine is queued names = record {
       done = n.done ++ n.x ∷ []; others = n.others;
       split = n.split ∙ sym (append_assoc n.done (n.x ∷ []) n.others);
       listed_is = ap (λ l. l ++ e ∷ []) n.listed_is ∙ sym (filter_map-append walked n.done (n.x ∷ []) ∙ ap (λ o. filter_map walked n.done ++ cons_option o []) is);
@@ -229,6 +252,7 @@ module _ (c : Contents) (root : PathValue) where
       queue_is = queued;
       closed = n.closed.1;
       ascends = subst (Ascends (key root) (value root)) (sym (append_assoc n.done (n.x ∷ []) n.others)) n.ascends;
+      named = named_more n.done n.x n.named names;
     }
 
 or_false : (b : Bool) → (b || false) ≡ b
@@ -280,6 +304,7 @@ module _ (c : Contents) (root : PathValue) (listed : List Walked) where
       (ap (λ (v : Entry). walked (n.x.0, v)) kind ∙ ap (λ (p : PathValue). Some (entry_of p (File (length f.bytes)))) (sym own) ∙ ap (λ (v : Walked). Some v) (sym f.told))
       (f.kept ∙ n.rest_is ∙ ap (map (entry (key root) (value root))) (same_pass (waits top holds n.done) (waits top holds (n.done ++ n.x ∷ [])) n.others
       (λ y. sym (waits_more top holds n.done n.x y ∙ ap (λ (v : Entry). waits top holds n.done y || (is_folder (Some v) && lies_in n.x.0 y.0)) kind ∙ or_false (waits top holds n.done y)))))
+      (λ folder. absurd (true≢false (sym folder ∙ ap (λ (v : Entry). is_folder (Some v)) kind)))
 
   folder_done : (place : Place) (rest new : List (List ℕ × Waiting)) (e : Walked) → Next c root listed (At place) rest → IsFolderStep c place rest new e → Progress c root (listed ++ e ∷ []) new
   folder_done place rest new e n f =
@@ -293,6 +318,7 @@ module _ (c : Contents) (root : PathValue) (listed : List Walked) where
       (ap (λ (v : Entry). walked (n.x.0, v)) kind ∙ ap (λ (p : PathValue). Some (entry_of p Folder)) (sym own) ∙ ap (λ (v : Walked). Some v) (sym f.told))
       (f.added ∙ ap₂ (λ (p : Place) (l : List (List ℕ × Waiting)). put_names p l f.names) a.0 n.rest_is
       ∙ folder_on root n.x s.relative s.some c n.done n.others n.split n.ascends (ap (λ (v : Entry). is_folder (Some v)) kind) s.proper f.names (subst (λ (p : PathValue). IsListing c p f.names) full f.listing) f.parts)
+      (λ folder. named_by c (below root n.x.0.parts) f.names (subst (λ (p : PathValue). IsListing c p f.names) full f.listing) f.parts)
 
   look_on : (place : Place) (rest new : List (List ℕ × Waiting)) (e : Walked) → Next c root listed (At place) rest → (IsFileStep c place rest new e ⊎ IsFolderStep c place rest new e) → Progress c root (listed ++ e ∷ []) new
   look_on place rest new e n (inl f) = file_on place rest new e n f

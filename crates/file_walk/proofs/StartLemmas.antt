@@ -64,4 +64,5 @@ module _ (c : Contents) (root : PathValue) where
         queue_is = is ∙ ap (λ (p : Place). put_names p [] names) same ∙ names_wait proper names (subst (λ (p : PathValue). IsListing c p names) same_root listing) parts;
         closed = all_closed c tree root;
         ascends = found_in_order c root;
+        named = λ x none folder. absurd none;
       }

@@ -31,9 +31,9 @@ abbrev pub FitsSeen : Contents → (own full : PathValue) → Result Seen WalkFa
 FitsSeen c own full result = MatchResult result (IsSeen c own full) (λ e. IsFree e ⊎ HasFlaw c own full e)
 
 -- over every tree, the names of a folder are parts of paths
-abbrev pub HasParts : Seen → Type 0
-HasParts (seen.File size) = Unit {0}
-HasParts (seen.Folder names) = list_all is_part names ≡ true
+abbrev pub HasNames : Seen → Type 0
+HasNames (seen.File size) = Unit {0}
+HasNames (seen.Folder names) = list_all is_part names ≡ true
 
 -- what the refusal of a listing is told as, where a folder was there
 abbrev pub told_as : (own full : PathValue) → TreeFault → WalkFault

@@ -1,11 +1,11 @@
 -- What lies below a root, and what is wrong there. Own: "The order of a walk", "A path too deep is told unasked".
-use Rattle.std.specs.Prelude.{ℕ, ◌+◌, ◌%◌, ◌==◌, Bool, false, not, cond, ◌&&◌, nat_lt, List, length, drop, filter, map, Option, None, Some, Result, Ok, option_map, is_some, if◌then◌else◌}
+use Rattle.std.specs.Prelude.{◌≡◌, ℕ, ◌+◌, ◌%◌, ◌==◌, Bool, true, false, not, cond, ◌&&◌, nat_lt, List, length, drop, filter, map, Option, None, Some, Result, Ok, option_map, is_some, if◌then◌else◌}
 use Rattle.std.specs.FinMap.{entries}
 use Rattle.std.specs.List.{filter_map, list_all}
 use Rattle.cluster_tree.specs.Causes.{first_of, unless}
 use Rattle.cluster_tree.specs.Contents.{Contents, Entry, FolderEntry, FileEntry, LinkEntry, entry_at}
 use Rattle.cluster_tree.specs.PathOrder.{path_eq}
-use Rattle.cluster_tree.specs.PathValue.{PathValue, front, is_part, path_of}
+use Rattle.cluster_tree.specs.PathValue.{PathValue, below, front, is_part, path_of}
 use Rattle.cluster_tree.specs.declared.file_fault.FileFault.TheVariants as file
 use Rattle.file_walk.specs.declared.entry.Entry.{Entry as Walked}
 use Rattle.file_walk.specs.declared.entry.EntryKind.{EntryKind}
@@ -68,3 +68,7 @@ unfoldable pub walk_of : Contents → PathValue → Result (List Walked) WalkFau
 walk_of c root =
     unless (root_flaw root (entry_at c root))
     (unless (first_of (map (flaw_at (length root.parts)) (found_below c root))) (Ok (filter_map walked (found_below c root))))
+
+-- what stands below a root has a path of proper parts
+abbrev pub HasParts : Contents → PathValue → Type 0
+HasParts c root = (parts : List (List ℕ)) → is_some (entry_at c (below root parts)) ≡ true → list_all is_part (below root parts).parts ≡ true

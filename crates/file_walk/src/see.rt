@@ -6,7 +6,7 @@ ghost use Rattle.cluster_tree.specs.Contents.{entry_at, is_file, is_folder};
 ghost use Rattle.cluster_tree.specs.Causes.{Rose};
 ghost use Rattle.cluster_tree.specs.Frame.{Reads};
 ghost use Rattle.cluster_tree.specs.declared.file_fault.FileFault.TheVariants as file;
-ghost use Rattle.file_walk.specs.Seeing.{FitsSeen, HasParts, told_as};
+ghost use Rattle.file_walk.specs.Seeing.{FitsSeen, HasNames, told_as};
 ghost use Rattle.file_walk.specs.Faults.{IsRowOf};
 
 use crate::fault::WalkFault;
@@ -36,7 +36,7 @@ pub(crate) fn see<F: Tree>(
     requires there { IsTrue F.tells → is_some (get (F.contents tree.old) place.now.full) ≡ true }
     ensures seen { IsTrue F.tells →
         FitsSeen (F.contents tree.old) place.now.own place.now.full result }
-    ensures proper { IfOk result HasParts }
+    ensures proper { IfOk result HasNames }
     ensures reads { Reads F.Tree tree.old tree.new }
     ensures read_fault { IsErrOf result (WalkFault.File file.ReadFault) →
         Rose (F.failed_reads tree.old) (F.failed_reads tree.new) }
@@ -59,7 +59,7 @@ fn see_file<F: Tree>(alloc: Global, tree: &mut F, place: &Place) -> Result<Seen,
         is_file (entry_at (F.contents tree.old) place.now.full) ≡ true }
     ensures seen { IsTrue F.tells →
         FitsSeen (F.contents tree.old) place.now.own place.now.full result }
-    ensures proper { IfOk result HasParts }
+    ensures proper { IfOk result HasNames }
     ensures reads { Reads F.Tree tree.old tree.new }
     ensures read_fault { IsErrOf result (WalkFault.File file.ReadFault) →
         Rose (F.failed_reads tree.old) (F.failed_reads tree.new) }
@@ -100,7 +100,7 @@ fn see_folder<F: Tree>(alloc: Global, tree: &mut F, place: &Place) -> Result<See
         is_folder (entry_at (F.contents tree.old) place.now.full) ≡ true }
     ensures seen { IsTrue F.tells →
         FitsSeen (F.contents tree.old) place.now.own place.now.full result }
-    ensures proper { IfOk result HasParts }
+    ensures proper { IfOk result HasNames }
     ensures reads { Reads F.Tree tree.old tree.new }
     ensures read_fault { IsErrOf result (WalkFault.File file.ReadFault) →
         Rose (F.failed_reads tree.old) (F.failed_reads tree.new) }

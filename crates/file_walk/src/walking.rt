@@ -8,7 +8,7 @@ ghost use Rattle.cluster_tree.specs.Folders.{IsListing};
 ghost use Rattle.cluster_tree.specs.Causes.{Meets, Passes, Rose};
 ghost use Rattle.cluster_tree.specs.Frame.{Reads};
 ghost use Rattle.cluster_tree.specs.declared.file_fault.FileFault.TheVariants as file;
-ghost use Rattle.file_walk.specs.Walk.{root_flaw, walk_of};
+ghost use Rattle.file_walk.specs.Walk.{HasParts, root_flaw, walk_of};
 ghost use Rattle.file_walk.specs.Faults.{IsFree, IsRowOf};
 ghost use Rattle.file_walk.specs.Listed.{by_text};
 ghost use Rattle.file_walk.specs.Stepping.{FitsLook, FitsStep, IsThere, IsToldOf};
@@ -48,6 +48,7 @@ pub fn walk<F: Tree>(
     ensures changed { IsTrue F.tells → (p : PathValue) →
         result ≢ Err (WalkFault.File (file.Changed p)) }
     ensures row { IfErr result (IsRowOf root.now) }
+    ensures parts { IsTrue F.tells → IfOk result (λ _. HasParts (F.contents tree.old) root.now) }
 {
     let place = Place::root(alloc, root)?;
     let names = list_root(alloc, tree, root)?;
