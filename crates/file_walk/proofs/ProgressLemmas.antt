@@ -17,6 +17,7 @@ use Rattle.cluster_tree.specs.Folders.{IsListing, lies_in}
 use Rattle.cluster_tree.specs.PathOrder.{path_eq}
 use Rattle.cluster_tree.specs.PathValue.{PathValue, below, front, is_part, path_cmp, path_of, path_text}
 use Rattle.cluster_tree.proofs.OrderLemmas.{path_cmp_total, path_eq-own, path_eq-same}
+use Rattle.file_walk.specs.declared.entries.Listed.{Listed}
 use Rattle.file_walk.specs.declared.entry.Entry.{Entry as Walked}
 use Rattle.file_walk.specs.declared.entry.EntryKind.{EntryKind}
 use Rattle.file_walk.specs.declared.entry.EntryKind.TheVariants.{File, Folder}
@@ -27,7 +28,7 @@ use Rattle.file_walk.specs.declared.waiting.Waiting.{Waiting}
 use Rattle.file_walk.specs.declared.waiting.Waiting.TheVariants.{At, TooDeep}
 use Rattle.file_walk.specs.Faults.{IsFree}
 use Rattle.file_walk.specs.Seeing.{HasFlaw}
-use Rattle.file_walk.specs.Stepping.{FitsLook, FitsStep, IsFileStep, IsFolderStep, IsThere}
+use Rattle.file_walk.specs.Stepping.{FitsLook, FitsNext, FitsStep, IsFileStep, IsFirstThere, IsFolderStep, IsThere}
 use Rattle.file_walk.specs.Walk.{HasParts, entry_flaw, flaw_at, found_below, root_flaw, size_flaw, walk_of, walked}
 use Rattle.file_walk.specs.Waiting.{put_names}
 use Rattle.file_walk.proofs.AscendLemmas.{found, itself, key, value, deeper, proper_below}
@@ -94,7 +95,7 @@ next_of c root listed text w rest p (x ∷ others) is =
       named = p.named;
     }
 
-pub next_up : (c : Contents) (root : PathValue) (listed : List Walked) (text : List ℕ) (w : Waiting) (rest : List (List ℕ × Waiting)) → Progress c root listed ((text, w) ∷ rest) → Next c root listed w rest
+next_up : (c : Contents) (root : PathValue) (listed : List Walked) (text : List ℕ) (w : Waiting) (rest : List (List ℕ × Waiting)) → Progress c root listed ((text, w) ∷ rest) → Next c root listed w rest
 next_up c root listed text w rest p = next_of c root listed text w rest p p.others refl
 
 -- ---- what is found is what stands there
@@ -212,7 +213,7 @@ module _ (c : Contents) (root : PathValue) where
       ∙ ap (λ o. unless o (Ok (filter_map walked (found_below c root)))) h
 
   -- where nothing waits, all that was found is listed
-  pub ended : (listed : List Walked) → Progress c root listed [] → root_flaw root (entry_at c root) ≡ None → walk_of c root ≡ Ok listed
+  ended : (listed : List Walked) → Progress c root listed [] → root_flaw root (entry_at c root) ≡ None → walk_of c root ≡ Ok listed
   ended listed p fine =
       let none : p.others ≡ [] = none_left (key root) (value root) top holds p.done p.others p.closed (sym p.queue_is) in
       let all : found_below c root ≡ p.done = p.split ∙ ap (λ l. p.done ++ l) none ∙ append-nil p.done in
@@ -220,7 +221,7 @@ module _ (c : Contents) (root : PathValue) where
       ∙ ap (λ (l : List Walked). Ok l) (ap (filter_map walked) all ∙ sym p.listed_is)
 
   -- and all that lies below the root is of proper parts
-  pub ended_parts : (listed : List Walked) → Progress c root listed [] → IsTree c → list_all is_part root.parts ≡ true → AreNamed c root → HasParts c root
+  ended_parts : (listed : List Walked) → Progress c root listed [] → IsTree c → list_all is_part root.parts ≡ true → AreNamed c root → HasParts c root
   ended_parts listed p tree proper root_named =
       let none : p.others ≡ [] = none_left (key root) (value root) top holds p.done p.others p.closed (sym p.queue_is) in
       let all : found_below c root ≡ p.done = p.split ∙ ap (λ l. p.done ++ l) none ∙ append-nil p.done in
@@ -287,7 +288,7 @@ module _ (c : Contents) (root : PathValue) (listed : List Walked) where
       let some : Some n.x.1 ≡ Some e = sym s.there ∙ ap (entry_at c) (sym full) ∙ h in
       cc
 
-  pub is_there : (w : Waiting) (rest : List (List ℕ × Waiting)) → Next c root listed w rest → IsThere c w
+  is_there : (w : Waiting) (rest : List (List ℕ × Waiting)) → Next c root listed w rest → IsThere c w
   is_there (TooDeep path) rest n = tt
   is_there (At place) rest n =
       let s = next_stood c root listed (At place) rest n in
@@ -325,7 +326,7 @@ module _ (c : Contents) (root : PathValue) (listed : List Walked) where
   look_on place rest new e n (inr f) = folder_done place rest new e n f
 
   -- a step that tells an entry goes on
-  pub step_on : (w : Waiting) (rest new : List (List ℕ × Waiting)) (e : Walked) → Next c root listed w rest → FitsStep c w rest new (Ok e) → Progress c root (listed ++ e ∷ []) new
+  step_on : (w : Waiting) (rest new : List (List ℕ × Waiting)) (e : Walked) → Next c root listed w rest → FitsStep c w rest new (Ok e) → Progress c root (listed ++ e ∷ []) new
   step_on (At place) rest new e n h = look_on place rest new e n h
   step_on (TooDeep path) rest new e n h = absurd h
 
@@ -338,8 +339,32 @@ module _ (c : Contents) (root : PathValue) (listed : List Walked) where
       inr (next_flawed c root listed (At place) rest n e fine (flaw_low (length root.parts) n.x a.1 ∙ ap₂ entry_flaw (sym own) kind ∙ f.flawed))
 
   -- and one that tells a flaw tells that of the least path
-  pub step_fails : (w : Waiting) (rest new : List (List ℕ × Waiting)) (e : WalkFault) → root_flaw root (entry_at c root) ≡ None → Next c root listed w rest → FitsStep c w rest new (Err e) → IsFree e ⊎ (walk_of c root ≡ Err e)
+  step_fails : (w : Waiting) (rest new : List (List ℕ × Waiting)) (e : WalkFault) → root_flaw root (entry_at c root) ≡ None → Next c root listed w rest → FitsStep c w rest new (Err e) → IsFree e ⊎ (walk_of c root ≡ Err e)
   step_fails (At place) rest new e fine n h = look_fails place rest e fine n h
   step_fails (TooDeep path) rest new e fine n h =
       let d = deep_is root n.x.0 path n.next_waits in
       inr (next_flawed c root listed (TooDeep path) rest n e fine (flaw_deep (length root.parts) n.x d.1 ∙ ap (λ (p : PathValue). Some (fault.TooDeep p)) (sym d.0) ∙ ap (λ (v : WalkFault). Some v) (sym h)))
+
+  -- ---- the least path that waits
+
+  pub first_there : (queue : List (List ℕ × Waiting)) → Progress c root listed queue → IsFirstThere c queue
+  first_there [] p = tt
+  first_there (e ∷ rest) p = is_there e.1 rest (next_up c root listed e.0 e.1 rest p)
+
+  pub went_on : (old new : List (List ℕ × Waiting)) (l : Listed) → Progress c root listed old → FitsNext c old new (Ok (Some l)) → Progress c root (listed ++ l.entry ∷ []) new
+  went_on [] new l p h = absurd (let wrong : Some l ≡ None = cc in cc)
+  went_on (e ∷ rest) new l p h = step_on e.1 rest new l.entry (next_up c root listed e.0 e.1 rest p) h
+
+  pub went_wrong : (old new : List (List ℕ × Waiting)) (e : WalkFault) → root_flaw root (entry_at c root) ≡ None → Progress c root listed old → FitsNext c old new (Err e) → IsFree e ⊎ (walk_of c root ≡ Err e)
+  went_wrong [] new e fine p h = absurd cc
+  went_wrong (x ∷ rest) new e fine p h = step_fails x.1 rest new e fine (next_up c root listed x.0 x.1 rest p) h
+
+  none_waits : (old new : List (List ℕ × Waiting)) → FitsNext c old new (Ok None) → old ≡ []
+  none_waits [] new h = refl
+  none_waits (e ∷ rest) new h = absurd h
+
+  pub at_end : (old new : List (List ℕ × Waiting)) → root_flaw root (entry_at c root) ≡ None → Progress c root listed old → FitsNext c old new (Ok None) → walk_of c root ≡ Ok listed
+  at_end old new fine p h = ended c root listed (subst (Progress c root listed) (none_waits old new h) p) fine
+
+  pub parts_at_end : (old new : List (List ℕ × Waiting)) → IsTree c → list_all is_part root.parts ≡ true → AreNamed c root → Progress c root listed old → FitsNext c old new (Ok None) → HasParts c root
+  parts_at_end old new tree proper named p h = ended_parts c root listed (subst (Progress c root listed) (none_waits old new h) p) tree proper named

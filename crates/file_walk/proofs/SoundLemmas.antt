@@ -13,8 +13,18 @@ use Rattle.cluster_tree.specs.PathValue.{PathValue, below, front, is_part, path_
 use Rattle.file_walk.specs.declared.place.Place.{Place}
 use Rattle.file_walk.specs.declared.waiting.Waiting.{Waiting}
 use Rattle.file_walk.specs.declared.waiting.Waiting.TheVariants.{At, TooDeep}
+use Rattle.file_walk.specs.Actions.{here}
 use Rattle.file_walk.specs.Waiting.{AllSound, AreProper, AreSound, IsPlace, IsSoundAt, child_place, put_name, put_names, text_at, waiting_at}
 use Rattle.file_walk.proofs.QueueLemmas.{text_cmp}
+
+-- the root's own place
+pub root_place : (place : Place) → place.own ≡ here → IsPlace place
+root_place place own =
+    let none : length place.own.parts ≡ 0 = ap (λ (p : PathValue). length p.parts) own in
+    (ap (λ (p : PathValue). p.absolute) own, omega arith)
+
+pub root_proper : (place : Place) → place.own ≡ here → list_all is_part place.own.parts ≡ true
+root_proper place own = ap (λ (p : PathValue). list_all is_part p.parts) own
 
 pub place_sound : (text : List ℕ) (w : Waiting) → IsSoundAt text w → AreSound w
 place_sound text (At place) h = h.0

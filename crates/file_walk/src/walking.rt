@@ -1,5 +1,5 @@
 // The walk below a root.
-ghost use Rattle.std.specs.Prelude.{◌≡◌, ◌≢◌, ◌≤◌, length, string_bytes, is_some, true, Err, IfOk, IfErr, IsErrOf, IsTrue, OnOk};
+ghost use Rattle.std.specs.Prelude.{◌≡◌, ◌≢◌, string_bytes, is_some, true, Err, IfOk, IfErr, IfSome, IsErrOf, IsTrue, OnOk};
 ghost use Rattle.std.specs.FinMap.{get};
 ghost use Rattle.std.specs.List.{list_all};
 ghost use Rattle.cluster_tree.specs.PathValue.{PathValue, is_part};
@@ -10,14 +10,14 @@ ghost use Rattle.cluster_tree.specs.Frame.{Reads};
 ghost use Rattle.cluster_tree.specs.declared.file_fault.FileFault.TheVariants as file;
 ghost use Rattle.file_walk.specs.Walk.{HasParts, root_flaw, walk_of};
 ghost use Rattle.file_walk.specs.Faults.{IsFree, IsRowOf};
-ghost use Rattle.file_walk.specs.Listed.{by_text};
-ghost use Rattle.file_walk.specs.Stepping.{FitsLook, FitsStep, IsThere, IsToldOf};
+ghost use Rattle.file_walk.specs.Listed.{IsListed, by_text};
+ghost use Rattle.file_walk.specs.Stepping.{FitsLook, FitsNext, FitsStep, IsBegun, IsFirstThere, IsThere, IsToldOf};
 ghost use Rattle.file_walk.specs.Waiting.{AllSound, AreProper, AreSound, IsPlace};
 
 use crate::entries::{Entries, Listed};
 use crate::entry::{Entry, EntryKind};
 use crate::fault::WalkFault;
-use crate::place::{Place, here};
+use crate::place::{MAX_PARTS, Place, here};
 use crate::see::{Seen, see};
 use crate::waiting::{Queue, Waiting, add_names};
 use cluster_tree::{FileFault, Names, Path, Tree, TreeFault};
@@ -34,13 +34,11 @@ use std::collections::BTreeMap;
 /// isn't UTF-8; and `OddSize` of a main fork file whose bytes are no whole blocks. `File` else
 /// holds `ReadFault` where a read of the device failed, `Changed` where the tree contradicted
 /// itself about that path, and `OutOfMemory`.
-#[tactic(none)]
 pub fn walk<F: Tree>(
     alloc: Global,
     tree: &mut F,
     root: &Path,
 ) -> Result<Entries, WalkFault>
-    requires depth { length root.now.parts ≤ 61 }
     ensures exact { IsTrue F.tells → Meets IsFree (walk_of (F.contents tree.old) root.now) result }
     ensures reads { Reads F.Tree tree.old tree.new }
     ensures read_fault { IsErrOf result (WalkFault.File file.ReadFault) →
@@ -50,20 +48,64 @@ pub fn walk<F: Tree>(
     ensures row { IfErr result (IsRowOf root.now) }
     ensures parts { IsTrue F.tells → IfOk result (λ _. HasParts (F.contents tree.old) root.now) }
 {
+    let mut queue = begin(alloc, tree, root)?;
+    let mut listed = Vec::new(alloc);
+    // No memory holds more entries than this has numbers.
+    for _ in 0..u64::MAX {
+        let Some(entry) = next(alloc, tree, &mut queue)? else {
+            return Ok(Entries::of_listed(listed));
+        };
+        listed.push(entry)?;
+    }
+    Err(WalkFault::File(FileFault::OutOfMemory))
+}
+
+// What waits at first: the names in the root.
+fn begin<F: Tree>(alloc: Global, tree: &mut F, root: &Path) -> Result<Queue, WalkFault>
+    ensures begun { IsTrue F.tells → IfOk result (λ queue.
+        IsBegun (F.contents tree.old) root.now (by_text string_bytes queue.entries)) }
+    ensures sound { IfOk result (λ queue. AllSound (by_text string_bytes queue.entries)) }
+    ensures proper { list_all is_part root.now.parts ≡ true }
+    ensures refused { IsTrue F.tells →
+        Passes IsFree (root_flaw root.now (entry_at (F.contents tree.old) root.now)) result }
+    ensures row { IfErr result (IsRowOf root.now) }
+    ensures reads { Reads F.Tree tree.old tree.new }
+    ensures read_fault { IsErrOf result (WalkFault.File file.ReadFault) →
+        Rose (F.failed_reads tree.old) (F.failed_reads tree.new) }
+{
+    prove!(root.len() <= MAX_PARTS);
     let place = Place::root(alloc, root)?;
     let names = list_root(alloc, tree, root)?;
     let mut queue = BTreeMap::new(alloc);
     add_names(alloc, &mut queue, &place, &names)?;
-    let mut listed = Vec::new(alloc);
-    // No memory holds more entries than this has numbers.
-    for _ in 0..u64::MAX {
-        let Some((text, waiting)) = queue.pop_first() else {
-            return Ok(Entries::of_listed(listed));
-        };
-        let entry = step(alloc, tree, &mut queue, waiting)?;
-        listed.push(Listed { text, entry })?;
-    }
-    Err(WalkFault::File(FileFault::OutOfMemory))
+    Ok(queue)
+}
+
+// The entry of the least path that waits, or `None` where nothing does.
+fn next<F: Tree>(
+    alloc: Global,
+    tree: &mut F,
+    queue: &mut Queue,
+) -> Result<Option<Listed>, WalkFault>
+    requires sound { AllSound (by_text string_bytes queue.old.entries) }
+    requires there { IsTrue F.tells →
+        IsFirstThere (F.contents tree.old) (by_text string_bytes queue.old.entries) }
+    ensures stepped { IsTrue F.tells → FitsNext (F.contents tree.old)
+        (by_text string_bytes queue.old.entries) (by_text string_bytes queue.new.entries) result }
+    ensures listed { IfOk result (λ next. IfSome next IsListed) }
+    ensures sound { OnOk result (AllSound (by_text string_bytes queue.new.entries)) }
+    ensures reads { Reads F.Tree tree.old tree.new }
+    ensures read_fault { IsErrOf result (WalkFault.File file.ReadFault) →
+        Rose (F.failed_reads tree.old) (F.failed_reads tree.new) }
+    ensures changed { IsTrue F.tells → (p : PathValue) →
+        result ≢ Err (WalkFault.File (file.Changed p)) }
+    ensures row { (p : PathValue) → IfErr result (IsRowOf p) }
+{
+    let Some((text, waiting)) = queue.pop_first() else {
+        return Ok(None);
+    };
+    let entry = step(alloc, tree, queue, waiting)?;
+    Ok(Some(Listed { text, entry }))
 }
 
 // The entry of what waited. The names of a folder wait in turn.
