@@ -19,3 +19,4 @@ pub mod StartLemmas
 pub mod ListedLemmas
 pub mod InOrderLemmas
 pub mod MergeLemmas
+pub mod EachLemmas

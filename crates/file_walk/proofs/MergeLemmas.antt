@@ -1,16 +1,17 @@
 -- What stands in the map of pairs, path by path.
-use Rattle.std.proofs.Common.{◌≡◌, ℕ, Bool, true, false, T, cond, not, ◌&&◌, ◌||◌, List, [], ◌∷◌, ◌++◌, map, Option, None, Some, is_some, refl, ap, ap₂, sym, subst, ◌∙◌, true≢false}
+use Rattle.std.proofs.Common.{◌≡◌, ℕ, ◌+◌, Bool, true, false, T, cond, not, ◌&&◌, ◌||◌, List, [], ◌∷◌, ◌++◌, length, map, Option, None, Some, is_some, refl, ap, ap₂, sym, subst, ◌∙◌, true≢false, arith}
 use Rattle.std.proofs.lemmas.List.{map-append}
 use Rattle.std.specs.declared.cmp.Ordering.{Ordering}
 use Rattle.std.specs.declared.cmp.Ordering.TheVariants.{Less, Equal, Greater}
 use Rattle.std.specs.BTreeMap.{insert_entry}
 use Rattle.std.specs.Cmp.{tied_itself}
 use Rattle.std.specs.Cmp.Lexicographic.{slice_cmp}
-use Rattle.std.specs.FinMap.{FinMap, nat_cmp-IsAntisymmetric, slice_cmp-IsAntisymmetric, empty, find, get, get-empty, get-entries, get-from_entries, get-insert, insert, entries, entries-insert, entries_sorted, from_entries, keys, put}
+use Rattle.std.specs.FinMap.{FinMap, nat_cmp-IsAntisymmetric, slice_cmp-IsAntisymmetric, empty, find, get, get-empty, get-entries, get-from_entries, get-insert, insert, entries, entries-insert, len-empty, len-entries, entries_sorted, from_entries, keys, put}
 use Rattle.std.specs.FinMap.Entries.{below_all, by_order, is_sorted, same_entries}
 use Rattle.std.specs.List.{AllByRecursion, list_all}
 use Rattle.std.specs.List.Sorted.{IsStrictlySortedBy}
-use Rattle.std.specs.Ordering.{bool_cmp, eq_by_cmp, is_lt, match_ordering, nat_cmp, on, ordering_then, then_cmp}
+use Rattle.std.specs.Map.{lookup}
+use Rattle.std.specs.Ordering.{bool_cmp, eq_by_cmp, is_eq, is_lt, match_ordering, nat_cmp, on, ordering_then, then_cmp}
 use Rattle.cluster_tree.specs.PathOrder.{path_eq}
 use Rattle.cluster_tree.specs.PathValue.{PathValue, is_part, path_cmp, path_text}
 use Rattle.cluster_tree.proofs.OrderLemmas.{path_cmp-IsAntisymmetric, path_cmp_total, path_eq-same}
@@ -18,7 +19,7 @@ use Rattle.cluster_tree.proofs.PartLemmas.{told_by_text}
 use Rattle.file_walk.specs.declared.entry.Entry.{Entry}
 use Rattle.file_walk.specs.declared.entry.EntryKind.{EntryKind}
 use Rattle.file_walk.specs.declared.pair.Pair.{Pair}
-use Rattle.file_walk.specs.Listed.{AreInOrder, is_relative, texts_of}
+use Rattle.file_walk.specs.Listed.{AreInOrder, by_text, is_relative, texts_of}
 use Rattle.file_walk.specs.Merging.{AreKeys, IsMerged, PairMap, of_source, of_target, pair_of, target_in, texted, with_sources, with_targets}
 use Rattle.file_walk.specs.Pairs.{kind_at, kind_in, pair_at, pairs_of, paths_of}
 use Rattle.file_walk.proofs.AscendLemmas.{itself}
@@ -36,11 +37,11 @@ Apart (e ∷ es) = (find path_cmp e.path (map kind_at es) ≡ None) × Apart es
 not_found : (e : Entry) (es : List Entry) → AllByRecursion (λ t. text_cmp (path_text e.path) t ≡ Less) (texts_of es) → find path_cmp e.path (map kind_at es) ≡ None
 unfolding path_eq
 not_found e [] h = refl
-not_found e (y ∷ es) h = by (path_eq e.path y.path) refl
+not_found e (y ∷ es) h = by (not_found e es h.1) (path_eq e.path y.path) refl
   where
-    by : (b : Bool) → path_eq e.path y.path ≡ b → cond b (Some y.kind) (find path_cmp e.path (map kind_at es)) ≡ None
-    by false is = not_found e es h.1
-    by true is =
+    by : find path_cmp e.path (map kind_at es) ≡ None → (b : Bool) → path_eq e.path y.path ≡ b → cond b (Some y.kind) (find path_cmp e.path (map kind_at es)) ≡ None
+    by rest false is = rest
+    by rest true is =
         let same : e.path ≡ y.path = path_eq-same e.path y.path is in
         absurd (less_tied (text_cmp (path_text e.path) (path_text e.path)) (ap (λ (p : PathValue). text_cmp (path_text e.path) (path_text p)) same ∙ h.0) (itself (path_text e.path)))
 
@@ -222,6 +223,62 @@ put_merged m kept p v h relative = record {
   relative = subst AreKeys (sym (entries-insert path_cmp_total m p v)) (keys_put p v (entries m) relative h.relative);
 }
 
+nothing : (es : List (PathValue × Pair)) → length es ≡ 0 → es ≡ []
+nothing [] h = refl
+nothing (e ∷ es) h = absurd (omega arith)
+
+no_entries : let m : PairMap = empty in entries m ≡ []
+no_entries = nothing (entries empty) (sym (len-entries empty) ∙ len-empty path_cmp Pair)
+
 pub none_merged : IsMerged empty []
-unfolding empty entries
-none_merged = record { told = refl; relative = tt }
+none_merged = record { told = ap texted (sym no_entries); relative = subst AreKeys (sym no_entries) tt }
+
+-- ---- what is at a path
+
+look_by_text : {S : Type 0} (text_of : S → List ℕ) (es : List (S × Pair)) (text : List ℕ) → lookup (λ (s : S). is_eq (text_cmp text (text_of s))) es ≡ lookup (λ t. is_eq (text_cmp text t)) (by_text text_of es)
+look_by_text text_of [] text = refl
+look_by_text text_of (e ∷ es) text = ap (λ o. cond (is_eq (text_cmp text (text_of e.0))) (Some e.1) o) (look_by_text text_of es text)
+
+look_texted : (p : PathValue) (es : List (PathValue × Pair)) → is_relative p ≡ true → AreKeys es → lookup (λ t. is_eq (text_cmp (path_text p) t)) (texted es) ≡ find path_cmp p es
+look_texted p [] h k = refl
+look_texted p (e ∷ es) h k =
+    ap₂ (λ c (o : Option Pair). cond (is_eq c) (Some e.1) o) (sym (same_order p e.0 h k.0 (text_cmp (path_text p) (path_text e.0)) refl)) (look_texted p es h k.1)
+
+-- looking by the text is looking by the path
+pub look_merged : {S : Type 0} (text_of : S → List ℕ) (m : PairMap) (es : List (S × Pair)) (p : PathValue) → IsMerged m (by_text text_of es) → is_relative p ≡ true
+    → lookup (λ (s : S). is_eq (text_cmp (path_text p) (text_of s))) es ≡ get m p
+look_merged text_of m es p h relative =
+    look_by_text text_of es (path_text p)
+    ∙ ap (lookup (λ t. is_eq (text_cmp (path_text p) t))) h.told
+    ∙ look_texted p (entries m) relative h.relative
+    ∙ sym (get-entries m p)
+
+-- one entry more
+pub one_target : (m : PairMap) (xs : List Entry) (x : Entry) → insert (with_targets m xs) x.path (of_target x) ≡ with_targets m (xs ++ x ∷ [])
+unfolding with_targets
+one_target m [] x = refl
+one_target m (y ∷ xs) x = one_target (insert m y.path (of_target y)) xs x
+
+pub one_source : (m : PairMap) (xs : List Entry) (x : Entry) → insert (with_sources m xs) x.path (of_source (get (with_sources m xs) x.path) x) ≡ with_sources m (xs ++ x ∷ [])
+unfolding with_sources
+one_source m [] x = refl
+one_source m (y ∷ xs) x = one_source (insert m y.path (of_source (get m y.path) y)) xs x
+
+pub no_targets : (m : PairMap) → m ≡ with_targets m []
+unfolding with_targets
+no_targets m = refl
+
+pub no_sources : (m : PairMap) → m ≡ with_sources m []
+unfolding with_sources
+no_sources m = refl
+
+-- the values that are kept are those of the map
+pub kept_values : {S : Type 0} (text_of : S → List ℕ) (m : PairMap) (es : List (S × Pair)) → IsMerged m (by_text text_of es) → map (λ (e : S × Pair). e.1) es ≡ map (λ (e : PathValue × Pair). e.1) (entries m)
+kept_values {S} text_of m es h = sym (second_by_text es) ∙ ap (map (λ (e : List ℕ × Pair). e.1)) h.told ∙ second_texted (entries m)
+  where
+    second_by_text : (xs : List (S × Pair)) → map (λ (e : List ℕ × Pair). e.1) (by_text text_of xs) ≡ map (λ (e : S × Pair). e.1) xs
+    second_by_text [] = refl
+    second_by_text (x ∷ xs) = ap (λ l. x.1 ∷ l) (second_by_text xs)
+    second_texted : (xs : List (PathValue × Pair)) → map (λ (e : List ℕ × Pair). e.1) (texted xs) ≡ map (λ (e : PathValue × Pair). e.1) xs
+    second_texted [] = refl
+    second_texted (x ∷ xs) = ap (λ l. x.1 ∷ l) (second_texted xs)

@@ -1,7 +1,6 @@
 -- How entries are kept: with the texts of their paths. Own: "The order of a walk".
-use Rattle.std.specs.Prelude.{◌≡◌, ℕ, Bool, true, not, ◌&&◌, List, map, bytes_eq, string_bytes, Option}
+use Rattle.std.specs.Prelude.{◌≡◌, ℕ, Bool, true, not, ◌&&◌, List, map, string_bytes}
 use Rattle.std.specs.List.{All, list_all}
-use Rattle.std.specs.Map.{lookup}
 use Rattle.std.specs.List.Sorted.{IsStrictlySortedBy}
 use Rattle.std.specs.Cmp.Lexicographic.{slice_cmp}
 use Rattle.std.specs.Ordering.{nat_cmp}
@@ -33,10 +32,6 @@ pub record IsListed (listed : Listed) : Type 0 where
 
 abbrev pub AreListed : List Listed → Type 0
 AreListed listed = All IsListed listed
-
--- what a list by texts has at a text
-abbrev pub at_text : {X : Type 0} → List (List ℕ × X) → List ℕ → Option X
-at_text kept text = lookup (bytes_eq text) kept
 
 -- a map's entries by the texts that its keys are
 abbrev pub by_text : {S X : Type 0} → (S → List ℕ) → List (S × X) → List (List ℕ × X)

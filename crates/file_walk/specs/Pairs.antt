@@ -1,11 +1,10 @@
 -- The paths of two walks side by side, each once, in the order of their texts. Own: "The order of a walk".
-use Rattle.std.specs.Prelude.{ℕ, List, ◌++◌, map, Option, None, Some}
+use Rattle.std.specs.Prelude.{List, ◌++◌, map, Option}
 use Rattle.std.specs.FinMap.{from_entries, get, keys}
-use Rattle.cluster_tree.specs.PathValue.{PathValue, path_cmp, path_text}
+use Rattle.cluster_tree.specs.PathValue.{PathValue, path_cmp}
 use Rattle.file_walk.specs.declared.entry.Entry.{Entry}
 use Rattle.file_walk.specs.declared.entry.EntryKind.{EntryKind}
 use Rattle.file_walk.specs.declared.pair.Pair.{Pair}
-use Rattle.file_walk.specs.Listed.{at_text}
 
 -- a path and its kind
 abbrev pub kind_at : Entry → PathValue × EntryKind
@@ -25,16 +24,3 @@ pair_at target source path = record { path = path; target = kind_in target path;
 
 unfoldable pub pairs_of : (target source : List Entry) → List Pair
 pairs_of target source = map (pair_at target source) (paths_of target source)
-
--- the entry at a text
-abbrev pub find : List Entry → List ℕ → Option Entry
-find entries text = at_text (map (λ entry. (path_text entry.path, entry)) entries) text
-
--- a pair of the target alone, and one with what the source has there
-abbrev pub of_target : Entry → Pair
-of_target entry = record { path = entry.path; target = Some entry.kind; source = None }
-
-abbrev pub with_source : Option Pair → Option Entry → Option Pair
-with_source old None = old
-with_source None (Some entry) = Some (record { path = entry.path; target = None; source = Some entry.kind })
-with_source (Some pair) (Some entry) = Some (record { path = pair.path; target = pair.target; source = Some entry.kind })
