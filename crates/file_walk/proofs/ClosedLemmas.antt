@@ -100,6 +100,7 @@ module _ (root : PathValue) where
     where
       later : Stands es x → Stands (e ∷ es) x
       later s = record { path = s.path; low = s.low; own = s.own; there = inr s.there }
+
       by : (In x (found root es) → Stands es x) → (b : Bool) → lies_below root e.0 ≡ b → In x (found_by root b e es) → Stands (e ∷ es) x
       by rest false low h = later (rest h)
       by rest true low (inl same) = record { path = e.0; low = low; own = ap (λ (p : PathValue × Entry). p.0) same; there = inl (ap (λ (v : Entry). (e.0, v)) (ap (λ (p : PathValue × Entry). p.1) same)) }

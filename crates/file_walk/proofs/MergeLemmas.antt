@@ -279,6 +279,7 @@ kept_values {S} text_of m es h = sym (second_by_text es) ∙ ap (map (λ (e : Li
     second_by_text : (xs : List (S × Pair)) → map (λ (e : List ℕ × Pair). e.1) (by_text text_of xs) ≡ map (λ (e : S × Pair). e.1) xs
     second_by_text [] = refl
     second_by_text (x ∷ xs) = ap (λ l. x.1 ∷ l) (second_by_text xs)
+
     second_texted : (xs : List (PathValue × Pair)) → map (λ (e : List ℕ × Pair). e.1) (texted xs) ≡ map (λ (e : PathValue × Pair). e.1) xs
     second_texted [] = refl
     second_texted (x ∷ xs) = ap (λ l. x.1 ∷ l) (second_texted xs)

@@ -64,7 +64,7 @@ all_more front parts name h k =
     ∙ ap (λ b. b && (is_part name && true)) h ∙ ap (λ b. b && true) k
 
 module _ (c : Contents) (root : PathValue) (tree : IsTree c) (proper : list_all is_part root.parts ≡ true) (root_named : AreNamed c root)
-  (named : (x : PathValue × Entry) → In x (found_below c root) → is_folder (Some x.1) ≡ true → AreNamed c (below root x.0.parts)) where
+    (named : (x : PathValue × Entry) → In x (found_below c root) → is_folder (Some x.1) ≡ true → AreNamed c (below root x.0.parts)) where
   -- what lies right in a folder below the root
   name_part : (front : List (List ℕ)) (name : List ℕ) → list_all is_part (root.parts ++ front) ≡ true → is_folder (entry_at c (below root front)) ≡ true
       → is_some (get c (below root (front ++ name ∷ []))) ≡ true → is_part name ≡ true

@@ -87,10 +87,15 @@ next_of c root listed text w rest p (x ∷ others) is =
     p.queue_is ∙ ap (queue_of root p.done) is ∙ next_is (key root) (value root) top holds p.done x others closed in
     let is_next : (w ≡ waiting_of root x.0) × (rest ≡ queue_of root p.done others) = heads text (path_text x.0) w (waiting_of root x.0) rest (queue_of root p.done others) two in
     record {
-      done = p.done; x = x; others = others;
+      done = p.done;
+      x = x;
+      others = others;
       split = p.split ∙ ap (λ l. p.done ++ l) is;
-      listed_is = p.listed_is; flawless = p.flawless;
-      next_waits = is_next.0; rest_is = is_next.1; closed = closed;
+      listed_is = p.listed_is;
+      flawless = p.flawless;
+      next_waits = is_next.0;
+      rest_is = is_next.1;
+      closed = closed;
       ascends = subst (λ l. Ascends (key root) (value root) (p.done ++ l)) is p.ascends;
       named = p.named;
     }
@@ -246,7 +251,8 @@ module _ (c : Contents) (root : PathValue) where
         → flaw n.x ≡ None → walked n.x ≡ Some e → new ≡ queue_of root (n.done ++ n.x ∷ []) n.others
         → (is_folder (Some n.x.1) ≡ true → AreNamed c (below root n.x.0.parts)) → Progress c root (listed ++ e ∷ []) new
     advance w rest n e new fine is queued names = record {
-      done = n.done ++ n.x ∷ []; others = n.others;
+      done = n.done ++ n.x ∷ [];
+      others = n.others;
       split = n.split ∙ sym (append_assoc n.done (n.x ∷ []) n.others);
       listed_is = ap (λ l. l ++ e ∷ []) n.listed_is ∙ sym (filter_map-append walked n.done (n.x ∷ []) ∙ ap (λ o. filter_map walked n.done ++ cons_option o []) is);
       flawless = first_on flaw n.done (n.x ∷ []) n.flawless ∙ first_fine flaw n.x fine;

@@ -58,10 +58,11 @@ child_sound folder name place proper part =
     let own : length (folder.own.parts ++ name ∷ []) ≡ length folder.own.parts + 1 = length-append folder.own.parts (name ∷ []) in
     let full : length (folder.full.parts ++ name ∷ []) ≡ length folder.full.parts + 1 = length-append folder.full.parts (name ∷ []) in
     let short : length folder.own.parts ≤ length folder.full.parts = place.1 in
-    let more : length (folder.own.parts ++ name ∷ []) ≤ length (folder.full.parts ++ name ∷ []) = omega arith in
-    ((place.0, more),
-    (list_all-append is_part folder.own.parts (name ∷ []) ∙ both (list_all is_part folder.own.parts) (list_all is_part (name ∷ [])) proper (one_proper name part)),
-    refl)
+    let more : length (folder.own.parts ++ name ∷ []) ≤ length (folder.full.parts ++ name ∷ []) = omega arith in (
+      (place.0, more),
+      (list_all-append is_part folder.own.parts (name ∷ []) ∙ both (list_all is_part folder.own.parts) (list_all is_part (name ∷ [])) proper (one_proper name part)),
+      refl,
+    )
 
 name_sound : (b : Bool) (folder : Place) (name : List ℕ) → IsPlace folder → list_all is_part folder.own.parts ≡ true → is_part name ≡ true
     → IsSoundAt (text_at folder name) (cond b (At (child_place folder name)) (TooDeep (front 64 (below folder.own (name ∷ [])))))

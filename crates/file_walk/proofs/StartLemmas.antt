@@ -62,7 +62,9 @@ module _ (c : Contents) (root : PathValue) where
   pub begun_with : (place : Place) → place.own ≡ here → place.full ≡ root → (names : List (List ℕ)) → IsListing c root names → list_all is_part names ≡ true
       → (queue : List (List ℕ × Waiting)) → queue ≡ put_names place [] names → IsBegun c root queue
   begun_with place own full names listing parts queue is = record {
-    names = names; listing = listing; parts = parts;
+    names = names;
+    listing = listing;
+    parts = parts;
     put = is ∙ ap₂ (λ (o f : PathValue). put_names (record { own = o; full = f }) [] names) own full;
   }
 
@@ -70,10 +72,13 @@ module _ (c : Contents) (root : PathValue) where
   pub started : IsTree c → list_all is_part root.parts ≡ true → (queue : List (List ℕ × Waiting)) → IsBegun c root queue → Progress c root [] queue
   unfolding first_of
   started tree proper queue begun = record {
-    done = []; others = found_below c root;
-    split = refl; listed_is = refl; flawless = refl;
+    done = [];
+    others = found_below c root;
+    split = refl;
+    listed_is = refl;
+    flawless = refl;
     queue_is = begun.put ∙ ap (λ (f : PathValue). put_names (record { own = here; full = f }) [] begun.names) same_root
-    ∙ names_wait proper begun.names (subst (λ (p : PathValue). IsListing c p begun.names) same_root begun.listing) begun.parts;
+        ∙ names_wait proper begun.names (subst (λ (p : PathValue). IsListing c p begun.names) same_root begun.listing) begun.parts;
     closed = all_closed c tree root;
     ascends = found_in_order c root;
     named = λ x none folder. absurd none;

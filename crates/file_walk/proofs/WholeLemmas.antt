@@ -58,16 +58,20 @@ found_closed c tree root x before after split = by (parent x.0).parts refl
   where
     stands : Stands root (entries c) x
     stands = found_stands root (entries c) x (subst (In x) (sym split) (in_middle x before after))
+
     relative : x.0.absolute ≡ false
     relative = ap (λ (p : PathValue). p.absolute) stands.own
+
     some : 0 < length x.0.parts
     some =
         let low : length root.parts < length stands.path.parts = deeper root stands.path stands.low in
         let size : length (drop (length root.parts) stands.path.parts) ≡ length stands.path.parts - length root.parts = length-drop (length root.parts) stands.path.parts in
         let same : length x.0.parts ≡ length (drop (length root.parts) stands.path.parts) = ap (λ (p : PathValue). length p.parts) stands.own in
         omega (arith, low, size, same)
+
     named : x.0 ≡ below (parent x.0) (last_part x.0 ∷ [])
     named = name_in (parent x.0) x.0 (in_parent x.0 some)
+
     by : (parts : List (List ℕ)) → (parent x.0).parts ≡ parts → (top x || list_any (λ p. holds p x) before) ≡ true
     by [] none = or_left (top x) (list_any (λ p. holds p x) before) (at_top x.0 relative some none)
     by (part ∷ parts) is =

@@ -107,6 +107,6 @@ loop-preserved g c =
           (subst (λ (t : Contents). FitsNext t (by_text (string_bytes {Z = Global}) c.loop.queue.entries) (by_text (string_bytes {Z = Global}) c.next.new.queue.entries) (Ok c.in_ok-entry.field-0)) c.loop.invariant.reads.same (c.in_ok-entry.ensures.stepped told))));
       sound = c.in_ok-entry.ensures.sound;
       listed = subst AreListed (sym pushed) (more_listed c.loop.listed.items c.in-Some.entry c.loop.invariant.listed
-      (subst (λ (r : Option Listed). IfSome r IsListed) c.in-Some.is c.in_ok-entry.ensures.listed));
+          (subst (λ (r : Option Listed). IfSome r IsListed) c.in-Some.is c.in_ok-entry.ensures.listed));
       reads = reads_on g.F.Tree c.args.tree.now c.loop.tree c.next.new.tree c.loop.invariant.reads c.in_ok-entry.ensures.reads;
     }
