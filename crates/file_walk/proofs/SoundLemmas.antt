@@ -1,15 +1,14 @@
 -- What waits is sound over every tree: a place is below its folder, and its text is that of its path.
-use Rattle.std.proofs.Common.{◌≡◌, ℕ, ◌+◌, ◌<◌, ◌≤◌, Bool, true, false, cond, ◌&&◌, nat_lt, String, List, [], ◌∷◌, ◌++◌, length, map, refl, ap, ap₂, sym, subst, ◌∙◌, arith}
+use Rattle.std.proofs.Common.{◌≡◌, ℕ, ◌+◌, ◌≤◌, Bool, true, false, cond, ◌&&◌, nat_lt, List, [], ◌∷◌, ◌++◌, length, refl, ap, sym, subst, ◌∙◌, arith}
 use Rattle.std.proofs.lemmas.List.{length-append}
 use Rattle.std.proofs.lemmas.List.Folds.{list_all-append}
 use Rattle.std.specs.declared.cmp.Ordering.{Ordering}
 use Rattle.std.specs.declared.cmp.Ordering.TheVariants.{Less, Equal, Greater}
 use Rattle.std.specs.BTreeMap.{insert_entry}
-use Rattle.std.specs.Cmp.Lexicographic.{slice_cmp}
 use Rattle.std.specs.FinMap.{nat_cmp-IsAntisymmetric, slice_cmp-IsAntisymmetric}
 use Rattle.std.specs.List.{list_all}
-use Rattle.std.specs.Ordering.{nat_cmp, match_ordering}
-use Rattle.cluster_tree.specs.PathValue.{PathValue, below, front, is_part, path_text}
+use Rattle.std.specs.Ordering.{match_ordering}
+use Rattle.cluster_tree.specs.PathValue.{PathValue, below, front, is_part}
 use Rattle.file_walk.specs.declared.place.Place.{Place}
 use Rattle.file_walk.specs.declared.waiting.Waiting.{Waiting}
 use Rattle.file_walk.specs.declared.waiting.Waiting.TheVariants.{At, TooDeep}

@@ -1,11 +1,11 @@
 -- How a walk begins: the names in the root wait.
-use Rattle.std.proofs.Common.{◌≡◌, ◌⊎◌, ℕ, ◌≤◌, Bool, true, false, cond, ◌||◌, inl, inr, List, [], ◌∷◌, ◌++◌, length, map, filter, Option, None, Some, Ok, Err, refl, ap, ap₂, sym, subst, ◌∙◌, append-nil, arith}
+use Rattle.std.proofs.Common.{◌≡◌, ◌⊎◌, ℕ, ◌≤◌, Bool, true, false, ◌||◌, inl, inr, List, [], ◌∷◌, ◌++◌, length, map, filter, Option, None, Some, Ok, Err, refl, ap, ap₂, sym, subst, ◌∙◌, append-nil, arith}
 use Rattle.std.specs.FinMap.{entries}
-use Rattle.std.specs.List.{filter_map, list_all, list_any}
+use Rattle.std.specs.List.{filter_map, list_all}
 use Rattle.cluster_tree.specs.Causes.{first_of, unless, Rose}
 use Rattle.cluster_tree.specs.Contents.{Contents, Entry, FolderEntry, FileEntry, LinkEntry, IsTree, entry_at}
-use Rattle.cluster_tree.specs.Folders.{IsListing, lies_in, names_in}
-use Rattle.cluster_tree.specs.PathValue.{PathValue, below, is_part, path_of}
+use Rattle.cluster_tree.specs.Folders.{IsListing, names_in}
+use Rattle.cluster_tree.specs.PathValue.{PathValue, below, is_part}
 use Rattle.cluster_tree.proofs.NamesLemmas.{listing_names}
 use Rattle.cluster_tree.proofs.OrderLemmas.{same_path}
 use Rattle.cluster_tree.specs.declared.file_fault.FileFault.TheVariants as file
@@ -18,7 +18,7 @@ use Rattle.file_walk.specs.Stepping.{IsBegun}
 use Rattle.file_walk.specs.Waiting.{put_names}
 use Rattle.file_walk.specs.Faults.{IsFree}
 use Rattle.file_walk.specs.Walk.{flaw_at, found_below, root_flaw, walk_of, walked}
-use Rattle.file_walk.proofs.AscendLemmas.{found, itself, key, value}
+use Rattle.file_walk.proofs.AscendLemmas.{itself, key, value}
 use Rattle.file_walk.proofs.FoundLemmas.{children}
 use Rattle.file_walk.proofs.LoopLemmas.{same_pass}
 use Rattle.file_walk.proofs.ProgressLemmas.{Progress, queue_of}

@@ -1,5 +1,5 @@
 -- All that lies below a root, as the list that a walk goes through.
-use Rattle.std.proofs.Common.{◌≡◌, ℕ, ◌+◌, ◌-◌, ◌<◌, ◌≤◌, Bool, true, false, ◌&&◌, ◌||◌, nat_lt, List, [], ◌∷◌, ◌++◌, length, take, drop, Some, refl, ap, ap₂, sym, subst, ◌∙◌, arith, rules}
+use Rattle.std.proofs.Common.{◌≡◌, ℕ, ◌-◌, ◌<◌, Bool, true, false, ◌&&◌, ◌||◌, nat_lt, List, [], ◌∷◌, ◌++◌, length, drop, Some, refl, ap, sym, subst, ◌∙◌, arith}
 use Rattle.std.proofs.lemmas.Bool.Decides.{nat_tests}
 use Rattle.std.proofs.lemmas.List.{length-drop}
 use Rattle.std.specs.declared.cmp.Ordering.TheVariants.{Less}
@@ -8,12 +8,11 @@ use Rattle.std.specs.List.{list_any}
 use Rattle.cluster_tree.specs.Contents.{Contents, Entry, FolderEntry, IsTree, is_folder, parent}
 use Rattle.cluster_tree.specs.Folders.{last_part, lies_in}
 use Rattle.cluster_tree.specs.PathOrder.{path_eq}
-use Rattle.cluster_tree.specs.PathValue.{PathValue, below, path_of, path_text}
-use Rattle.cluster_tree.proofs.FolderLemmas.{lies_in-below}
+use Rattle.cluster_tree.specs.PathValue.{PathValue, below, path_text}
 use Rattle.cluster_tree.proofs.OrderLemmas.{path_eq-own, same_path}
 use Rattle.file_walk.specs.Actions.{here}
-use Rattle.file_walk.specs.Walk.{found_below, from_root, lies_below}
-use Rattle.file_walk.proofs.AscendLemmas.{deeper, found, found_ascends, itself, key, value}
+use Rattle.file_walk.specs.Walk.{found_below}
+use Rattle.file_walk.proofs.AscendLemmas.{deeper, found_ascends, itself, key, value}
 use Rattle.file_walk.proofs.ClosedLemmas.{In, any_in, found_stands, front_less, in_middle, parent_found, stands_before, Stands}
 use Rattle.file_walk.proofs.FoundLemmas.{name_in}
 use Rattle.file_walk.proofs.LoopLemmas.{closed_from}

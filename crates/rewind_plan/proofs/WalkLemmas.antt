@@ -17,11 +17,10 @@ use Rattle.file_walk.specs.declared.fault.WalkFault.{WalkFault}
 use Rattle.file_walk.specs.declared.fault.WalkFault.TheVariants as fault
 use Rattle.file_walk.specs.Pairs.{kind_at, kind_in}
 use Rattle.file_walk.specs.Relations.{relation_of}
-use Rattle.file_walk.specs.Walk.{entry_flaw, flaw_at, found_below, from_root, kind_of_entry, kind_there, lies_below, root_flaw, size_flaw, walk_of, walked}
+use Rattle.file_walk.specs.Walk.{HasParts, entry_flaw, flaw_at, found_below, from_root, kind_of_entry, kind_there, lies_below, root_flaw, size_flaw, walk_of, walked}
 use Rattle.file_walk.proofs.AscendLemmas.{deeper, found, found_by, proper_below}
 use Rattle.file_walk.proofs.FoundLemmas.{back_below, told_below}
 use Rattle.rewind_plan.specs.Sides.{IsKind, IsWhole}
-use Rattle.rewind_plan.specs.Walks.{HasParts}
 use Rattle.rewind_plan.proofs.PlaceLemmas.{deep_in}
 use Rattle.rewind_plan.proofs.SideLemmas.{below-same}
 
