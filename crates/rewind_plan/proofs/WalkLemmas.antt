@@ -59,7 +59,7 @@ module _ (root : PathValue) (parts : List (List ℕ)) where
       by true is rest =
           ap (λ b. cond b (Some e.1) (find path_cmp (path_of false parts) (found root es)))
           (path_eq-other (path_of false parts) (from_root root e.0) (λ same.
-              true≢false (sym (proper_below root e.0 is) ∙ ap (λ (p : PathValue). list_all is_part p.parts) (back_below root e.0 is ∙ ap (λ (p : PathValue). below root p.parts) (sym same)) ∙ odd)))
+          true≢false (sym (proper_below root e.0 is) ∙ ap (λ (p : PathValue). list_all is_part p.parts) (back_below root e.0 is ∙ ap (λ (p : PathValue). below root p.parts) (sym same)) ∙ odd)))
           ∙ rest
       by false is rest = rest
 

@@ -10,8 +10,8 @@ mod runs;
 mod steps;
 
 pub use checks::{first_difference, first_lacking};
-pub use roots::Clusters;
 pub use laws::{
     plans_are_not_refused, plans_find_what_they_read, plans_leave_the_rewound_tree, walks_are_sides,
 };
+pub use roots::Clusters;
 pub use steps::steps_of;
