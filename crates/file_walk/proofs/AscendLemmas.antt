@@ -1,5 +1,5 @@
 -- What lies below a root ascends by the texts from the root on.
-use Rattle.std.proofs.Common.{◌≡◌, ℕ, zero, suc, ◌<◌, Bool, true, false, T, cond, ◌&&◌, nat_lt, List, [], ◌∷◌, ◌++◌, length, drop, map, filter, refl, ap, ap₂, sym, ◌∙◌, true≢false, arith}
+use Rattle.std.proofs.Common.{◌≡◌, ℕ, zero, suc, ◌<◌, Bool, true, false, T, cond, ◌&&◌, nat_lt, List, [], ◌∷◌, length, drop, map, filter, refl, ap, ap₂, sym, ◌∙◌, true≢false, arith}
 use Rattle.std.proofs.lemmas.Bool.Decides.{nat_tests}
 use Rattle.std.specs.declared.cmp.Ordering.{Ordering}
 use Rattle.std.specs.declared.cmp.Ordering.TheVariants.{Less, Equal, Greater}

@@ -1,6 +1,5 @@
 -- Each path below a root lies right in it, or in a folder that stands before it.
-use Rattle.std.proofs.Common.{◌≡◌, ◌⊎◌, ℕ, zero, suc, ◌+◌, ◌-◌, ◌<◌, ◌≤◌, Bool, true, false, cond, ◌&&◌, ◌||◌, nat_lt, inl, inr, List, [], ◌∷◌, ◌++◌, length, take, drop, map, filter, Option, None, Some, is_some, refl, ap, ap₂, sym, subst, ◌∙◌, true≢false, append_assoc, arith, rules}
-use Rattle.std.proofs.lemmas.Bool.Decides.{nat_tests}
+use Rattle.std.proofs.Common.{◌≡◌, ◌⊎◌, ℕ, ◌-◌, ◌<◌, Bool, true, false, cond, ◌&&◌, ◌||◌, inl, inr, List, [], ◌∷◌, ◌++◌, length, take, Option, None, Some, is_some, refl, ap, sym, subst, ◌∙◌, true≢false, append_assoc, arith}
 use Rattle.std.proofs.lemmas.Grind.{common_steps}
 use Rattle.std.proofs.lemmas.List.{length-append}
 use Rattle.std.specs.declared.cmp.Ordering.{Ordering}
@@ -8,11 +7,10 @@ use Rattle.std.specs.declared.cmp.Ordering.TheVariants.{Less, Equal, Greater}
 use Rattle.std.specs.Cmp.{tied_itself, nat_cmp_total}
 use Rattle.std.specs.FinMap.{find, get, get-entries, entries}
 use Rattle.std.specs.List.{list_all, list_any}
-use Rattle.std.specs.Ordering.{nat_cmp, ordering_then}
+use Rattle.std.specs.Ordering.{ordering_then}
 use Rattle.cluster_tree.specs.Contents.{Contents, Entry, FolderEntry, FileEntry, LinkEntry, IsTree, entry_at, is_folder, or_root, parent}
-use Rattle.cluster_tree.specs.Folders.{last_part, lies_in}
 use Rattle.cluster_tree.specs.PathOrder.{path_eq}
-use Rattle.cluster_tree.specs.PathValue.{PathValue, below, is_part, path_cmp, path_of, path_text}
+use Rattle.cluster_tree.specs.PathValue.{PathValue, below, is_part, path_cmp, path_of}
 use Rattle.cluster_tree.proofs.OrderLemmas.{path_eq-own, path_eq-same, same_path}
 use Rattle.std.proofs.lemmas.List.Folds.{list_all-append}
 use Rattle.file_walk.proofs.FoundLemmas.{back_below, from_below, told_below}
@@ -100,6 +98,7 @@ module _ (root : PathValue) where
     where
       later : Stands es x → Stands (e ∷ es) x
       later s = record { path = s.path; low = s.low; own = s.own; there = inr s.there }
+
       by : (In x (found root es) → Stands es x) → (b : Bool) → lies_below root e.0 ≡ b → In x (found_by root b e es) → Stands (e ∷ es) x
       by rest false low h = later (rest h)
       by rest true low (inl same) = record { path = e.0; low = low; own = ap (λ (p : PathValue × Entry). p.0) same; there = inl (ap (λ (v : Entry). (e.0, v)) (ap (λ (p : PathValue × Entry). p.1) same)) }

@@ -1,5 +1,5 @@
 -- Once a folder is done, what lies right in it waits besides.
-use Rattle.std.proofs.Common.{◌≡◌, ℕ, ◌<◌, Bool, true, false, ◌&&◌, ◌||◌, List, [], ◌∷◌, ◌++◌, length, map, filter, Some, refl, ap, ap₂, sym, subst, ◌∙◌, true≢false}
+use Rattle.std.proofs.Common.{◌≡◌, ℕ, ◌<◌, Bool, true, false, ◌&&◌, ◌||◌, List, [], ◌∷◌, ◌++◌, length, map, filter, Some, refl, ap, sym, ◌∙◌}
 use Rattle.std.specs.declared.cmp.Ordering.{Ordering}
 use Rattle.std.specs.declared.cmp.Ordering.TheVariants.{Less, Equal, Greater}
 use Rattle.std.specs.FinMap.{entries}
@@ -8,7 +8,6 @@ use Rattle.cluster_tree.specs.Contents.{Contents, Entry, is_folder}
 use Rattle.cluster_tree.specs.Folders.{IsListing, last_part, lies_in, names_in}
 use Rattle.cluster_tree.specs.PathValue.{PathValue, below, is_part, path_text}
 use Rattle.cluster_tree.proofs.NamesLemmas.{listing_names}
-use Rattle.file_walk.specs.declared.waiting.Waiting.{Waiting}
 use Rattle.file_walk.specs.Waiting.{put_names}
 use Rattle.file_walk.specs.Walk.{found_below}
 use Rattle.file_walk.proofs.AscendLemmas.{itself, key, reversed, value}
@@ -16,7 +15,7 @@ use Rattle.file_walk.proofs.ClosedLemmas.{front_less}
 use Rattle.file_walk.proofs.FoundLemmas.{children, name_in}
 use Rattle.file_walk.proofs.LoopLemmas.{same_pass, wait_on}
 use Rattle.file_walk.proofs.PlaceLemmas.{text_below}
-use Rattle.file_walk.proofs.QueueLemmas.{text_cmp, entry, AllAbove, Ascends, put_all, waits}
+use Rattle.file_walk.proofs.QueueLemmas.{text_cmp, entry, AllAbove, Ascends, waits}
 use Rattle.file_walk.proofs.StepLemmas.{found_put, names_put, place_of, put_paths}
 use Rattle.file_walk.proofs.WholeLemmas.{holds, top}
 

@@ -1,5 +1,5 @@
 -- What a walk told is in order.
-use Rattle.std.proofs.Common.{◌≡◌, ℕ, Bool, true, false, not, ◌&&◌, inl, inr, List, [], ◌∷◌, ◌++◌, length, map, Option, None, Some, Result, Ok, Err, option_map, refl, ap, sym, subst, ◌∙◌, true≢false}
+use Rattle.std.proofs.Common.{◌≡◌, Bool, true, false, not, ◌&&◌, inl, inr, List, [], ◌∷◌, length, map, Option, None, Some, Ok, option_map, refl, ap, sym, subst, ◌∙◌, true≢false}
 use Rattle.std.proofs.lemmas.List.Folds.{list_all-append}
 use Rattle.std.specs.declared.cmp.Ordering.TheVariants.{Less}
 use Rattle.std.specs.List.{AllByRecursion, cons_option, filter_map, list_all}

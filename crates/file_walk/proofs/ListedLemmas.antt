@@ -1,5 +1,5 @@
 -- What is listed: each with the text of its path, which is one from a root on.
-use Rattle.std.proofs.Common.{◌≡◌, Bool, true, false, not, ◌&&◌, String, List, [], ◌∷◌, ◌++◌, string_bytes, refl, ap, ap₂, sym, subst, ◌∙◌}
+use Rattle.std.proofs.Common.{◌≡◌, true, false, not, ◌&&◌, List, [], ◌∷◌, ◌++◌, string_bytes, ap, sym, ◌∙◌}
 use Rattle.std.proofs.lemmas.List.Elements.{All-append, All-nil, All-cons}
 use Rattle.std.specs.List.{list_all}
 use Rattle.cluster_tree.specs.PathValue.{PathValue, is_part, path_text}

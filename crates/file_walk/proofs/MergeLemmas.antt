@@ -1,12 +1,12 @@
 -- What stands in the map of pairs, path by path.
-use Rattle.std.proofs.Common.{◌≡◌, ℕ, ◌+◌, Bool, true, false, T, cond, not, ◌&&◌, ◌||◌, List, [], ◌∷◌, ◌++◌, length, map, Option, None, Some, is_some, refl, ap, ap₂, sym, subst, ◌∙◌, true≢false, arith}
+use Rattle.std.proofs.Common.{◌≡◌, ℕ, Bool, true, false, T, cond, not, ◌&&◌, ◌||◌, List, [], ◌∷◌, ◌++◌, length, map, Option, None, Some, is_some, refl, ap, ap₂, sym, subst, ◌∙◌, true≢false, arith}
 use Rattle.std.proofs.lemmas.List.{map-append}
 use Rattle.std.specs.declared.cmp.Ordering.{Ordering}
 use Rattle.std.specs.declared.cmp.Ordering.TheVariants.{Less, Equal, Greater}
 use Rattle.std.specs.BTreeMap.{insert_entry}
 use Rattle.std.specs.Cmp.{tied_itself}
 use Rattle.std.specs.Cmp.Lexicographic.{slice_cmp}
-use Rattle.std.specs.FinMap.{FinMap, nat_cmp-IsAntisymmetric, slice_cmp-IsAntisymmetric, empty, find, get, get-empty, get-entries, get-from_entries, get-insert, insert, entries, entries-insert, len-empty, len-entries, entries_sorted, from_entries, keys, put}
+use Rattle.std.specs.FinMap.{FinMap, nat_cmp-IsAntisymmetric, slice_cmp-IsAntisymmetric, empty, find, get, get-empty, get-entries, get-from_entries, get-insert, insert, entries, entries-insert, len-empty, len-entries, entries_sorted, from_entries, put}
 use Rattle.std.specs.FinMap.Entries.{below_all, by_order, is_sorted, same_entries}
 use Rattle.std.specs.List.{AllByRecursion, list_all}
 use Rattle.std.specs.List.Sorted.{IsStrictlySortedBy}
@@ -21,7 +21,7 @@ use Rattle.file_walk.specs.declared.entry.EntryKind.{EntryKind}
 use Rattle.file_walk.specs.declared.pair.Pair.{Pair}
 use Rattle.file_walk.specs.Listed.{AreInOrder, by_text, is_relative, texts_of}
 use Rattle.file_walk.specs.Merging.{AreKeys, IsMerged, PairMap, of_source, of_target, pair_of, target_in, texted, with_sources, with_targets}
-use Rattle.file_walk.specs.Pairs.{kind_at, kind_in, pair_at, pairs_of, paths_of}
+use Rattle.file_walk.specs.Pairs.{kind_at, kind_in, pair_at, pairs_of}
 use Rattle.file_walk.proofs.AscendLemmas.{itself}
 use Rattle.file_walk.proofs.QueueLemmas.{text_cmp}
 
@@ -279,6 +279,7 @@ kept_values {S} text_of m es h = sym (second_by_text es) ∙ ap (map (λ (e : Li
     second_by_text : (xs : List (S × Pair)) → map (λ (e : List ℕ × Pair). e.1) (by_text text_of xs) ≡ map (λ (e : S × Pair). e.1) xs
     second_by_text [] = refl
     second_by_text (x ∷ xs) = ap (λ l. x.1 ∷ l) (second_by_text xs)
+
     second_texted : (xs : List (PathValue × Pair)) → map (λ (e : List ℕ × Pair). e.1) (texted xs) ≡ map (λ (e : PathValue × Pair). e.1) xs
     second_texted [] = refl
     second_texted (x ∷ xs) = ap (λ l. x.1 ∷ l) (second_texted xs)

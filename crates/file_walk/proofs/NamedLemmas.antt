@@ -1,14 +1,14 @@
 -- What lies below a root is of proper parts, since a listing has named it.
-use Rattle.std.proofs.Common.{◌≡◌, ℕ, zero, suc, ◌+◌, ◌<◌, Bool, true, false, ◌&&◌, ◌||◌, List, [], ◌∷◌, ◌++◌, length, Option, None, Some, is_some, bytes_eq, refl, ap, sym, subst, ◌∙◌, append_assoc, append-nil, true≢false, arith}
+use Rattle.std.proofs.Common.{◌≡◌, ℕ, zero, suc, ◌<◌, Bool, true, false, ◌&&◌, ◌||◌, List, [], ◌∷◌, ◌++◌, length, Option, None, Some, is_some, bytes_eq, refl, ap, sym, subst, ◌∙◌, append_assoc, append-nil, true≢false, arith}
 use Rattle.std.proofs.lemmas.List.{length-append}
 use Rattle.std.proofs.lemmas.List.Folds.{list_all-append}
 use Rattle.std.proofs.lemmas.Slice.Eq.{bytes_eq-Decides}
 use Rattle.std.specs.FinMap.{get, get-entries, entries}
 use Rattle.std.specs.List.{list_all, list_any}
-use Rattle.cluster_tree.specs.Contents.{Contents, Entry, FolderEntry, FileEntry, LinkEntry, IsTree, entry_at, is_folder, or_root, parent}
+use Rattle.cluster_tree.specs.Contents.{Contents, Entry, FolderEntry, IsTree, entry_at, is_folder, or_root}
 use Rattle.cluster_tree.specs.Folders.{IsListing}
 use Rattle.cluster_tree.specs.PathValue.{PathValue, below, is_part, path_of}
-use Rattle.file_walk.specs.Walk.{HasParts, found_below, from_root}
+use Rattle.file_walk.specs.Walk.{HasParts, found_below}
 use Rattle.file_walk.proofs.AscendLemmas.{found}
 use Rattle.file_walk.proofs.ClosedLemmas.{In, found_entry, folder_there, in_found, low_front, parent_below}
 use Rattle.file_walk.proofs.FoundLemmas.{from_below}
@@ -64,7 +64,7 @@ all_more front parts name h k =
     ∙ ap (λ b. b && (is_part name && true)) h ∙ ap (λ b. b && true) k
 
 module _ (c : Contents) (root : PathValue) (tree : IsTree c) (proper : list_all is_part root.parts ≡ true) (root_named : AreNamed c root)
-  (named : (x : PathValue × Entry) → In x (found_below c root) → is_folder (Some x.1) ≡ true → AreNamed c (below root x.0.parts)) where
+    (named : (x : PathValue × Entry) → In x (found_below c root) → is_folder (Some x.1) ≡ true → AreNamed c (below root x.0.parts)) where
   -- what lies right in a folder below the root
   name_part : (front : List (List ℕ)) (name : List ℕ) → list_all is_part (root.parts ++ front) ≡ true → is_folder (entry_at c (below root front)) ≡ true
       → is_some (get c (below root (front ++ name ∷ []))) ≡ true → is_part name ≡ true

@@ -1,9 +1,8 @@
 -- How far a walk has come: of all that lies below the root, the first ones are listed, and of the others those wait that lie in one of them.
-use Rattle.std.proofs.Common.{◌≡◌, ◌⊎◌, ℕ, ◌+◌, ◌-◌, ◌<◌, ◌≤◌, Bool, true, false, T, cond, not, ◌&&◌, ◌||◌, nat_lt, inl, inr, List, [], ◌∷◌, ◌++◌, length, drop, map, filter, Option, None, Some, Result, Ok, Err, is_some, option_map, refl, ap, ap₂, sym, subst, ◌∙◌, append_assoc, append-nil, true≢false, arith}
+use Rattle.std.proofs.Common.{◌≡◌, ◌⊎◌, ℕ, ◌+◌, ◌-◌, ◌<◌, Bool, true, false, T, cond, ◌&&◌, ◌||◌, nat_lt, inl, inr, List, [], ◌∷◌, ◌++◌, length, drop, map, filter, Option, None, Some, Ok, Err, is_some, refl, ap, ap₂, sym, subst, ◌∙◌, append_assoc, append-nil, true≢false, arith}
 use Rattle.std.proofs.lemmas.Bool.Decides.{nat_tests}
-use Rattle.std.proofs.lemmas.List.{length-drop, map-append}
+use Rattle.std.proofs.lemmas.List.{length-drop}
 use Rattle.std.proofs.lemmas.List.Elements.{filter_map-append}
-use Rattle.std.proofs.lemmas.List.Folds.{list_all-append}
 use Rattle.std.specs.declared.cmp.Ordering.{Ordering}
 use Rattle.std.specs.declared.cmp.Ordering.TheVariants.{Less, Equal, Greater}
 use Rattle.std.specs.FinMap.{find, get, get-entries, entries, entries_sorted}
@@ -15,7 +14,7 @@ use Rattle.cluster_tree.specs.Causes.{first_of, unless}
 use Rattle.cluster_tree.specs.Contents.{Contents, Entry, FolderEntry, FileEntry, IsTree, entry_at, is_folder, or_root}
 use Rattle.cluster_tree.specs.Folders.{IsListing, lies_in}
 use Rattle.cluster_tree.specs.PathOrder.{path_eq}
-use Rattle.cluster_tree.specs.PathValue.{PathValue, below, front, is_part, path_cmp, path_of, path_text}
+use Rattle.cluster_tree.specs.PathValue.{PathValue, below, front, is_part, path_cmp, path_text}
 use Rattle.cluster_tree.proofs.OrderLemmas.{path_cmp_total, path_eq-own, path_eq-same}
 use Rattle.file_walk.specs.declared.entries.Listed.{Listed}
 use Rattle.file_walk.specs.declared.entry.Entry.{Entry as Walked}
@@ -28,16 +27,16 @@ use Rattle.file_walk.specs.declared.waiting.Waiting.{Waiting}
 use Rattle.file_walk.specs.declared.waiting.Waiting.TheVariants.{At, TooDeep}
 use Rattle.file_walk.specs.Faults.{IsFree}
 use Rattle.file_walk.specs.Seeing.{HasFlaw}
-use Rattle.file_walk.specs.Stepping.{FitsLook, FitsNext, FitsStep, IsFileStep, IsFirstThere, IsFolderStep, IsThere}
+use Rattle.file_walk.specs.Stepping.{FitsNext, FitsStep, IsFileStep, IsFirstThere, IsFolderStep, IsThere}
 use Rattle.file_walk.specs.Walk.{HasParts, entry_flaw, flaw_at, found_below, root_flaw, size_flaw, walk_of, walked}
 use Rattle.file_walk.specs.Waiting.{put_names}
-use Rattle.file_walk.proofs.AscendLemmas.{found, itself, key, value, deeper, proper_below}
+use Rattle.file_walk.proofs.AscendLemmas.{key, value, deeper, proper_below}
 use Rattle.file_walk.proofs.ClosedLemmas.{In, found_stands, in_middle, Stands}
-use Rattle.file_walk.proofs.FolderStepLemmas.{folder_on, rest_up}
+use Rattle.file_walk.proofs.FolderStepLemmas.{folder_on}
 use Rattle.file_walk.proofs.FoundLemmas.{back_below}
 use Rattle.file_walk.proofs.LoopLemmas.{next_is, none_left, same_pass}
 use Rattle.file_walk.proofs.NamedLemmas.{AreNamed, named_by, parts_below}
-use Rattle.file_walk.proofs.QueueLemmas.{text_cmp, entry, Ascends, IsClosed, waits, waits_more}
+use Rattle.file_walk.proofs.QueueLemmas.{entry, Ascends, IsClosed, waits, waits_more}
 use Rattle.file_walk.proofs.StepLemmas.{place_of, waiting_of}
 use Rattle.file_walk.proofs.WholeLemmas.{holds, top}
 
@@ -87,10 +86,15 @@ next_of c root listed text w rest p (x ∷ others) is =
     p.queue_is ∙ ap (queue_of root p.done) is ∙ next_is (key root) (value root) top holds p.done x others closed in
     let is_next : (w ≡ waiting_of root x.0) × (rest ≡ queue_of root p.done others) = heads text (path_text x.0) w (waiting_of root x.0) rest (queue_of root p.done others) two in
     record {
-      done = p.done; x = x; others = others;
+      done = p.done;
+      x = x;
+      others = others;
       split = p.split ∙ ap (λ l. p.done ++ l) is;
-      listed_is = p.listed_is; flawless = p.flawless;
-      next_waits = is_next.0; rest_is = is_next.1; closed = closed;
+      listed_is = p.listed_is;
+      flawless = p.flawless;
+      next_waits = is_next.0;
+      rest_is = is_next.1;
+      closed = closed;
       ascends = subst (λ l. Ascends (key root) (value root) (p.done ++ l)) is p.ascends;
       named = p.named;
     }
@@ -246,7 +250,8 @@ module _ (c : Contents) (root : PathValue) where
         → flaw n.x ≡ None → walked n.x ≡ Some e → new ≡ queue_of root (n.done ++ n.x ∷ []) n.others
         → (is_folder (Some n.x.1) ≡ true → AreNamed c (below root n.x.0.parts)) → Progress c root (listed ++ e ∷ []) new
     advance w rest n e new fine is queued names = record {
-      done = n.done ++ n.x ∷ []; others = n.others;
+      done = n.done ++ n.x ∷ [];
+      others = n.others;
       split = n.split ∙ sym (append_assoc n.done (n.x ∷ []) n.others);
       listed_is = ap (λ l. l ++ e ∷ []) n.listed_is ∙ sym (filter_map-append walked n.done (n.x ∷ []) ∙ ap (λ o. filter_map walked n.done ++ cons_option o []) is);
       flawless = first_on flaw n.done (n.x ∷ []) n.flawless ∙ first_fine flaw n.x fine;

@@ -1,5 +1,5 @@
 -- What waits, as a list in the order of texts: what is put into it stands where it would stand in the order of all.
-use Rattle.std.proofs.Common.{◌≡◌, ℕ, Bool, true, false, cond, ◌||◌, List, [], ◌∷◌, ◌++◌, map, filter, refl, ap, sym, ◌∙◌}
+use Rattle.std.proofs.Common.{◌≡◌, ℕ, Bool, true, false, cond, ◌||◌, List, [], ◌∷◌, ◌++◌, map, filter, refl, ap, ◌∙◌}
 use Rattle.std.specs.declared.cmp.Ordering.{Ordering}
 use Rattle.std.specs.declared.cmp.Ordering.TheVariants.{Less, Equal, Greater}
 use Rattle.std.specs.BTreeMap.{insert_entry}
@@ -20,6 +20,7 @@ put_by_text {S} {V} text_of cmp same (e ∷ es) s v = by (cmp s e.0) (text_cmp (
   where
     told : List (S × V) → List (List ℕ × V)
     told entries = map (λ (e : S × V). (text_of e.0, e.1)) entries
+
     by : (a b : Ordering) → a ≡ b → told (insert_entry cmp es s v) ≡ insert_entry text_cmp (told es) (text_of s) v
         → told (match_ordering a ((s, v) ∷ e ∷ es) ((e.0, v) ∷ es) (e ∷ insert_entry cmp es s v))
         ≡ match_ordering b ((text_of s, v) ∷ told (e ∷ es)) ((text_of e.0, v) ∷ told es) ((text_of e.0, e.1) ∷ insert_entry text_cmp (told es) (text_of s) v)
@@ -81,6 +82,7 @@ module _ {X V : Type 0} (key : X → List ℕ) (value : X → V) where
     where
       behind : put_all (entry x ∷ map entry (filter first xs)) (filter second xs) ≡ entry x ∷ map entry (filter (λ x. first x || second x) xs)
       behind = all_behind x (filter second xs) (map entry (filter first xs)) (above_part second x xs h) ∙ ap (λ l. entry x ∷ l) rest
+
       by : (a b : Bool) → put_all (map entry (cond a (x ∷ filter first xs) (filter first xs))) (cond b (x ∷ filter second xs) (filter second xs))
           ≡ map entry (cond (a || b) (x ∷ filter (λ x. first x || second x) xs) (filter (λ x. first x || second x) xs))
       by true true = ap (λ l. put_all l (filter second xs)) (put_again x (map entry (filter first xs)) own) ∙ behind

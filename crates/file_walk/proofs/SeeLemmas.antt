@@ -1,6 +1,5 @@
 -- Refusals of listings of folders that are there.
-use Rattle.std.proofs.Common.{◌≡◌, ◌⊎◌, ℕ, Bool, true, false, cond, inl, inr, Option, None, Some, Result, Ok, Err, refl, ap, sym, ◌∙◌, true≢false, subst}
-use Rattle.cluster_tree.specs.Causes.{Passes}
+use Rattle.std.proofs.Common.{◌≡◌, ◌⊎◌, true, false, inl, inr, Option, None, Some, refl, ap, sym, ◌∙◌, true≢false, subst}
 use Rattle.cluster_tree.specs.Contents.{Contents, Entry, FolderEntry, FileEntry, LinkEntry, entry_at, is_folder}
 use Rattle.cluster_tree.specs.Folders.{list_refusal}
 use Rattle.cluster_tree.specs.PathValue.{PathValue}

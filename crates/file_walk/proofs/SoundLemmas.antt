@@ -1,15 +1,14 @@
 -- What waits is sound over every tree: a place is below its folder, and its text is that of its path.
-use Rattle.std.proofs.Common.{◌≡◌, ℕ, ◌+◌, ◌<◌, ◌≤◌, Bool, true, false, cond, ◌&&◌, nat_lt, String, List, [], ◌∷◌, ◌++◌, length, map, refl, ap, ap₂, sym, subst, ◌∙◌, arith}
+use Rattle.std.proofs.Common.{◌≡◌, ℕ, ◌+◌, ◌≤◌, Bool, true, false, cond, ◌&&◌, nat_lt, List, [], ◌∷◌, ◌++◌, length, refl, ap, sym, subst, ◌∙◌, arith}
 use Rattle.std.proofs.lemmas.List.{length-append}
 use Rattle.std.proofs.lemmas.List.Folds.{list_all-append}
 use Rattle.std.specs.declared.cmp.Ordering.{Ordering}
 use Rattle.std.specs.declared.cmp.Ordering.TheVariants.{Less, Equal, Greater}
 use Rattle.std.specs.BTreeMap.{insert_entry}
-use Rattle.std.specs.Cmp.Lexicographic.{slice_cmp}
 use Rattle.std.specs.FinMap.{nat_cmp-IsAntisymmetric, slice_cmp-IsAntisymmetric}
 use Rattle.std.specs.List.{list_all}
-use Rattle.std.specs.Ordering.{nat_cmp, match_ordering}
-use Rattle.cluster_tree.specs.PathValue.{PathValue, below, front, is_part, path_text}
+use Rattle.std.specs.Ordering.{match_ordering}
+use Rattle.cluster_tree.specs.PathValue.{PathValue, below, front, is_part}
 use Rattle.file_walk.specs.declared.place.Place.{Place}
 use Rattle.file_walk.specs.declared.waiting.Waiting.{Waiting}
 use Rattle.file_walk.specs.declared.waiting.Waiting.TheVariants.{At, TooDeep}
@@ -58,10 +57,11 @@ child_sound folder name place proper part =
     let own : length (folder.own.parts ++ name ∷ []) ≡ length folder.own.parts + 1 = length-append folder.own.parts (name ∷ []) in
     let full : length (folder.full.parts ++ name ∷ []) ≡ length folder.full.parts + 1 = length-append folder.full.parts (name ∷ []) in
     let short : length folder.own.parts ≤ length folder.full.parts = place.1 in
-    let more : length (folder.own.parts ++ name ∷ []) ≤ length (folder.full.parts ++ name ∷ []) = omega arith in
-    ((place.0, more),
-    (list_all-append is_part folder.own.parts (name ∷ []) ∙ both (list_all is_part folder.own.parts) (list_all is_part (name ∷ [])) proper (one_proper name part)),
-    refl)
+    let more : length (folder.own.parts ++ name ∷ []) ≤ length (folder.full.parts ++ name ∷ []) = omega arith in (
+      (place.0, more),
+      (list_all-append is_part folder.own.parts (name ∷ []) ∙ both (list_all is_part folder.own.parts) (list_all is_part (name ∷ [])) proper (one_proper name part)),
+      refl,
+    )
 
 name_sound : (b : Bool) (folder : Place) (name : List ℕ) → IsPlace folder → list_all is_part folder.own.parts ≡ true → is_part name ≡ true
     → IsSoundAt (text_at folder name) (cond b (At (child_place folder name)) (TooDeep (front 64 (below folder.own (name ∷ [])))))

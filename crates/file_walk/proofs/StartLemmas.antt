@@ -1,11 +1,11 @@
 -- How a walk begins: the names in the root wait.
-use Rattle.std.proofs.Common.{◌≡◌, ◌⊎◌, ℕ, ◌≤◌, Bool, true, false, cond, ◌||◌, inl, inr, List, [], ◌∷◌, ◌++◌, length, map, filter, Option, None, Some, Ok, Err, refl, ap, ap₂, sym, subst, ◌∙◌, append-nil, arith}
+use Rattle.std.proofs.Common.{◌≡◌, ◌⊎◌, ℕ, ◌≤◌, Bool, true, false, ◌||◌, inl, inr, List, [], ◌∷◌, ◌++◌, length, map, filter, Option, None, Some, Ok, Err, refl, ap, ap₂, sym, subst, ◌∙◌, append-nil, arith}
 use Rattle.std.specs.FinMap.{entries}
-use Rattle.std.specs.List.{filter_map, list_all, list_any}
+use Rattle.std.specs.List.{filter_map, list_all}
 use Rattle.cluster_tree.specs.Causes.{first_of, unless, Rose}
 use Rattle.cluster_tree.specs.Contents.{Contents, Entry, FolderEntry, FileEntry, LinkEntry, IsTree, entry_at}
-use Rattle.cluster_tree.specs.Folders.{IsListing, lies_in, names_in}
-use Rattle.cluster_tree.specs.PathValue.{PathValue, below, is_part, path_of}
+use Rattle.cluster_tree.specs.Folders.{IsListing, names_in}
+use Rattle.cluster_tree.specs.PathValue.{PathValue, below, is_part}
 use Rattle.cluster_tree.proofs.NamesLemmas.{listing_names}
 use Rattle.cluster_tree.proofs.OrderLemmas.{same_path}
 use Rattle.cluster_tree.specs.declared.file_fault.FileFault.TheVariants as file
@@ -18,7 +18,7 @@ use Rattle.file_walk.specs.Stepping.{IsBegun}
 use Rattle.file_walk.specs.Waiting.{put_names}
 use Rattle.file_walk.specs.Faults.{IsFree}
 use Rattle.file_walk.specs.Walk.{flaw_at, found_below, root_flaw, walk_of, walked}
-use Rattle.file_walk.proofs.AscendLemmas.{found, itself, key, value}
+use Rattle.file_walk.proofs.AscendLemmas.{itself, key, value}
 use Rattle.file_walk.proofs.FoundLemmas.{children}
 use Rattle.file_walk.proofs.LoopLemmas.{same_pass}
 use Rattle.file_walk.proofs.ProgressLemmas.{Progress, queue_of}
@@ -62,7 +62,9 @@ module _ (c : Contents) (root : PathValue) where
   pub begun_with : (place : Place) → place.own ≡ here → place.full ≡ root → (names : List (List ℕ)) → IsListing c root names → list_all is_part names ≡ true
       → (queue : List (List ℕ × Waiting)) → queue ≡ put_names place [] names → IsBegun c root queue
   begun_with place own full names listing parts queue is = record {
-    names = names; listing = listing; parts = parts;
+    names = names;
+    listing = listing;
+    parts = parts;
     put = is ∙ ap₂ (λ (o f : PathValue). put_names (record { own = o; full = f }) [] names) own full;
   }
 
@@ -70,10 +72,13 @@ module _ (c : Contents) (root : PathValue) where
   pub started : IsTree c → list_all is_part root.parts ≡ true → (queue : List (List ℕ × Waiting)) → IsBegun c root queue → Progress c root [] queue
   unfolding first_of
   started tree proper queue begun = record {
-    done = []; others = found_below c root;
-    split = refl; listed_is = refl; flawless = refl;
+    done = [];
+    others = found_below c root;
+    split = refl;
+    listed_is = refl;
+    flawless = refl;
     queue_is = begun.put ∙ ap (λ (f : PathValue). put_names (record { own = here; full = f }) [] begun.names) same_root
-    ∙ names_wait proper begun.names (subst (λ (p : PathValue). IsListing c p begun.names) same_root begun.listing) begun.parts;
+        ∙ names_wait proper begun.names (subst (λ (p : PathValue). IsListing c p begun.names) same_root begun.listing) begun.parts;
     closed = all_closed c tree root;
     ascends = found_in_order c root;
     named = λ x none folder. absurd none;

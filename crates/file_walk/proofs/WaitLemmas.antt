@@ -1,5 +1,5 @@
 -- Names of a folder that wait.
-use Rattle.std.proofs.Common.{◌≡◌, ℕ, zero, suc, ◌<◌, List, [], ◌∷◌, length, take, slice_get, Some, None, refl, ap, sym, ◌∙◌, arith}
+use Rattle.std.proofs.Common.{◌≡◌, ℕ, zero, suc, List, [], ◌∷◌, take, slice_get, Some, refl, ap}
 use Rattle.file_walk.specs.declared.place.Place.{Place}
 use Rattle.file_walk.specs.declared.waiting.Waiting.{Waiting}
 use Rattle.file_walk.specs.Waiting.{put_name, put_names}

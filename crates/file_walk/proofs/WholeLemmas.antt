@@ -1,5 +1,5 @@
 -- All that lies below a root, as the list that a walk goes through.
-use Rattle.std.proofs.Common.{◌≡◌, ℕ, ◌+◌, ◌-◌, ◌<◌, ◌≤◌, Bool, true, false, ◌&&◌, ◌||◌, nat_lt, List, [], ◌∷◌, ◌++◌, length, take, drop, Some, refl, ap, ap₂, sym, subst, ◌∙◌, arith, rules}
+use Rattle.std.proofs.Common.{◌≡◌, ℕ, ◌-◌, ◌<◌, Bool, true, false, ◌&&◌, ◌||◌, nat_lt, List, [], ◌∷◌, ◌++◌, length, drop, Some, refl, ap, sym, subst, ◌∙◌, arith}
 use Rattle.std.proofs.lemmas.Bool.Decides.{nat_tests}
 use Rattle.std.proofs.lemmas.List.{length-drop}
 use Rattle.std.specs.declared.cmp.Ordering.TheVariants.{Less}
@@ -8,12 +8,11 @@ use Rattle.std.specs.List.{list_any}
 use Rattle.cluster_tree.specs.Contents.{Contents, Entry, FolderEntry, IsTree, is_folder, parent}
 use Rattle.cluster_tree.specs.Folders.{last_part, lies_in}
 use Rattle.cluster_tree.specs.PathOrder.{path_eq}
-use Rattle.cluster_tree.specs.PathValue.{PathValue, below, path_of, path_text}
-use Rattle.cluster_tree.proofs.FolderLemmas.{lies_in-below}
+use Rattle.cluster_tree.specs.PathValue.{PathValue, below, path_text}
 use Rattle.cluster_tree.proofs.OrderLemmas.{path_eq-own, same_path}
 use Rattle.file_walk.specs.Actions.{here}
-use Rattle.file_walk.specs.Walk.{found_below, from_root, lies_below}
-use Rattle.file_walk.proofs.AscendLemmas.{deeper, found, found_ascends, itself, key, value}
+use Rattle.file_walk.specs.Walk.{found_below}
+use Rattle.file_walk.proofs.AscendLemmas.{deeper, found_ascends, itself, key, value}
 use Rattle.file_walk.proofs.ClosedLemmas.{In, any_in, found_stands, front_less, in_middle, parent_found, stands_before, Stands}
 use Rattle.file_walk.proofs.FoundLemmas.{name_in}
 use Rattle.file_walk.proofs.LoopLemmas.{closed_from}
@@ -58,16 +57,20 @@ found_closed c tree root x before after split = by (parent x.0).parts refl
   where
     stands : Stands root (entries c) x
     stands = found_stands root (entries c) x (subst (In x) (sym split) (in_middle x before after))
+
     relative : x.0.absolute ≡ false
     relative = ap (λ (p : PathValue). p.absolute) stands.own
+
     some : 0 < length x.0.parts
     some =
         let low : length root.parts < length stands.path.parts = deeper root stands.path stands.low in
         let size : length (drop (length root.parts) stands.path.parts) ≡ length stands.path.parts - length root.parts = length-drop (length root.parts) stands.path.parts in
         let same : length x.0.parts ≡ length (drop (length root.parts) stands.path.parts) = ap (λ (p : PathValue). length p.parts) stands.own in
         omega (arith, low, size, same)
+
     named : x.0 ≡ below (parent x.0) (last_part x.0 ∷ [])
     named = name_in (parent x.0) x.0 (in_parent x.0 some)
+
     by : (parts : List (List ℕ)) → (parent x.0).parts ≡ parts → (top x || list_any (λ p. holds p x) before) ≡ true
     by [] none = or_left (top x) (list_any (λ p. holds p x) before) (at_top x.0 relative some none)
     by (part ∷ parts) is =

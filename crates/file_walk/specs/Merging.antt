@@ -1,5 +1,5 @@
 -- How the pairs of two walks are put together, path by path. Own: "The order of a walk".
-use Rattle.std.specs.Prelude.{◌≡◌, ℕ, true, List, [], ◌∷◌, map, string_bytes, Option, None, Some}
+use Rattle.std.specs.Prelude.{◌≡◌, ℕ, true, List, [], ◌∷◌, map, Option, None, Some}
 use Rattle.std.specs.FinMap.{FinMap, entries, get, insert}
 use Rattle.cluster_tree.specs.PathValue.{PathValue, path_cmp, path_text}
 use Rattle.file_walk.specs.declared.entry.Entry.{Entry}

@@ -4,7 +4,7 @@ use Rattle.std.specs.BTreeMap.{insert_entry}
 use Rattle.std.specs.List.{list_all}
 use Rattle.std.specs.Cmp.Lexicographic.{slice_cmp}
 use Rattle.std.specs.Ordering.{nat_cmp}
-use Rattle.cluster_tree.specs.PathValue.{PathValue, below, front, is_part, path_text}
+use Rattle.cluster_tree.specs.PathValue.{below, front, is_part, path_text}
 use Rattle.file_walk.specs.declared.place.Place.{Place}
 use Rattle.file_walk.specs.declared.waiting.Waiting.{Waiting}
 use Rattle.file_walk.specs.declared.waiting.Waiting.TheVariants.{At, TooDeep}

@@ -31,7 +31,7 @@ fn add_target(pairs: &mut Pairs, listed: Listed) -> Result<(), OutOfMemory>
     ensures added { OnOk result ((m : PairMap) →
         IsMerged m (by_text string_bytes pairs.old.entries) →
         IsMerged (insert m listed.entry.path (of_target listed.entry))
-            (by_text string_bytes pairs.new.entries)) }
+        (by_text string_bytes pairs.new.entries)) }
 {
     let pair = Pair {
         path: listed.entry.path,
@@ -48,7 +48,7 @@ fn add_source(pairs: &mut Pairs, listed: Listed) -> Result<(), OutOfMemory>
     ensures added { OnOk result ((m : PairMap) →
         IsMerged m (by_text string_bytes pairs.old.entries) →
         IsMerged (insert m listed.entry.path (of_source (get m listed.entry.path) listed.entry))
-            (by_text string_bytes pairs.new.entries)) }
+        (by_text string_bytes pairs.new.entries)) }
 {
     let target = match pairs.get(listed.text.as_str()) {
         Some(pair) => pair.target,
@@ -90,11 +90,7 @@ fn with_source(pairs: &mut Pairs, source: Entries) -> Result<(), OutOfMemory>
 /// The paths of a target and of a source, each once, in ascending order of their texts, with what
 /// stands there on either side, where both are in order, as what a walk told of a tree that tells.
 /// Answers `OutOfMemory` only for want of memory.
-pub fn pair_up(
-    alloc: Global,
-    target: Entries,
-    source: Entries,
-) -> Result<Vec<Pair>, OutOfMemory>
+pub fn pair_up(alloc: Global, target: Entries, source: Entries) -> Result<Vec<Pair>, OutOfMemory>
     ensures value { AreInOrder target → AreInOrder source →
         IfOk result (λ pairs. pairs.items ≡ pairs_of target source) }
 {

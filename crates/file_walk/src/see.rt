@@ -28,11 +28,7 @@ pub(crate) enum Seen {
 }
 
 /// What stands at a path of which a listing has told, or the flaw that it has.
-pub(crate) fn see<F: Tree>(
-    alloc: Global,
-    tree: &mut F,
-    place: &Place,
-) -> Result<Seen, WalkFault>
+pub(crate) fn see<F: Tree>(alloc: Global, tree: &mut F, place: &Place) -> Result<Seen, WalkFault>
     requires there { IsTrue F.tells → is_some (get (F.contents tree.old) place.now.full) ≡ true }
     ensures seen { IsTrue F.tells →
         FitsSeen (F.contents tree.old) place.now.own place.now.full result }

@@ -39,12 +39,7 @@ fn wait_for(alloc: Global, folder: &Place, name: &str) -> Result<Waiting, OutOfM
 }
 
 // Lets a name of a folder wait.
-fn add_name(
-    alloc: Global,
-    queue: &mut Queue,
-    folder: &Place,
-    name: &str,
-) -> Result<(), WalkFault>
+fn add_name(alloc: Global, queue: &mut Queue, folder: &Place, name: &str) -> Result<(), WalkFault>
     requires place { IsPlace folder.now }
     requires proper { is_part name.now ≡ true }
     ensures added { OnOk result (by_text string_bytes queue.new.entries

@@ -34,11 +34,7 @@ use std::collections::BTreeMap;
 /// isn't UTF-8; and `OddSize` of a main fork file whose bytes are no whole blocks. `File` else
 /// holds `ReadFault` where a read of the device failed, `Changed` where the tree contradicted
 /// itself about that path, and `OutOfMemory`.
-pub fn walk<F: Tree>(
-    alloc: Global,
-    tree: &mut F,
-    root: &Path,
-) -> Result<Entries, WalkFault>
+pub fn walk<F: Tree>(alloc: Global, tree: &mut F, root: &Path) -> Result<Entries, WalkFault>
     ensures exact { IsTrue F.tells → Meets IsFree (walk_of (F.contents tree.old) root.now) result }
     ensures reads { Reads F.Tree tree.old tree.new }
     ensures read_fault { IsErrOf result (WalkFault.File file.ReadFault) →

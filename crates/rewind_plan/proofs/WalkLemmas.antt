@@ -17,11 +17,10 @@ use Rattle.file_walk.specs.declared.fault.WalkFault.{WalkFault}
 use Rattle.file_walk.specs.declared.fault.WalkFault.TheVariants as fault
 use Rattle.file_walk.specs.Pairs.{kind_at, kind_in}
 use Rattle.file_walk.specs.Relations.{relation_of}
-use Rattle.file_walk.specs.Walk.{entry_flaw, flaw_at, found_below, from_root, kind_of_entry, kind_there, lies_below, root_flaw, size_flaw, walk_of, walked}
+use Rattle.file_walk.specs.Walk.{HasParts, entry_flaw, flaw_at, found_below, from_root, kind_of_entry, kind_there, lies_below, root_flaw, size_flaw, walk_of, walked}
 use Rattle.file_walk.proofs.AscendLemmas.{deeper, found, found_by, proper_below}
 use Rattle.file_walk.proofs.FoundLemmas.{back_below, told_below}
 use Rattle.rewind_plan.specs.Sides.{IsKind, IsWhole}
-use Rattle.file_walk.specs.Walk.{HasParts}
 use Rattle.rewind_plan.proofs.PlaceLemmas.{deep_in}
 use Rattle.rewind_plan.proofs.SideLemmas.{below-same}
 
@@ -60,7 +59,7 @@ module _ (root : PathValue) (parts : List (List ℕ)) where
       by true is rest =
           ap (λ b. cond b (Some e.1) (find path_cmp (path_of false parts) (found root es)))
           (path_eq-other (path_of false parts) (from_root root e.0) (λ same.
-              true≢false (sym (proper_below root e.0 is) ∙ ap (λ (p : PathValue). list_all is_part p.parts) (back_below root e.0 is ∙ ap (λ (p : PathValue). below root p.parts) (sym same)) ∙ odd)))
+          true≢false (sym (proper_below root e.0 is) ∙ ap (λ (p : PathValue). list_all is_part p.parts) (back_below root e.0 is ∙ ap (λ (p : PathValue). below root p.parts) (sym same)) ∙ odd)))
           ∙ rest
       by false is rest = rest
 

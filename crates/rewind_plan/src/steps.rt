@@ -7,9 +7,9 @@ ghost use Rattle.rewind_plan.specs.Planned.{action_of, all_file_steps, both_file
 ghost use Rattle.rewind_plan.specs.Between.{between};
 ghost use Rattle.rewind_plan.specs.Room.{AllHaveRoom, HasRoom};
 
-use crate::roots::Clusters;
 use crate::files::put_blocks;
 use crate::place::{Places, place};
+use crate::roots::Clusters;
 use crate::runs::{Segment, copied_runs};
 use block_refs::RelName;
 use cluster_tree::{OutOfMemory, Path};

@@ -1,8 +1,7 @@
-use Rattle.std.proofs.Common.{◌≡◌, ℕ, List, String, Global, string_bytes, refl, ap, sym, subst, ◌∙◌}
+use Rattle.std.proofs.Common.{ℕ, List, Global, string_bytes, refl, ap, sym, subst, ◌∙◌}
 use Rattle.std.specs.BTreeMap.{insert_entry}
 use Rattle.std.specs.FinMap.{insert}
 use Rattle.std.specs.String.{string_cmp}
-use Rattle.file_walk.specs.declared.pair.Pair.{Pair}
 use Rattle.file_walk.specs.Listed.{by_text}
 use Rattle.file_walk.specs.Merging.{IsMerged, of_target}
 use Rattle.file_walk.proofs.MergeLemmas.{put_merged}

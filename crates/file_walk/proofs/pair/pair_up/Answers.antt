@@ -1,4 +1,4 @@
-use Rattle.std.proofs.Common.{◌≡◌, List, String, Global, string_bytes, map, rules, ◌∙◌}
+use Rattle.std.proofs.Common.{◌≡◌, String, Global, string_bytes, map, rules, ◌∙◌}
 use Rattle.std.specs.FinMap.{empty}
 use Rattle.file_walk.specs.declared.pair.Pair.{Pair}
 use Rattle.file_walk.specs.Merging.{with_sources, with_targets}

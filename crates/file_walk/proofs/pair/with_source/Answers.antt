@@ -1,8 +1,7 @@
-use Rattle.std.proofs.Common.{◌≡◌, ℕ, List, [], ◌∷◌, ◌++◌, length, vec_len, String, Global, string_bytes, ap, sym, subst, ◌∙◌, arith}
+use Rattle.std.proofs.Common.{List, [], ◌∷◌, Global, string_bytes, ap, sym, subst, ◌∙◌, arith}
 use Rattle.std.proofs.lemmas.List.{map-append}
 use Rattle.file_walk.specs.declared.entries.Listed.{Listed}
 use Rattle.file_walk.specs.declared.entry.Entry.{Entry}
-use Rattle.file_walk.specs.declared.pair.Pair.{Pair}
 use Rattle.file_walk.specs.Listed.{by_text, entries_in}
 use Rattle.file_walk.specs.Merging.{IsMerged, PairMap, with_sources}
 use Rattle.file_walk.proofs.EachLemmas.{all_given, one_listed}

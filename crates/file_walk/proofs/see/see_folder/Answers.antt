@@ -1,4 +1,4 @@
-use Rattle.std.proofs.Common.{◌≡◌, ap, ◌∙◌, sym, Err}
+use Rattle.std.proofs.Common.{◌≡◌, ap, ◌∙◌, Err}
 use Rattle.cluster_tree.specs.declared.file_fault.FileFault.TheVariants as file
 use Rattle.cluster_tree.specs.declared.tree.TreeFault.TheVariants as tree
 use Rattle.file_walk.specs.declared.fault.WalkFault.TheVariants as fault

@@ -1,4 +1,4 @@
-use Rattle.std.proofs.Common.{◌≡◌, ◌<◌, length, string_bytes, Global, sym, ap, ◌∙◌, add-one, arith}
+use Rattle.std.proofs.Common.{◌<◌, length, string_bytes, Global, sym, ap, ◌∙◌, add-one, arith}
 use Rattle.cluster_tree.proofs.PartLemmas.{part_at}
 use Rattle.file_walk.specs.Listed.{by_text}
 use Rattle.file_walk.specs.Waiting.{put_name}

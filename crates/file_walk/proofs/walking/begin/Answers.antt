@@ -1,4 +1,4 @@
-use Rattle.std.proofs.Common.{◌≡◌, List, [], String, Global, string_bytes, ap, sym, subst, ◌∙◌}
+use Rattle.std.proofs.Common.{List, [], String, Global, string_bytes, ap, sym, subst, ◌∙◌}
 use Rattle.file_walk.specs.declared.waiting.Waiting.{Waiting}
 use Rattle.file_walk.specs.Listed.{by_text}
 use Rattle.file_walk.specs.Waiting.{AllSound, put_names}

@@ -1,10 +1,9 @@
-use Rattle.std.proofs.Common.{◌≡◌, ℕ, List, ◌∷◌, String, Global, string_bytes, Ok, Err, Some, Result, Option, ap, sym, subst, ◌∙◌}
+use Rattle.std.proofs.Common.{ℕ, List, Global, string_bytes, Ok, Err, Some, ap, sym, subst}
 use Rattle.std.proofs.lemmas.Result.{err_from_is_err_and}
-use Rattle.file_walk.specs.declared.entries.Listed.{Listed}
 use Rattle.file_walk.specs.declared.waiting.Waiting.{Waiting}
 use Rattle.file_walk.specs.Listed.{by_text}
 use Rattle.file_walk.specs.Stepping.{FitsNext, IsFirstThere}
-use Rattle.file_walk.specs.Waiting.{AllSound, IsSoundAt}
+use Rattle.file_walk.specs.Waiting.{AllSound}
 use Rattle.file_walk.proofs.ListedLemmas.{listed_of}
 use Rattle.file_walk.proofs.SoundLemmas.{place_proper, place_sound}
 use Rattle.file_walk.proofs.walking.next.Goals as goal

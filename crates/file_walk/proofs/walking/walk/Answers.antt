@@ -1,4 +1,4 @@
-use Rattle.std.proofs.Common.{◌≡◌, ℕ, List, [], ◌∷◌, ◌++◌, Global, string_bytes, Option, Result, Ok, Err, Some, None, IfSome, ap, sym, subst, ◌∙◌}
+use Rattle.std.proofs.Common.{◌≡◌, List, [], ◌∷◌, ◌++◌, Global, string_bytes, Option, Result, Ok, Err, IfSome, ap, sym, subst, ◌∙◌}
 use Rattle.std.proofs.lemmas.List.{map-append}
 use Rattle.std.proofs.lemmas.List.Elements.{All-nil}
 use Rattle.std.proofs.lemmas.Result.{err_from_is_err_and}
@@ -9,7 +9,6 @@ use Rattle.file_walk.specs.declared.entries.Listed.{Listed}
 use Rattle.file_walk.specs.declared.entry.Entry.{Entry}
 use Rattle.file_walk.specs.declared.fault.WalkFault.{WalkFault}
 use Rattle.file_walk.specs.declared.fault.WalkFault.TheVariants as fault
-use Rattle.file_walk.specs.declared.waiting.Waiting.{Waiting}
 use Rattle.file_walk.specs.Listed.{AreListed, IsListed, by_text, entries_in}
 use Rattle.file_walk.specs.Stepping.{FitsNext, IsFirstThere}
 use Rattle.file_walk.proofs.ListedLemmas.{more_listed}
@@ -107,6 +106,6 @@ loop-preserved g c =
           (subst (λ (t : Contents). FitsNext t (by_text (string_bytes {Z = Global}) c.loop.queue.entries) (by_text (string_bytes {Z = Global}) c.next.new.queue.entries) (Ok c.in_ok-entry.field-0)) c.loop.invariant.reads.same (c.in_ok-entry.ensures.stepped told))));
       sound = c.in_ok-entry.ensures.sound;
       listed = subst AreListed (sym pushed) (more_listed c.loop.listed.items c.in-Some.entry c.loop.invariant.listed
-      (subst (λ (r : Option Listed). IfSome r IsListed) c.in-Some.is c.in_ok-entry.ensures.listed));
+          (subst (λ (r : Option Listed). IfSome r IsListed) c.in-Some.is c.in_ok-entry.ensures.listed));
       reads = reads_on g.F.Tree c.args.tree.now c.loop.tree c.next.new.tree c.loop.invariant.reads c.in_ok-entry.ensures.reads;
     }

@@ -1,0 +1,105 @@
+//! Walks over a tree that tells nothing and has no end: each folder of it has one name.
+use crate::trees::fault_text;
+use cluster_tree::{Kind, Names, Path, Tree, TreeFault};
+use file_walk::walk;
+use std::alloc::Global;
+use std::test::Fail;
+
+/// A tree that says the same of each path, and changes nothing.
+#[derive(Drop)]
+struct Endless {
+    kind: Kind,
+}
+
+impl Tree for Endless {
+    ghost use Rattle.std.specs.Prelude.{false, []};
+    ghost use Rattle.std.specs.FinMap.{empty};
+    ghost use Rattle.cluster_tree.specs.Untold.{untold};
+
+    ghost tells = { false };
+
+    ghost contents = { λ t. empty };
+
+    ghost calls = { λ t. [] };
+
+    ghost failed_reads = { λ t. 0 };
+
+    ghost failed_changes = { λ t. 0 };
+
+    ghost is_tree = { λ told t. untold told };
+
+    fn kind(&mut self, _path: &Path) -> Result<Kind, TreeFault> {
+        Ok(self.kind)
+    }
+
+    fn list(&mut self, alloc: Global, _path: &Path) -> Result<Names, TreeFault> {
+        let mut names = Names::new(alloc);
+        names.push("d")?;
+        Ok(names)
+    }
+
+    fn size(&mut self, _path: &Path) -> Result<u64, TreeFault> {
+        Ok(0)
+    }
+
+    fn read_at(&mut self, _path: &Path, _at: u64, _into: &mut [u8]) -> Result<(), TreeFault> {
+        Ok(())
+    }
+
+    fn write_at(&mut self, _path: &Path, _at: u64, _bytes: &[u8]) -> Result<(), TreeFault> {
+        Ok(())
+    }
+
+    fn cut(&mut self, _path: &Path, _size: u64) -> Result<(), TreeFault> {
+        Ok(())
+    }
+
+    fn make_file(&mut self, _path: &Path) -> Result<(), TreeFault> {
+        Ok(())
+    }
+
+    fn make_folder(&mut self, _path: &Path) -> Result<(), TreeFault> {
+        Ok(())
+    }
+
+    fn remove(&mut self, _path: &Path) -> Result<(), TreeFault> {
+        Ok(())
+    }
+
+    fn sync(&mut self) -> Result<(), TreeFault> {
+        Ok(())
+    }
+}
+
+// Why a walk over such a tree ends.
+fn end_of(alloc: Global, kind: Kind, root: &str) -> Result<String, Fail> {
+    let mut tree = Endless { kind };
+    match walk(alloc, &mut tree, &Path::parse(alloc, root)?) {
+        Ok(_) => Err("it was walked".into()),
+        Err(fault) => fault_text(alloc, &fault),
+    }
+}
+
+/// Roots, and of how many parts the path is that is too deep: that of 65 parts with the root's, but
+/// 64 at most.
+const ROOTS: &[(&str, usize)] = &[(".", 64), ("t", 64), ("t/u", 63), ("/t/u/v", 62)];
+
+#[test]
+fn a_path_of_65_parts_is_too_deep(rt: HostRuntime) -> Result<(), Fail> {
+    for &(root, parts) in ROOTS {
+        let told = end_of(rt.alloc(), Kind::Folder, root)?;
+        let path = told
+            .as_str()
+            .strip_prefix("TooDeep d")
+            .ok_or("another fault")?;
+        assert_eq!(rt; path.len(), 2 * (parts - 1), "{root}");
+    }
+    Ok(())
+}
+
+#[test]
+fn a_tree_that_contradicts_itself_was_changed(rt: HostRuntime) -> Result<(), Fail> {
+    let told = end_of(rt.alloc(), Kind::Absent, "t")?;
+    assert_eq!(rt; told.as_str(), "File t/d was changed meanwhile");
+    Ok(())
+}
