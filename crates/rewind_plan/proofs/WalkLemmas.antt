@@ -1,9 +1,9 @@
 -- What a walk below a root has at a path is what stands there.
-use Rattle.std.proofs.Common.{◌≡◌, ℕ, ◌+◌, ◌-◌, ◌%◌, ◌<◌, ◌==◌, Bool, true, false, not, ◌&&◌, cond, List, [], ◌∷◌, ◌++◌, length, drop, map, Option, None, Some, is_some, refl, sym, ap, ap₂, ◌∙◌, subst, true≢false, arith, rules}
+use Rattle.std.proofs.Common.{◌≡◌, ℕ, ◌+◌, ◌-◌, ◌%◌, ◌<◌, ◌==◌, Bool, true, false, not, ◌&&◌, cond, List, [], ◌∷◌, length, drop, map, Option, None, Some, is_some, refl, sym, ap, ap₂, ◌∙◌, subst, true≢false, arith}
 use Rattle.std.proofs.lemmas.Bool.Decides.{nat_tests}
 use Rattle.std.proofs.lemmas.List.{length-drop}
-use Rattle.std.specs.Prelude.{Result, Ok, Err, if◌then◌else◌, nat_lt}
-use Rattle.std.specs.FinMap.{entries, find, from_entries, get, get-entries, get-from_entries}
+use Rattle.std.specs.Prelude.{Result, Ok, if◌then◌else◌, nat_lt}
+use Rattle.std.specs.FinMap.{entries, find, get, get-entries, get-from_entries}
 use Rattle.std.specs.List.{filter_map, list_all}
 use Rattle.cluster_tree.specs.Causes.{first_of, unless}
 use Rattle.cluster_tree.specs.Contents.{Contents, Entry, FolderEntry, FileEntry, LinkEntry, entry_at, is_folder, or_root}
@@ -17,7 +17,7 @@ use Rattle.file_walk.specs.declared.fault.WalkFault.{WalkFault}
 use Rattle.file_walk.specs.declared.fault.WalkFault.TheVariants as fault
 use Rattle.file_walk.specs.Pairs.{kind_at, kind_in}
 use Rattle.file_walk.specs.Relations.{relation_of}
-use Rattle.file_walk.specs.Walk.{HasParts, entry_flaw, flaw_at, found_below, from_root, kind_of_entry, kind_there, lies_below, root_flaw, size_flaw, walk_of, walked}
+use Rattle.file_walk.specs.Walk.{HasParts, entry_flaw, flaw_at, found_below, from_root, kind_of_entry, kind_there, lies_below, root_flaw, walk_of, walked}
 use Rattle.file_walk.proofs.AscendLemmas.{deeper, found, found_by, proper_below}
 use Rattle.file_walk.proofs.FoundLemmas.{back_below, told_below}
 use Rattle.rewind_plan.specs.Sides.{IsKind, IsWhole}

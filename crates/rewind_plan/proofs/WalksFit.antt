@@ -1,5 +1,5 @@
 -- Two clusters that were walked and whose paths were paired, side by side.
-use Rattle.std.proofs.Common.{◌≡◌, ◌≢◌, ◌⊎◌, ℕ, ◌==◌, Bool, true, false, ◌||◌, cond, List, [], ◌∷◌, length, map, Option, None, Some, is_some, inl, inr, refl, sym, ap, ap₂, ◌∙◌, subst, true≢false}
+use Rattle.std.proofs.Common.{◌≡◌, ◌⊎◌, ℕ, ◌==◌, Bool, true, false, ◌||◌, cond, List, [], ◌∷◌, length, map, Option, None, Some, is_some, inl, inr, refl, sym, ap, ◌∙◌, subst, true≢false}
 use Rattle.std.specs.List.{list_any}
 use Rattle.cluster_tree.specs.Apart.{AreApart}
 use Rattle.cluster_tree.specs.Contents.{Contents, IsTree, entry_at}
@@ -7,8 +7,6 @@ use Rattle.cluster_tree.specs.PathOrder.{path_eq}
 use Rattle.cluster_tree.specs.PathValue.{PathValue, below, path_of}
 use Rattle.cluster_tree.proofs.OrderLemmas.{path_eq-own, same_path}
 use Rattle.control_file.specs.declared.control.Control.{Control}
-use Rattle.file_walk.specs.declared.action.Action.{Action}
-use Rattle.file_walk.specs.declared.action.Action.TheVariants as action
 use Rattle.file_walk.specs.declared.entry.Entry.{Entry}
 use Rattle.file_walk.specs.declared.pair.Pair.{Pair}
 use Rattle.file_walk.specs.Pairs.{kind_in, pair_at, pairs_of, paths_of}
