@@ -1,5 +1,6 @@
 pub mod FaultLemmas
 pub mod ControlLemmas
+pub mod CheckLemmas
 pub mod PlanLemmas
 pub mod SurveyLemmas
 pub mod PerformLemmas

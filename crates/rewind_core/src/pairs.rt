@@ -32,6 +32,7 @@ pub(crate) fn rewound_control(source: &Control, now: i64) -> Control
 }
 
 /// Refuses the least path that has no room where it is made, and then the least whose kinds differ.
+#[tactic(auto, using(crate::proofs::CheckLemmas::check_steps))]
 pub(crate) fn check_pairs(
     alloc: Global,
     clusters: &Clusters<'_>,

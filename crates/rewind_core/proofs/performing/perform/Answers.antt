@@ -1,0 +1,15 @@
+use Rattle.rewind_core.proofs.PerformLemmas.{found, rewound-by, unrefused}
+use Rattle.rewind_core.proofs.performing.perform.Goals as goal
+
+pub returns-clause-runs : goal.returns-clause-runs
+returns-clause-runs g c told n is =
+    (c.perform.ensures.performs (found _ n c.args.plan is) told (unrefused _ n c.args.plan is)).runs
+
+pub returns-clause-rewound : goal.returns-clause-rewound
+returns-clause-rewound g c told n is =
+    rewound-by _ n c.args.plan is c.perform.result
+    (c.perform.ensures.performs (found _ n c.args.plan is) told (unrefused _ n c.args.plan is)).runs
+
+pub returns-clause-changed : goal.returns-clause-changed
+returns-clause-changed g c told n is =
+    (c.perform.ensures.performs (found _ n c.args.plan is) told (unrefused _ n c.args.plan is)).agreed
