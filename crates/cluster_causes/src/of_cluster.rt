@@ -1,5 +1,5 @@
 // The faults of a cluster as causes.
-ghost use Rattle.std.specs.Prelude.{◌≡◌, ◌≢◌, IsTrue};
+ghost use Rattle.std.specs.Prelude.{◌≡◌, IsTrue};
 ghost use Rattle.run_acts.specs.Causes.{IsOfLook, is_of_files};
 ghost use Rattle.cluster_causes.specs.Clusters.{cluster_cause};
 
@@ -11,7 +11,6 @@ pub fn cluster_cause(fault: ClusterFault) -> Cause
     ensures value { result ≡ cluster_cause fault }
     ensures look { IsOfLook result }
     ensures files { IsTrue (is_of_files result) }
-    ensures built { result ≢ Cause.NotBuilt }
 {
     match fault {
         ClusterFault::Unfinished(path) => Cause::Unfinished(path),

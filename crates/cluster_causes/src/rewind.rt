@@ -14,7 +14,6 @@ pub fn rewind_cause(fault: Fault) -> Cause
     ensures look { IsOfLook result ⊎ (fault ≡ Fault.WriteFault) }
     ensures files { IsTrue (is_of_files result) ⊎ IsTrue (is_deep result) ⊎
         (fault ≡ Fault.WriteFault) }
-    ensures built { result ≢ Cause.NotBuilt }
     ensures read { result ≡ Cause.ReadFault → fault ≡ Fault.ReadFault }
     ensures write { result ≡ Cause.WriteFault → fault ≡ Fault.WriteFault }
     ensures sink { result ≢ Cause.SinkFault }

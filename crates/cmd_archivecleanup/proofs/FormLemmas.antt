@@ -129,8 +129,3 @@ pub wet_refused : (c d : Contents) (words : ArchivecleanupWords) (names : List (
 wet_refused c d words names e same wet found (inl free) = inl free
 wet_refused c d words names e same wet (none, is) (inr some) =
     inr (known c words false none wet ∙ ap (λ o. refused_or o (removals c (map (removal words.debug words.folder) (gone c words)))) (ap (unremoved c words.folder) (sym is) ∙ ap (λ x. unremoved x words.folder names) (sym same) ∙ some))
-
--- what is seen of a run that isn't dry
-pub told_wet : {T : Type 0} (dry_run : Bool) → dry_run ≡ false → T ⊎ IsTrue dry_run → T
-told_wet dry_run wet (inl t) = t
-told_wet dry_run wet (inr dry) = absurd (cc (wet, dry))

@@ -56,11 +56,6 @@ module _ (c : Contents) (words : ResetwalWords) {n m : ℤ} where
   pub unseen_at : {Seeing Known : Type 0} {o e : Bool} {ended : Cause} {s u : Seen} → n ≡ m → CarriesUnseen Seeing Known (resetwal_answer c words n) (IsResetwal words n) o e ended s u → CarriesUnseen Seeing Known (resetwal_answer c words m) (IsResetwal words m) o e ended s u
   unseen_at {Seeing} {Known} {o} {e} {ended} {s} {u} is p = subst (λ x. CarriesUnseen Seeing Known (resetwal_answer c words x) (IsResetwal words x) o e ended s u) is p
 
--- what is seen of a run that isn't dry
-pub told_wet : {T : Type 0} (dry : Bool) → dry ≡ false → T ⊎ IsTrue dry → T
-told_wet dry wet (inl t) = t
-told_wet dry wet (inr is) = absurd (cc (wet, is))
-
 -- ---- a dry run
 
 dry_acts : (c : Contents) (words : ResetwalWords) (reset : Reset) → is_some words.options.dry ≡ true → reset_acts c words reset ≡ Print (control_text_of reset.control) ∷ []

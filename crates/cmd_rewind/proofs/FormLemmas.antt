@@ -1,53 +1,144 @@
 -- The forms of what pg_rewind does.
-use Rattle.std.proofs.Common.{◌≡◌, Bool, true, false, inl, inr, refl, Result, Ok, Err, ap, sym, ◌∙◌}
-use Rattle.rewind_survey.specs.Survey.{AtFork, Fits, FitsFound, OneTimeline, Parted, Survey}
+use Rattle.std.proofs.Common.{◌≡◌, ◌⊎◌, ℤ, Bool, true, false, IsTrue, List, inl, inr, refl, sym, ap, ap₂, subst, ◌∙◌, Result, Ok, Err}
+use Rattle.std.specs.Prelude.{if◌then◌else◌}
+use Rattle.cluster_tree.specs.Change.{Change}
+use Rattle.cluster_tree.specs.Contents.{Contents}
 use Rattle.rewind_survey.specs.declared.fault.RewindFault.{RewindFault}
-use Rattle.rewind_survey.specs.declared.outcome.Surveyed.{Surveyed}
-use Rattle.rewind_survey.specs.declared.outcome.Surveyed.TheVariants as surveyed
 use Rattle.rewind_survey.specs.declared.outcome.Told.{Told}
+use Rattle.rewind_writes.specs.Plan.{plan_changes}
+use Rattle.rewind_core.specs.Fits.{Fits, FitsMeant, IsPlanFor}
+use Rattle.rewind_core.specs.Planned.{AtFork, Meant, Needing, Needs, OneTimeline, planned_of}
+use Rattle.rewind_core.specs.declared.outcome.Plan.{Plan}
+use Rattle.rewind_core.specs.declared.outcome.Planned.{Planned}
+use Rattle.rewind_core.specs.declared.outcome.Planned.TheVariants as planned
 use Rattle.commands.specs.declared.rewind.RewindWords.{RewindWords}
-use Rattle.run_acts.specs.declared.cause.Cause.TheVariants as cause
 use Rattle.run_acts.proofs.AnswerSteps.{Looks}
+use Rattle.run_acts.specs.Answers.{Answer, does, refused}
+use Rattle.run_acts.specs.Causes.{IsFree}
+use Rattle.run_acts.specs.declared.cause.Cause.{Cause}
 use Rattle.cluster_causes.specs.Rewind.{rewind_cause}
-use Rattle.cmd_rewind.specs.Rewind.{IsRewind, found_answer, needed_answer, survey_answer, surveyed_answer}
-use Rattle.cmd_rewind.proofs.MeantLemmas.{Meant}
+use Rattle.cmd_rewind.specs.Changes.{needed_changes}
+use Rattle.cmd_rewind.specs.Rewind.{IsRewind, found_answer, made_acts, meant_answer, needed_answer, rewind_answer, rewind_report}
+use Rattle.cmd_rewind.specs.Tasks.{IsTaskFor, IsTaskOf, IsWet, planned_answer, task_acts}
+use Rattle.cmd_rewind.specs.declared.tasks.Task.{Task}
+use Rattle.cmd_rewind.specs.declared.tasks.Task.TheVariants as task
+use Rattle.cmd_rewind.proofs.MeantLemmas.{Looked, planned-looks}
 
-needed-form : (words : RewindWords) (dry_run : Bool) (told : Told) → words.dry_run ≡ dry_run → IsRewind words (needed_answer dry_run told)
-needed-form words true told is = inr (inr (inl (told, is, refl)))
-needed-form words false told is = inr (inr (inr (cause.NotBuilt, inr (inr refl), refl)))
+-- a rewind that is told of or made
+made-form : (words : RewindWords) (c : Contents) (told : Told) (changes : List Change) (dry_run : Bool) → words.dry_run ≡ dry_run
+    → IsRewind words (if dry_run then does (rewind_report told) else does (made_acts told c changes))
+made-form words c told changes true is = inr (inr (inl (told, is, refl)))
+made-form words c told changes false is = inr (inr (inr (inl (told, c, changes, is, refl))))
 
-pub answer-form : (words : RewindWords) (found : Result Survey RewindFault) → Meant found → IsRewind words (found_answer words.dry_run found)
-answer-form words (Ok OneTimeline) looks = inl refl
-answer-form words (Ok (AtFork fork)) looks = inr (inl (fork, refl))
-answer-form words (Ok (Parted part)) looks = needed-form words words.dry_run part.told refl
-answer-form words (Err fault) looks = inr (inr (inr (rewind_cause fault, looks, refl)))
+form_of : (words : RewindWords) (c : Contents) (found : Result Meant RewindFault) → Looked found → IsRewind words (found_answer words.dry_run c found)
+form_of words c (Ok OneTimeline) looks = inl refl
+form_of words c (Ok (AtFork fork)) looks = inr (inl (fork, refl))
+form_of words c (Ok (Needs n)) looks = made-form words c n.aim.told (needed_changes c n) words.dry_run refl
+form_of words c (Err fault) looks = inr (inr (inr (inr (rewind_cause fault, looks, refl))))
 
-pub surveyed-form : (words : RewindWords) (v : Surveyed) → IsRewind words (surveyed_answer words.dry_run v)
-surveyed-form words surveyed.SameTimeline = inl refl
-surveyed-form words (surveyed.EndsAtFork fork) = inr (inl (fork, refl))
-surveyed-form words (surveyed.Parted found) = needed-form words words.dry_run found.told refl
+pub answer-form : (c : Contents) (words : RewindWords) (now : ℤ) → IsRewind words (rewind_answer c words now)
+answer-form c words now = form_of words c (planned_of c words.target words.source now) (planned-looks c words.target words.source now)
 
-needed-looks : (dry_run : Bool) (told : Told) → Looks ((needed_answer dry_run told).acts)
-needed-looks true told = tt
-needed-looks false told = tt
+-- what was planned has a form too, whatever the tree told
+pub planned-form : (words : RewindWords) (c : Contents) (v : Planned) → IsRewind words (planned_answer words.dry_run c v)
+planned-form words c planned.SameTimeline = inl refl
+planned-form words c (planned.EndsAtFork fork) = inr (inl (fork, refl))
+planned-form words c (planned.Needed plan) = made-form words c plan.told (plan_changes c plan.writes) words.dry_run refl
 
-pub answer-looks : (dry_run : Bool) (found : Result Survey RewindFault) → Looks ((found_answer dry_run found).acts)
-answer-looks dry_run (Ok OneTimeline) = tt
-answer-looks dry_run (Ok (AtFork fork)) = tt
-answer-looks dry_run (Ok (Parted part)) = needed-looks dry_run part.told
-answer-looks dry_run (Err fault) = tt
+needed-looks : (dry_run : Bool) (c : Contents) (n : Needing) → Looks ((needed_answer dry_run c n).acts)
+needed-looks true c n = tt
+needed-looks false c n = tt
 
--- what was surveyed is answered as what the clusters are
-fits_answer : (dry_run : Bool) (survey : Survey) (v : Surveyed) → Fits survey v → surveyed_answer dry_run v ≡ survey_answer dry_run survey
-fits_answer dry_run OneTimeline surveyed.SameTimeline fits = refl
-fits_answer dry_run OneTimeline (surveyed.EndsAtFork at) fits = absurd fits
-fits_answer dry_run OneTimeline (surveyed.Parted found) fits = absurd fits
-fits_answer dry_run (AtFork fork) surveyed.SameTimeline fits = absurd fits
-fits_answer dry_run (AtFork fork) (surveyed.EndsAtFork at) fits = ap (λ f. surveyed_answer dry_run (surveyed.EndsAtFork f)) fits
-fits_answer dry_run (AtFork fork) (surveyed.Parted found) fits = absurd fits
-fits_answer dry_run (Parted part) surveyed.SameTimeline fits = absurd fits
-fits_answer dry_run (Parted part) (surveyed.EndsAtFork at) fits = absurd fits
-fits_answer dry_run (Parted part) (surveyed.Parted found) fits = ap (needed_answer dry_run) fits.told
+looks_of : (dry_run : Bool) (c : Contents) (found : Result Meant RewindFault) → Looks ((found_answer dry_run c found).acts)
+looks_of dry_run c (Ok OneTimeline) = tt
+looks_of dry_run c (Ok (AtFork fork)) = tt
+looks_of dry_run c (Ok (Needs n)) = needed-looks dry_run c n
+looks_of dry_run c (Err fault) = tt
 
-pub surveyed_answers : (dry_run : Bool) (found : Result Survey RewindFault) (v : Surveyed) → FitsFound found v → surveyed_answer dry_run v ≡ found_answer dry_run found
-surveyed_answers dry_run found v fits = fits_answer dry_run fits.survey v fits.fits ∙ sym (ap (found_answer dry_run) fits.found)
+pub answer-looks : (c : Contents) (words : RewindWords) (now : ℤ) → Looks ((rewind_answer c words now).acts)
+answer-looks c words now = looks_of words.dry_run c (planned_of c words.target words.source now)
+
+-- ---- what was planned is what is meant
+
+-- the changes of the plan are those that are needed
+changes_are : (c : Contents) (n : Needing) (plan : Plan) → IsPlanFor c n plan → plan_changes c plan.writes ≡ needed_changes c n
+changes_are c n plan is = cc (is.writes.mark, is.writes.steps, is.writes.label_at, is.writes.label_says, is.writes.control_at, is.writes.control_says)
+
+needed_answers : (dry_run : Bool) (c : Contents) (n : Needing) (plan : Plan) → IsPlanFor c n plan → planned_answer dry_run c (planned.Needed plan) ≡ needed_answer dry_run c n
+needed_answers dry_run c n plan is =
+    ap₂ (λ (told : Told) (changes : List Change). if dry_run then does (rewind_report told) else does (made_acts told c changes)) is.told (changes_are c n plan is)
+
+fits_answer : (dry_run : Bool) (c : Contents) (meant : Meant) (v : Planned) → Fits c meant v → planned_answer dry_run c v ≡ meant_answer dry_run c meant
+fits_answer dry_run c OneTimeline planned.SameTimeline fits = refl
+fits_answer dry_run c OneTimeline (planned.EndsAtFork at) fits = absurd fits
+fits_answer dry_run c OneTimeline (planned.Needed plan) fits = absurd fits
+fits_answer dry_run c (AtFork fork) planned.SameTimeline fits = absurd fits
+fits_answer dry_run c (AtFork fork) (planned.EndsAtFork at) fits = ap (λ f. planned_answer dry_run c (planned.EndsAtFork f)) fits
+fits_answer dry_run c (AtFork fork) (planned.Needed plan) fits = absurd fits
+fits_answer dry_run c (Needs n) planned.SameTimeline fits = absurd fits
+fits_answer dry_run c (Needs n) (planned.EndsAtFork at) fits = absurd fits
+fits_answer dry_run c (Needs n) (planned.Needed plan) fits = needed_answers dry_run c n plan fits
+
+pub planned_answers : (dry_run : Bool) (c : Contents) (found : Result Meant RewindFault) (v : Planned) → FitsMeant c found v → planned_answer dry_run c v ≡ found_answer dry_run c found
+planned_answers dry_run c found v fits = fits_answer dry_run c fits.meaning v fits.fits ∙ sym (ap (found_answer dry_run c) fits.found)
+
+-- ---- a task of what was planned is one for what is meant
+
+plan_needs : (c : Contents) (meant : Meant) (plan : Plan) → Fits c meant (planned.Needed plan) → (n : Needing) × (meant ≡ Needs n) × IsPlanFor c n plan
+plan_needs c OneTimeline plan fits = absurd fits
+plan_needs c (AtFork fork) plan fits = absurd fits
+plan_needs c (Needs n) plan fits = (n, refl, fits)
+
+needs_plan : (c : Contents) (n : Needing) (v : Planned) → Fits c (Needs n) v → (plan : Plan) × (v ≡ planned.Needed plan)
+needs_plan c n planned.SameTimeline fits = absurd fits
+needs_plan c n (planned.EndsAtFork at) fits = absurd fits
+needs_plan c n (planned.Needed plan) fits = (plan, refl)
+
+told_needs : (c : Contents) (found : Result Meant RewindFault) (v : Planned) → FitsMeant c found v → (n : Needing) → found ≡ Ok (Needs n) → (plan : Plan) × (v ≡ planned.Needed plan)
+told_needs c found v fits n is =
+    let same : ◌≡◌ {A = Result Meant RewindFault} (Ok fits.meaning) (Ok (Needs n)) = sym fits.found ∙ is in
+    let meaning : fits.meaning ≡ Needs n = cc same in
+    needs_plan c n v (subst (λ m. Fits c m v) meaning fits.fits)
+
+pub task_for : (dry_run : Bool) (c : Contents) (found : Result Meant RewindFault) (v : Planned) (t : Task) → FitsMeant c found v → IsTaskOf dry_run v t → IsTaskFor dry_run c found t
+task_for dry_run c found v (task.Tell lines) fits own = λ n is. own (told_needs c found v fits n is).0 (told_needs c found v fits n is).1
+task_for dry_run c found v (task.Rewind first second plan) fits own =
+    let (n, is, for) = plan_needs c fits.meaning plan (subst (Fits c fits.meaning) own fits.fits) in
+    (n, fits.found ∙ ap Ok is, for)
+
+-- ---- the time under another name, as a call hands it on
+
+module _ (c : Contents) (words : RewindWords) {n m : ℤ} (same : n ≡ m) where
+  pub fits_at : (v : Planned) → FitsMeant c (planned_of c words.target words.source n) v → FitsMeant c (planned_of c words.target words.source m) v
+  fits_at v fits = let P : ℤ → Type 0 = λ x. FitsMeant c (planned_of c words.target words.source x) v in subst P same fits
+
+  pub task_at : (t : Task) → IsTaskFor words.dry_run c (planned_of c words.target words.source n) t → IsTaskFor words.dry_run c (planned_of c words.target words.source m) t
+  task_at t is = let P : ℤ → Type 0 = λ x. IsTaskFor words.dry_run c (planned_of c words.target words.source x) t in subst P same is
+
+  pub answer_at : (answer : Answer) → answer ≡ rewind_answer c words n → answer ≡ rewind_answer c words m
+  answer_at answer is = is ∙ ap (rewind_answer c words) same
+
+  pub passes_at : (e : Cause) → IsFree e ⊎ (rewind_answer c words n ≡ refused e) → IsFree e ⊎ (rewind_answer c words m ≡ refused e)
+  passes_at e (inl free) = inl free
+  passes_at e (inr is) = inr (sym (ap (rewind_answer c words) same) ∙ is)
+
+-- ---- what is known of a task, where it is seen which one it is
+
+module _ (c : Contents) (words : RewindWords) {n m : ℤ} (time : n ≡ m) {t t' : Task} (same : t ≡ t') where
+  pub known_as : {T : Type 0} → (T → does (task_acts t c) ≡ rewind_answer c words n) → T → does (task_acts t' c) ≡ rewind_answer c words m
+  known_as known h =
+      let P : Task → Type 0 = λ x. does (task_acts x c) ≡ rewind_answer c words m in
+      subst P same (answer_at c words time _ (known h))
+
+  pub task_as : IsTaskFor words.dry_run c (planned_of c words.target words.source n) t → IsTaskFor words.dry_run c (planned_of c words.target words.source m) t'
+  task_as is =
+      let P : Task → Type 0 = λ x. IsTaskFor words.dry_run c (planned_of c words.target words.source m) x in
+      subst P same (task_at c words time t is)
+
+pub form_as : (words : RewindWords) {t t' : Task} → t ≡ t' → ((d : Contents) → IsRewind words (does (task_acts t d))) → (d : Contents) → IsRewind words (does (task_acts t' d))
+form_as words same form d =
+    let P : Task → Type 0 = λ x. IsRewind words (does (task_acts x d)) in
+    subst P same (form d)
+
+pub wet_as : (dry_run : Bool) {t t' : Task} → t ≡ t' → IsWet dry_run t → IsWet dry_run t'
+wet_as dry_run same wet = let P : Task → Type 0 = λ x. IsWet dry_run x in subst P same wet

@@ -1,24 +1,22 @@
 -- What pg_rewind does: PostgreSQL 16 manual, reference page of pg_rewind; src/bin/pg_rewind/pg_rewind.c, main.
-use Rattle.std.specs.Prelude.{◌≡◌, ◌⊎◌, ℕ, if◌then◌else◌, IsTrue, Bool, List, [], ◌∷◌, codes, string_bytes, Result, Ok, Err}
+use Rattle.std.specs.Prelude.{◌≡◌, ◌⊎◌, ℕ, ℤ, if◌then◌else◌, IsTrue, Bool, false, List, [], ◌∷◌, map, codes, Result, Ok, Err}
 use Rattle.std.specs.Fmt.{decimal}
 use Rattle.std.specs.List.{concat}
+use Rattle.cluster_tree.specs.Change.{Change, all_changed, call_of}
 use Rattle.cluster_tree.specs.Contents.{Contents}
 use Rattle.wal_base.specs.Lsn.{lsn_text}
 use Rattle.timeline_history.specs.declared.ancestor.Divergence.{Divergence}
-use Rattle.rewind_survey.specs.Survey.{AtFork, OneTimeline, Parted, Survey, survey_of}
 use Rattle.rewind_survey.specs.declared.fault.RewindFault.{RewindFault}
-use Rattle.rewind_survey.specs.declared.outcome.Surveyed.{Surveyed}
-use Rattle.rewind_survey.specs.declared.outcome.Surveyed.TheVariants as surveyed
 use Rattle.rewind_survey.specs.declared.outcome.Told.{Told}
+use Rattle.rewind_core.specs.Fits.{IsRewound}
+use Rattle.rewind_core.specs.Planned.{AtFork, Meant, Needing, Needs, OneTimeline, planned_of}
 use Rattle.commands.specs.declared.rewind.RewindWords.{RewindWords}
-use Rattle.acts.specs.Acts.{Act, Report}
+use Rattle.acts.specs.Acts.{Act, Do, Report}
 use Rattle.run_acts.specs.Answers.{Answer, refused, does}
 use Rattle.run_acts.specs.Causes.{IsOfLook}
 use Rattle.run_acts.specs.declared.cause.Cause.{Cause}
-use Rattle.run_acts.specs.declared.cause.Cause.TheVariants as cause
 use Rattle.cluster_causes.specs.Rewind.{rewind_cause}
-use Rattle.cmd_rewind.specs.declared.lines.Lines.{Lines}
-use Rattle.cmd_rewind.specs.declared.lines.Lines.TheVariants as lines
+use Rattle.cmd_rewind.specs.Changes.{needed_changes}
 
 unfoldable pub same_timeline : List ℕ
 same_timeline = codes "pg_rewind: source and target cluster are on the same timeline\n"
@@ -50,40 +48,40 @@ fork_report fork = Report (diverged fork) ∷ Report no_rewind ∷ []
 abbrev pub rewind_report : Told → List Act
 rewind_report told = Report (diverged told.fork) ∷ Report (rewinding told) ∷ Report all_done ∷ []
 
--- a rewind that is needed is reported in a dry run, and else isn't built yet
-abbrev pub needed_answer : Bool → Told → Answer
-needed_answer dry_run told = if dry_run then does (rewind_report told) else refused cause.NotBuilt
+-- a rewind that is made: two lines, the changes, of these contents, and the last line
+abbrev pub made_acts : Told → Contents → List Change → List Act
+made_acts told c changes =
+    Report (diverged told.fork) ∷ Report (rewinding told) ∷ Do (map call_of changes) (all_changed c changes) ∷ Report all_done ∷ []
+
+-- a rewind that is needed is reported in a dry run (-n), and else made
+abbrev pub needed_answer : Bool → Contents → Needing → Answer
+needed_answer dry_run c n = if dry_run then does (rewind_report n.aim.told) else does (made_acts n.aim.told c (needed_changes c n))
 
 -- what is done about two clusters
-abbrev pub survey_answer : Bool → Survey → Answer
-survey_answer dry_run OneTimeline = does same_report
-survey_answer dry_run (AtFork fork) = does (fork_report fork)
-survey_answer dry_run (Parted part) = needed_answer dry_run part.told
+abbrev pub meant_answer : Bool → Contents → Meant → Answer
+meant_answer dry_run c OneTimeline = does same_report
+meant_answer dry_run c (AtFork fork) = does (fork_report fork)
+meant_answer dry_run c (Needs n) = needed_answer dry_run c n
 
--- the report, or why the rewind is refused
-abbrev pub found_answer : Bool → Result Survey RewindFault → Answer
-found_answer dry_run (Ok survey) = survey_answer dry_run survey
-found_answer dry_run (Err fault) = refused (rewind_cause fault)
+-- that, or why the rewind is refused
+abbrev pub found_answer : Bool → Contents → Result Meant RewindFault → Answer
+found_answer dry_run c (Ok meant) = meant_answer dry_run c meant
+found_answer dry_run c (Err fault) = refused (rewind_cause fault)
 
-abbrev pub rewind_answer : Contents → RewindWords → Answer
-rewind_answer c words = found_answer words.dry_run (survey_of c words.target words.source)
+-- the time is in seconds since 1970
+abbrev pub rewind_answer : Contents → RewindWords → ℤ → Answer
+rewind_answer c words now = found_answer words.dry_run c (planned_of c words.target words.source now)
 
--- the same of what was surveyed
-abbrev pub surveyed_answer : Bool → Surveyed → Answer
-surveyed_answer dry_run surveyed.SameTimeline = does same_report
-surveyed_answer dry_run (surveyed.EndsAtFork fork) = does (fork_report fork)
-surveyed_answer dry_run (surveyed.Parted found) = needed_answer dry_run found.told
-
--- over every tree: a report, of a rewind only in a dry run, or a refusal
+-- over every tree: a report, of a rewind only in a dry run; or else a rewind that is made; or a refusal while it looks
 abbrev pub IsRewind : RewindWords → Answer → Type 0
 IsRewind words answer =
     (answer ≡ does same_report)
     ⊎ ((fork : Divergence) × (answer ≡ does (fork_report fork)))
     ⊎ ((told : Told) × IsTrue words.dry_run × (answer ≡ does (rewind_report told)))
+    ⊎ ((told : Told) × (c : Contents) × (changes : List Change) × (words.dry_run ≡ false) × (answer ≡ does (made_acts told c changes)))
     ⊎ ((e : Cause) × IsOfLook e × (answer ≡ refused e))
 
--- the report of lines that were made
-abbrev pub reported : Lines → List Act
-reported lines.Same = same_report
-reported (lines.AtFork first) = Report (string_bytes first) ∷ Report no_rewind ∷ []
-reported (lines.Rewind first second) = Report (string_bytes first) ∷ Report (string_bytes second) ∷ Report all_done ∷ []
+-- a rewind that is needed and made leaves the rewound tree below the target's root, path by path
+abbrev pub LeavesRewound : RewindWords → ℤ → Contents → Contents → Type 0
+LeavesRewound words now c c' =
+    (n : Needing) → words.dry_run ≡ false → planned_of c words.target words.source now ≡ Ok (Needs n) → IsRewound c n c'

@@ -5,7 +5,8 @@ ghost use Rattle.cluster_tree.specs.Contents.{Contents};
 ghost use Rattle.cluster_tree.specs.declared.tree.ChangeCall.{ChangeCall};
 ghost use Rattle.acts.specs.Acts.{Performs, Report, Sunk, seen, sunk};
 ghost use Rattle.run_acts.specs.Causes.{cause_of, ending_of};
-ghost use Rattle.cmd_rewind.specs.Rewind.{all_done, no_rewind, reported, same_timeline};
+ghost use Rattle.cmd_rewind.specs.Rewind.{all_done, no_rewind, same_timeline};
+ghost use Rattle.cmd_rewind.specs.Tasks.{reported};
 
 use crate::lines::Lines;
 use cluster_tree::Sink;
@@ -25,8 +26,9 @@ fn no_rewind() -> &'static str
     "pg_rewind: no rewind required\n"
 }
 
+/// The line of a rewind that is done.
 #[tactic(auto, unfolding(crate::specs::Rewind::all_done))]
-fn all_done() -> &'static str
+pub(crate) fn all_done() -> &'static str
     ensures { result.now ≡ all_done }
 {
     "pg_rewind: Done!\n"

@@ -1,96 +1,126 @@
 // A rewind.
-ghost use Rattle.std.specs.Prelude.{◌≡◌, ◌≢◌, ◌⊎◌, ℕ, Bool, Err, IfErr, IfOk, IsErrOf, IsTrue, MatchResult};
+ghost use Rattle.std.specs.Prelude.{◌≡◌, ◌≢◌, ◌⊎◌, ℕ, Bool, false, Err, IfErr, IfOk, IsErrOf, IsTrue, MatchResult, OnOk};
 ghost use Rattle.cluster_tree.specs.Causes.{Rose};
-ghost use Rattle.cluster_tree.specs.Frame.{Reads};
+ghost use Rattle.cluster_tree.specs.Contents.{Contents};
+ghost use Rattle.cluster_tree.specs.Frame.{Came, Reads};
 ghost use Rattle.cluster_tree.specs.PathValue.{PathValue};
 ghost use Rattle.commands.specs.Fit.{AreFitRoots};
 ghost use Rattle.acts.specs.Acts.{Sunk, seen, sunk};
-ghost use Rattle.rewind_survey.specs.Survey.{FitsFound, survey_of};
-ghost use Rattle.run_acts.specs.Answers.{Blames, Carries, does, refused};
+ghost use Rattle.rewind_core.specs.Fits.{FitsMeant, IsFitPlanned};
+ghost use Rattle.rewind_core.specs.Planned.{planned_of};
+ghost use Rattle.run_acts.specs.Answers.{Blames, does, refused};
 ghost use Rattle.run_acts.specs.Causes.{IsFree, IsOfLook, cause_of, is_deep, is_of_files};
-ghost use Rattle.cmd_rewind.specs.Rewind.{IsRewind, reported, rewind_answer};
+ghost use Rattle.run_acts.specs.Unseen.{CarriesUnseen};
+ghost use Rattle.cmd_rewind.specs.Rewind.{IsRewind, LeavesRewound, rewind_answer};
+ghost use Rattle.cmd_rewind.specs.Tasks.{IsFitTask, IsTaskFor, IsWet, task_acts};
 
-use crate::lines::{Lines, lines_of};
+use crate::makes::make_told;
 use crate::reports::report;
+use crate::tasks::{Task, task_of};
 use cluster_causes::rewind_cause;
 use cluster_tree::{Sink, Tree};
 use commands::RewindWords;
-use rewind_survey::{Surveyed, survey};
+use rewind_core::{Planned, plan};
 use run_acts::Cause;
 use std::alloc::Global;
 
 // What the target needs.
-fn look<F: Tree>(alloc: Global, tree: &mut F, words: &RewindWords) -> Result<Surveyed, Cause>
+fn look<F: Tree>(
+    alloc: Global,
+    tree: &mut F,
+    words: &RewindWords,
+    now: i64,
+) -> Result<Planned, Cause>
     requires { AreFitRoots words.now.target words.now.source }
     ensures exact { IsTrue F.tells → MatchResult result
-        (FitsFound (survey_of (F.contents tree.old) words.now.target words.now.source))
-        (λ e. IsFree e ⊎ (rewind_answer (F.contents tree.old) words.now ≡ refused e)) }
+        (FitsMeant (F.contents tree.old)
+        (planned_of (F.contents tree.old) words.now.target words.now.source now))
+        (λ e. IsFree e ⊎ (rewind_answer (F.contents tree.old) words.now now ≡ refused e)) }
+    ensures fit { IfOk result IsFitPlanned }
     ensures look { IfErr result IsOfLook }
     ensures only { IfErr result (λ e. IsTrue (is_of_files e) ⊎ IsTrue (is_deep e)) }
-    ensures built { result ≢ Err Cause.NotBuilt }
     ensures reads { Reads F.Tree tree.old tree.new }
     ensures read_fault { IsErrOf result Cause.ReadFault →
         Rose (F.failed_reads tree.old) (F.failed_reads tree.new) }
     ensures changed { IsTrue F.tells → (p : PathValue) → result ≢ Err (Cause.Changed p) }
 {
-    match survey(alloc, tree, &words.target, &words.source) {
-        Ok(surveyed) => Ok(surveyed),
+    match plan(alloc, tree, &words.target, &words.source, now) {
+        Ok(planned) => Ok(planned),
         Err(fault) => Err(rewind_cause(fault)),
     }
 }
 
-// The report of it. All its lines are made before the first is put.
-fn check<F: Tree>(alloc: Global, tree: &mut F, words: &RewindWords) -> Result<Lines, Cause>
+// What is to be done. All its lines are made before the first is put.
+fn check<F: Tree>(alloc: Global, tree: &mut F, words: &RewindWords, now: i64) -> Result<Task, Cause>
     requires { AreFitRoots words.now.target words.now.source }
     ensures exact { IsTrue F.tells → MatchResult result
-        (λ lines. does (reported lines) ≡ rewind_answer (F.contents tree.old) words.now)
-        (λ e. IsFree e ⊎ (rewind_answer (F.contents tree.old) words.now ≡ refused e)) }
-    ensures form { IfOk result (λ lines. IsRewind words.now (does (reported lines))) }
+        (λ task. does (task_acts task (F.contents tree.old))
+        ≡ rewind_answer (F.contents tree.old) words.now now)
+        (λ e. IsFree e ⊎ (rewind_answer (F.contents tree.old) words.now now ≡ refused e)) }
+    ensures form { IfOk result (λ task. (c : Contents) →
+        IsRewind words.now (does (task_acts task c))) }
+    ensures planned { IsTrue F.tells → IfOk result (IsTaskFor words.now.dry_run (F.contents tree.old)
+        (planned_of (F.contents tree.old) words.now.target words.now.source now)) }
+    ensures fit { IfOk result IsFitTask }
+    ensures wet { IfOk result (IsWet words.now.dry_run) }
     ensures look { IfErr result IsOfLook }
     ensures only { IfErr result (λ e. IsTrue (is_of_files e) ⊎ IsTrue (is_deep e)) }
-    ensures built { IsTrue words.now.dry_run → result ≢ Err Cause.NotBuilt }
     ensures reads { Reads F.Tree tree.old tree.new }
     ensures read_fault { IsErrOf result Cause.ReadFault →
         Rose (F.failed_reads tree.old) (F.failed_reads tree.new) }
     ensures changed { IsTrue F.tells → (p : PathValue) → result ≢ Err (Cause.Changed p) }
 {
-    let surveyed = look(alloc, tree, words)?;
-    lines_of(alloc, &surveyed, words.dry_run)
+    let planned = look(alloc, tree, words, now)?;
+    match task_of(alloc, planned, words.dry_run) {
+        Ok(task) => Ok(task),
+        Err(_) => Err(Cause::OutOfMemory),
+    }
 }
 
-/// Looks what the target needs to follow the source's log, and reports it on `err`. It changes
-/// nothing.
+/// Rewinds the target so that it can follow the source's log, and reports it on `err`: two lines, the
+/// changes, and a last line. With `dry_run` the three lines alone, and where nothing is to be done two
+/// lines that say so; then nothing is changed. `now` is in seconds since 1970.
 ///
-/// Answers the first fault of the order of `RewindFault`, as `rewind_cause` names it. Where a rewind
-/// is needed a dry run reports it; else the answer is `NotBuilt`, and comes nowhere else. `ReadFault`
-/// and `SinkFault` come only where a read or a write failed, which the tree or the sink has counted,
-/// `Changed` never where the tree tells its contents, and `OutOfMemory` only for want of memory.
+/// Answers the first fault of the order of `RewindFault`, as `rewind_cause` names it; all that, and
+/// want of memory, comes before the first line. `ReadFault`, `WriteFault` and `SinkFault` come only
+/// where a call of that device failed, which it has counted, and `Changed` never where the tree tells
+/// its contents. Where a change failed the target has its mark, and a later run answers `Unfinished`;
+/// a first line that failed leaves it untouched, and a last one rewound.
 pub fn rewind<F: Tree, E: Sink>(
     alloc: Global,
     tree: &mut F,
     err: &mut E,
     words: &RewindWords,
+    now: i64,
 ) -> Result<(), Cause>
     requires { AreFitRoots words.now.target words.now.source }
-    // the answer's acts, over every tree; the answer that is meant where the tree tells
-    ensures carries { (out_tells : Bool) (out : Sunk) → Carries (IsTrue F.tells)
-        (rewind_answer (F.contents tree.old) words.now) (IsRewind words.now) out_tells E.tells
+    // the answer's acts, whatever the tree is taken to have; the answer that is meant where it tells
+    ensures carries { (out_tells : Bool) (out : Sunk) → CarriesUnseen
+        (IsTrue F.tells ⊎ IsTrue words.now.dry_run) (IsTrue F.tells)
+        (rewind_answer (F.contents tree.old) words.now now) (IsRewind words.now) out_tells E.tells
         (cause_of result)
         (seen (F.contents tree.old) (F.calls tree.old) out
         (sunk (E.written err.old) (E.failed_writes err.old)))
         (seen (F.contents tree.new) (F.calls tree.new) out
         (sunk (E.written err.new) (E.failed_writes err.new))) }
+    // a rewind that is done leaves the rewound tree
+    ensures rewound { IsTrue F.tells →
+        OnOk result (LeavesRewound words.now now (F.contents tree.old) (F.contents tree.new)) }
     ensures blames { (n : ℕ) → Blames (cause_of result)
         (F.failed_reads tree.old) (F.failed_reads tree.new)
         (F.failed_changes tree.old) (F.failed_changes tree.new) n n
         (E.failed_writes err.old) (E.failed_writes err.new) }
-    ensures only { IfErr result (λ e. IsTrue (is_of_files e) ⊎ IsTrue (is_deep e)) }
-    ensures built { IsTrue words.now.dry_run → result ≢ Err Cause.NotBuilt }
+    ensures only { IfErr result (λ e. IsTrue (is_of_files e) ⊎ IsTrue (is_deep e) ⊎
+        ((e ≡ Cause.WriteFault) × (words.now.dry_run ≡ false))) }
     ensures changed { IsTrue F.tells → (p : PathValue) → result ≢ Err (Cause.Changed p) }
-    ensures reads { Reads F.Tree tree.old tree.new }
+    ensures frame { Came F.Tree tree.old tree.new }
+    ensures reads { IsTrue words.now.dry_run → Reads F.Tree tree.old tree.new }
 {
-    match check(alloc, tree, words) {
-        Ok(lines) => report(err, &lines),
+    match check(alloc, tree, words, now) {
+        Ok(Task::Tell(lines)) => report(err, &lines),
+        Ok(Task::Rewind(first, second, plan)) => {
+            make_told(tree, err, first.as_str(), second.as_str(), plan)
+        }
         Err(e) => Err(e),
     }
 }

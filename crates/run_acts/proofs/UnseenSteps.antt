@@ -1,5 +1,5 @@
 -- How a run carries out an answer over a tree that may not tell what it holds, from what its calls left.
-use Rattle.std.proofs.Common.{◌≡◌, ◌∙◌, Bool, List, inl, refl, sym, ap, subst}
+use Rattle.std.proofs.Common.{◌≡◌, ◌∙◌, ◌⊎◌, Bool, false, IsTrue, List, inl, inr, refl, sym, ap, subst}
 use Rattle.cluster_tree.specs.Contents.{Contents}
 use Rattle.cluster_tree.specs.declared.tree.ChangeCall.{ChangeCall}
 use Rattle.acts.specs.Acts.{Act, IsAfterChange, Sunk, Seen, seen}
@@ -94,6 +94,11 @@ module _ {Seeing Known : Type 0} {meant : Answer} {IsForm : Answer → Type 0} {
 -- the cause under another name
 pub unseen_told : {Seeing Known : Type 0} {meant : Answer} {IsForm : Answer → Type 0} {o e : Bool} {ended own : Cause} {s u : Seen} → ended ≡ own → CarriesUnseen Seeing Known meant IsForm o e own s u → CarriesUnseen Seeing Known meant IsForm o e ended s u
 unseen_told {Seeing} {Known} {meant} {IsForm} {o} {e} {s = s} {u} is p = subst (λ x. CarriesUnseen Seeing Known meant IsForm o e x s u) (sym is) p
+
+-- what is seen of a run that isn't dry
+pub told_wet : {T : Type 0} (dry : Bool) → dry ≡ false → T ⊎ IsTrue dry → T
+told_wet dry wet (inl t) = t
+told_wet dry wet (inr is) = absurd (cc (wet, is))
 
 -- ---- what a loop over acts keeps: from the start all acts lead on by the rest from here, whatever the tree is taken to have
 

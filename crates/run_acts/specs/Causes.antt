@@ -45,7 +45,7 @@ is_of_text (paths.NameNotText path) = false
 abbrev pub is_of_files : Cause → Bool
 is_of_files cause.Done = false
 is_of_files cause.Usage = false
-is_of_files cause.NotBuilt = true
+is_of_files cause.NotBuilt = false
 is_of_files cause.ReadFault = true
 is_of_files cause.WriteFault = false
 is_of_files cause.SinkFault = true

@@ -1,5 +1,5 @@
 -- A run, from the words to the line of the cause.
-use Rattle.std.proofs.Common.{◌≡◌, ◌⊎◌, ℤ, Bool, true, false, not, IsTrue, List, Some, is_some, inl, inr, refl, sym, ap, ◌∙◌, subst, Result, Ok, Err}
+use Rattle.std.proofs.Common.{◌≡◌, ◌⊎◌, ℤ, Bool, true, false, not, IsTrue, List, Some, is_some, inl, inr, refl, sym, ap, ◌∙◌, subst, Result, Ok, Err, OnOk}
 use Rattle.cluster_tree.specs.Contents.{Contents}
 use Rattle.cluster_tree.specs.declared.tree.ChangeCall.{ChangeCall}
 use Rattle.commands.specs.declared.command.Command.{Command}
@@ -10,13 +10,12 @@ use Rattle.commands.specs.declared.waldump.WaldumpWords.{WaldumpWords}
 use Rattle.commands.specs.declared.rewind.RewindWords.{RewindWords}
 use Rattle.commands.specs.declared.controldata.ControldataWords.{ControldataWords}
 use Rattle.cmd_controldata.specs.Controldata.{IsControldata, controldata_answer}
-use Rattle.cmd_rewind.specs.Rewind.{IsRewind, rewind_answer}
+use Rattle.cmd_rewind.specs.Rewind.{IsRewind, LeavesRewound, rewind_answer}
 use Rattle.cmd_waldump.specs.Waldump.{AskForList, IsWaldump, waldump_answer}
 use Rattle.clusters.specs.RootControl.{control_at}
-use Rattle.rewind_survey.specs.Survey.{survey_of}
 use Rattle.acts.specs.Acts.{Seen, Sunk, seen}
 use Rattle.run_acts.specs.Answers.{Carries, cause_in}
-use Rattle.run_acts.specs.Causes.{IsFree, has_values}
+use Rattle.run_acts.specs.Causes.{IsFree, cause_of, has_values}
 use Rattle.run_acts.specs.declared.cause.Cause.{Cause}
 use Rattle.run_acts.specs.declared.cause.Cause.TheVariants as cause
 use Rattle.run_acts.proofs.AnswerSteps.{Looks, carries_fault, carries_refused, carries_exact, carries_told}
@@ -30,14 +29,14 @@ use Rattle.commands.specs.declared.resetwal.ResetwalWords.{ResetwalWords}
 use Rattle.commands.specs.declared.archivecleanup.ArchivecleanupWords.{ArchivecleanupWords}
 use Rattle.cmd_controldata.proofs.FormLemmas.{answer-form as control-form, answer-looks as control-looks}
 use Rattle.cmd_rewind.proofs.FormLemmas.{answer-form as rewind-form, answer-looks as rewind-looks}
-use Rattle.cmd_rewind.proofs.MeantLemmas.{meant as rewind-meant}
 use Rattle.cmd_waldump.proofs.FormLemmas.{answer-form as waldump-form, answer-looks as waldump-looks}
 use Rattle.wal_tools.specs.Answers.{IsAnswer, answered}
+use Rattle.wal_tools.specs.Rewound.{LeavesAsked}
 use Rattle.wal_tools.specs.Words.{IsSeen, MayChange, NeedsNoTree, refused_by_words, words_cause}
 
 -- what is done has the command's form, and begins with a look
 pub answered-form : (c : Contents) (now : ℤ) (asked : Result Command CommandFault) → IsAnswer now asked (answered c now asked)
-answered-form c now (Ok (command.Rewind words)) = rewind-form words (survey_of c words.target words.source) (rewind-meant c words.target words.source)
+answered-form c now (Ok (command.Rewind words)) = rewind-form c words now
 answered-form c now (Ok (command.Controldata words)) = control-form (control_at c words.root)
 answered-form c now (Ok (command.Waldump words)) = waldump-form c words
 answered-form c now (Ok (command.Resetwal words)) = reset-form c words now
@@ -45,7 +44,7 @@ answered-form c now (Ok (command.Archivecleanup words)) = cleanup-form c words
 answered-form c now (Err e) = refl
 
 pub answered-looks : (c : Contents) (now : ℤ) (asked : Result Command CommandFault) → Looks ((answered c now asked).acts)
-answered-looks c now (Ok (command.Rewind words)) = rewind-looks words.dry_run (survey_of c words.target words.source)
+answered-looks c now (Ok (command.Rewind words)) = rewind-looks c words now
 answered-looks c now (Ok (command.Controldata words)) = control-looks (control_at c words.root)
 answered-looks c now (Ok (command.Waldump words)) = waldump-looks c words
 answered-looks c now (Ok (command.Resetwal words)) = reset-looks c words now
@@ -67,13 +66,6 @@ at_time tells c asked {o = o} {e} {ended} {s} {u} is p = subst (λ x. CarriesOut
 by_tree : (tells : Bool) → IsTrue tells ⊎ ⊥ → IsTrue tells
 by_tree tells (inl t) = t
 by_tree tells (inr none) = absurd none
-
--- pg_rewind was carried out
-pub of_rewind : (tells : Bool) (c : Contents) (now : ℤ) {k : Command} {words : RewindWords} {o e : Bool} {ended : Cause} {s u : Seen} → k ≡ command.Rewind words
-    → Carries (IsTrue tells) (rewind_answer c words) (IsRewind words) o e ended s u → CarriesOut tells c now o e (Ok k) ended s u
-of_rewind tells c now {o = o} {e} {ended} {s} {u} is p =
-    let P : Command → Type 0 = λ x. CarriesOut tells c now o e (Ok x) ended s u in
-    subst P (sym is) (unseen_known (by_tree tells) (unseen_seen (inr (λ may. may)) p))
 
 -- pg_controldata was
 pub of_controldata : (tells : Bool) (c : Contents) (now : ℤ) {k : Command} {words : ControldataWords} {o e : Bool} {ended : Cause} {s u : Seen} → k ≡ command.Controldata words
@@ -118,6 +110,37 @@ wet dry_run is = ap not is
 pub wet_cleanup : {k : Command} {words : ArchivecleanupWords} → k ≡ command.Archivecleanup words → words.dry_run ≡ false → MayChange (Ok k)
 wet_cleanup {k} {words} is dry = let P : Command → Type 0 = λ x. MayChange (Ok x) in subst P (sym is) (wet words.dry_run dry)
 
+-- what pg_rewind does is seen where the tree tells, and of a dry run
+seen_rewind : (T : Type 0) (words : RewindWords) → IsSeen T (Ok (command.Rewind words)) → T ⊎ IsTrue words.dry_run
+seen_rewind T words (inl t) = inl t
+seen_rewind T words (inr none) = inr (undried words.dry_run none)
+
+rewind_seen : (T : Type 0) (words : RewindWords) → T ⊎ IsTrue words.dry_run → IsSeen T (Ok (command.Rewind words))
+rewind_seen T words (inl t) = inl t
+rewind_seen T words (inr dry) = inr (λ may. let same : true ≡ false = sym may ∙ ap not dry in cc same)
+
+-- it was carried out
+pub of_rewind : (tells : Bool) (c : Contents) (now : ℤ) {k : Command} {words : RewindWords} {o e : Bool} {ended : Cause} {s u : Seen} → k ≡ command.Rewind words
+    → CarriesUnseen (IsTrue tells ⊎ IsTrue words.dry_run) (IsTrue tells) (rewind_answer c words now) (IsRewind words) o e ended s u → CarriesOut tells c now o e (Ok k) ended s u
+of_rewind tells c now {words = words} {o} {e} {ended} {s} {u} is p =
+    let P : Command → Type 0 = λ x. CarriesOut tells c now o e (Ok x) ended s u in
+    subst P (sym is) (unseen_by (seen_rewind (IsTrue tells) words) (rewind_seen (IsTrue tells) words) (unseen_known (by_tree tells) p))
+
+-- it changes nothing in a dry run
+pub dried_rewind : {k : Command} {words : RewindWords} → k ≡ command.Rewind words → (MayChange (Ok k) → ⊥) → IsTrue words.dry_run
+dried_rewind {k} {words} is none = undried words.dry_run (let P : Command → Type 0 = λ x. MayChange (Ok x) → ⊥ in subst P is none)
+
+-- and may else
+pub wet_rewind : {k : Command} {words : RewindWords} → k ≡ command.Rewind words → words.dry_run ≡ false → MayChange (Ok k)
+wet_rewind {k} {words} is dry = let P : Command → Type 0 = λ x. MayChange (Ok x) in subst P (sym is) (wet words.dry_run dry)
+
+-- what it leaves, with the time under another name
+pub rewound_at : {k : Command} {words : RewindWords} {n m : ℤ} (r : Result (Unit {0}) Cause) (c c' : Contents) → k ≡ command.Rewind words → n ≡ m → OnOk r (LeavesRewound words n c c') → OnOk r (LeavesAsked (Ok k) m c c')
+rewound_at {k} {words} {n} {m} r c c' is same left =
+    let P : ℤ → Type 0 = λ x. OnOk r (LeavesRewound words x c c') in
+    let Q : Command → Type 0 = λ x. OnOk r (LeavesAsked (Ok x) m c c') in
+    subst Q (sym is) (subst P same left)
+
 -- what pg_resetwal does is seen where the tree tells, and of a dry run
 seen_reset : (T : Type 0) (words : ResetwalWords) → IsSeen T (Ok (command.Resetwal words)) → T ⊎ IsTrue (is_some words.options.dry)
 seen_reset T words (inl t) = inl t
@@ -144,7 +167,7 @@ wet_reset {k} {words} is dry = let P : Command → Type 0 = λ x. MayChange (Ok 
 
 -- what needs no tree changes nothing
 needless : (asked : Result Command CommandFault) → NeedsNoTree asked → MayChange asked → ⊥
-needless (Ok (command.Rewind words)) need may = may
+needless (Ok (command.Rewind words)) need may = need
 needless (Ok (command.Controldata words)) need may = may
 needless (Ok (command.Waldump words)) need may = may
 needless (Ok (command.Resetwal words)) need may = need
@@ -185,6 +208,13 @@ pub exact_told : (tells : Bool) (c : Contents) (now : ℤ) (asked : Result Comma
     → CarriesOut tells c now o e asked outcome s u → IsTrue tells ⊎ NeedsNoTree asked → IsFree ended ⊎ (ended ≡ cause_in (answered c now asked).refusal)
 exact_told tells c now asked {o} {e} {outcome} {own} {ended} {s} {u} same (inl is) p h = carries_exact h (carries_told (is ∙ same) (seen_of (seen_by (IsTrue tells) asked h) p))
 exact_told tells c now asked same (inr m) p h = inl (inr (inr (inr m.1)))
+
+-- a run that is done had that outcome
+pub rewound_done : (r : Result (Unit {0}) Cause) (asked : Result Command CommandFault) {n m : ℤ} (c c' : Contents) {own ended : Cause} → (r ≡ Err cause.Done → ⊥) → own ≡ cause_of r → (ended ≡ own) ⊎ (IsTrue (has_values own) × (ended ≡ cause.OutOfMemory)) → ended ≡ cause.Done
+    → n ≡ m → OnOk r (LeavesAsked asked n c c') → LeavesAsked asked m c c'
+rewound_done (Ok u) asked c c' undone own told done same left = let P : ℤ → Type 0 = λ x. LeavesAsked asked x c c' in subst P same left
+rewound_done (Err e) asked c c' undone own (inl is) done same left = absurd (undone (ap Err (sym own ∙ sym is ∙ done)))
+rewound_done (Err e) asked c c' undone own (inr m) done same left = let no : cause.OutOfMemory ≡ cause.Done = sym m.1 ∙ done in absurd (cc no)
 
 -- a line that is made in memory, where there was none, has values
 pub values_of : (b : Bool) → (b ≡ false → ⊥) → b ≡ true

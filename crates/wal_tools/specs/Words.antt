@@ -45,9 +45,9 @@ NeedsNoTree (Ok (command.Resetwal words)) = ⊥
 NeedsNoTree (Ok (command.Archivecleanup words)) = ⊥
 NeedsNoTree (Err e) = Unit {0}
 
--- a command that may make changing calls: pg_resetwal and pg_archivecleanup, but for a dry run
+-- a command that may make changing calls: pg_rewind, pg_resetwal and pg_archivecleanup, but for a dry run
 abbrev pub MayChange : Result Command CommandFault → Type 0
-MayChange (Ok (command.Rewind words)) = ⊥
+MayChange (Ok (command.Rewind words)) = IsTrue (not words.dry_run)
 MayChange (Ok (command.Controldata words)) = ⊥
 MayChange (Ok (command.Waldump words)) = ⊥
 MayChange (Ok (command.Resetwal words)) = IsTrue (not (is_some words.options.dry))

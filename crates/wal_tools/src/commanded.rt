@@ -1,5 +1,5 @@
 // A command, carried out.
-ghost use Rattle.std.specs.Prelude.{◌≡◌, ◌≢◌, ◌⊎◌, Err, IfErr, IsTrue, Ok, Some};
+ghost use Rattle.std.specs.Prelude.{◌≡◌, ◌≢◌, ◌⊎◌, Err, IfErr, IsTrue, Ok, OnOk, Some};
 ghost use Rattle.cluster_tree.specs.Frame.{Came, Reads};
 ghost use Rattle.cluster_tree.specs.PathValue.{PathValue};
 ghost use Rattle.commands.specs.Fit.{IsFit};
@@ -8,6 +8,7 @@ ghost use Rattle.run_acts.specs.Answers.{Blames};
 ghost use Rattle.run_acts.specs.Causes.{cause_of, is_deep, is_of_files};
 ghost use Rattle.run_acts.specs.Unseen.{CarriesUnseen};
 ghost use Rattle.wal_tools.specs.Answers.{IsAnswer, answered};
+ghost use Rattle.wal_tools.specs.Rewound.{LeavesAsked};
 ghost use Rattle.wal_tools.specs.Words.{AreFaulty, IsSeen, MayChange, NeedsNoTree, Walks, refused_by_words};
 
 use cluster_tree::{Sink, Tree};
@@ -54,9 +55,11 @@ pub(crate) fn carry_out<F: Tree, O: Sink, E: Sink>(
     ensures changed { IsTrue F.tells → (p : PathValue) → result ≢ Err (Cause.Changed p) }
     ensures reads { ¬ MayChange (Ok command.now) → Reads F.Tree tree.old tree.new }
     ensures frame { Came F.Tree tree.old tree.new }
+    ensures rewound { IsTrue F.tells → OnOk result
+        (LeavesAsked (Ok command.now) now (F.contents tree.old) (F.contents tree.new)) }
 {
     match command {
-        Command::Rewind(words) => rewind(alloc, tree, err, words),
+        Command::Rewind(words) => rewind(alloc, tree, err, words, now),
         Command::Controldata(words) => controldata(alloc, tree, out, words),
         Command::Waldump(words) => waldump(alloc, tree, out, words),
         Command::Resetwal(words) => resetwal(alloc, tree, out, words, now),

@@ -1,5 +1,5 @@
 // The top call.
-ghost use Rattle.std.specs.Prelude.{◌≡◌, ◌≢◌, ◌⊎◌, Err, IsTrue, None, Some, map, string_bytes};
+ghost use Rattle.std.specs.Prelude.{◌≡◌, ◌≢◌, ◌⊎◌, Err, IsTrue, None, OnOk, Some, map, string_bytes};
 ghost use Rattle.cluster_tree.specs.Frame.{Came, Reads};
 ghost use Rattle.cluster_tree.specs.PathValue.{PathValue};
 ghost use Rattle.commands.specs.Name.{name_of};
@@ -10,6 +10,7 @@ ghost use Rattle.run_acts.specs.Causes.{IsFree, cause_of, is_deep, is_of_text, s
 ghost use Rattle.run_acts.specs.Unseen.{CarriesUnseen};
 ghost use Rattle.cause_lines.specs.Lines.{line_of};
 ghost use Rattle.wal_tools.specs.Answers.{IsAnswer, answered};
+ghost use Rattle.wal_tools.specs.Rewound.{LeavesAsked};
 ghost use Rattle.wal_tools.specs.Runs.{Runs};
 ghost use Rattle.wal_tools.specs.Words.{AreFaulty, IsSeen, MayChange, NeedsNoTree, Walks, refused_by_words};
 
@@ -60,6 +61,11 @@ fn answer<F: Tree, O: Sink, E: Sink>(
     ensures reads { ¬ MayChange (command_of (map string_bytes words.now)) →
         Reads F.Tree tree.old tree.new }
     ensures frame { Came F.Tree tree.old tree.new }
+    ensures rewound { IsTrue F.tells → OnOk result (LeavesAsked
+        (command_of (map string_bytes words.now)) now (F.contents tree.old) (F.contents tree.new)) }
+    ensures built { result ≡ Err Cause.NotBuilt →
+        refused_by_words (command_of (map string_bytes words.now)) ≡ Some Cause.NotBuilt }
+    ensures undone { result ≢ Err Cause.Done }
 {
     match command_of(alloc, words) {
         Ok(command) => carry_out(alloc, &command, tree, out, err, now),
@@ -118,10 +124,16 @@ pub fn run<F: Tree, O: Sink, E: Sink>(
         MayChange (command_of (map string_bytes words.now)) }
     ensures changed { IsTrue F.tells → (p : PathValue) → result.cause ≢ Cause.Changed p }
 
+    // a rewind that is done leaves the rewound tree
+    ensures rewound { IsTrue F.tells → result.cause ≡ Cause.Done → LeavesAsked
+        (command_of (map string_bytes words.now)) now (F.contents tree.old) (F.contents tree.new) }
+
     // what the words alone decide, over every tree
     ensures usage { result.cause ≡ Cause.Usage →
         AreFaulty (command_of (map string_bytes words.now)) }
     ensures nameless { name_of (map string_bytes words.now) ≡ None → result.cause ≡ Cause.Usage }
+    ensures built { result.cause ≡ Cause.NotBuilt →
+        refused_by_words (command_of (map string_bytes words.now)) ≡ Some Cause.NotBuilt }
     ensures unfit { (e : Cause) → refused_by_words (command_of (map string_bytes words.now))
         ≡ Some e → (result.cause ≡ e) ⊎ (result.cause ≡ Cause.OutOfMemory) }
     // and where a walk over folders finds a path that is too deep

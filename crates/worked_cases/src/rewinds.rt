@@ -34,9 +34,6 @@ err $parted
 err $rewinding
 err $done
 status 0
-run pg_rewind -D t --source-pgdata s
-err pg_rewind: error: NotBuilt
-status 1
 case a target whose log ends at the fork
 control $early
 folder t/pg_wal

@@ -1,7 +1,6 @@
 use Rattle.std.proofs.Common.{inl, inr}
 use Rattle.acts.specs.Acts.{sunk}
-use Rattle.run_acts.proofs.UnseenSteps.{unseen_by, unseen_seen}
-use Rattle.cmd_archivecleanup.proofs.FormLemmas.{told_wet}
+use Rattle.run_acts.proofs.UnseenSteps.{told_wet, unseen_by, unseen_seen}
 use Rattle.cmd_archivecleanup.proofs.cleans.archivecleanup.Goals as goal
 
 pub returns-then-words-clause-carries : goal.returns-then-words-clause-carries

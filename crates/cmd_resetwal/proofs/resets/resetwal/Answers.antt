@@ -1,7 +1,7 @@
 use Rattle.std.proofs.Common.{◌≡◌, FitsSigned, false, inl, inr, is_some, rules, true, w64}
 use Rattle.std.proofs.lemmas.Int.{to_z-of_z}
-use Rattle.run_acts.proofs.UnseenSteps.{unseen_by, unseen_seen}
-use Rattle.cmd_resetwal.proofs.CarryLemmas.{told_wet, unseen_at}
+use Rattle.run_acts.proofs.UnseenSteps.{told_wet, unseen_by, unseen_seen}
+use Rattle.cmd_resetwal.proofs.CarryLemmas.{unseen_at}
 use Rattle.cmd_resetwal.proofs.resets.resetwal.Goals as goal
 
 pub returns-then-is_some-clause-carries : goal.returns-then-is_some-clause-carries

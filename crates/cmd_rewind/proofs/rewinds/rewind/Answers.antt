@@ -1,20 +1,56 @@
-use Rattle.std.proofs.Common.{inr, refl}
-use Rattle.rewind_survey.specs.Survey.{survey_of}
+use Rattle.std.proofs.Common.{FitsSigned, inl, inr, refl, rules, subst, sym, w64}
+use Rattle.std.proofs.lemmas.Int.{to_z-of_z}
 use Rattle.run_acts.proofs.AnswerSteps.{carries_acts, carries_look, last_exact}
-use Rattle.cmd_rewind.specs.Rewind.{reported}
-use Rattle.cmd_rewind.proofs.FormLemmas.{answer-form, answer-looks}
-use Rattle.cmd_rewind.proofs.MeantLemmas.{meant}
+use Rattle.run_acts.proofs.UnseenSteps.{told_wet, unseen_acts, unseen_by, unseen_still}
+use Rattle.cluster_tree.specs.Contents.{Contents}
+use Rattle.rewind_core.specs.Fits.{IsPlanFor}
+use Rattle.cmd_rewind.specs.Tasks.{reported, task_acts}
+use Rattle.cmd_rewind.specs.declared.tasks.Task.TheVariants as task
+use Rattle.cmd_rewind.proofs.FormLemmas.{answer-form, answer-looks, form_as, known_as, passes_at, task_as, wet_as}
+use Rattle.cmd_rewind.proofs.MakeLemmas.{leaves, lines_as}
 use Rattle.cmd_rewind.proofs.rewinds.rewind.Goals as goal
-
-pub returns-in-Ok-clause-carries : goal.returns-in-Ok-clause-carries
-returns-in-Ok-clause-carries g c out_tells out =
-    carries_acts (reported c.in-Ok.lines) c.in-Ok.ensures.exact c.in-Ok.ensures.form
-    (last_exact c.report.result c.report.ensures.only) c.check.ensures.reads.same c.check.ensures.reads.uncalled
-    (c.report.ensures.performs out_tells out _ _)
 
 pub returns-in-Err-clause-carries : goal.returns-in-Err-clause-carries
 returns-in-Err-clause-carries g c out_tells out =
-    let found = survey_of (g.F.Tree.contents c.args.tree.now) c.args.words.now.target c.args.words.now.source in
-    carries_look c.in-Err.e (answer-form c.args.words.now found (meant (g.F.Tree.contents c.args.tree.now) c.args.words.now.target c.args.words.now.source)) (answer-looks c.args.words.now.dry_run found)
-    (inr (inr (inr (c.in-Err.e, c.in-Err.ensures.look, refl)))) c.in-Err.ensures.look c.in-Err.ensures.exact
-    c.check.ensures.reads.same c.check.ensures.reads.uncalled
+    let fits : FitsSigned w64 c.args.now = search rules in
+    let contents = g.F.Tree.contents c.args.tree.now in
+    unseen_still c.check.ensures.reads.same c.check.ensures.reads.uncalled
+    (λ d j. carries_look c.in-Err.e (answer-form contents c.args.words.now c.args.now) (answer-looks contents c.args.words.now c.args.now)
+    (inr (inr (inr (inr (c.in-Err.e, c.in-Err.ensures.look, refl))))) c.in-Err.ensures.look
+    (λ t. passes_at contents c.args.words.now (to_z-of_z w64 c.args.now fits) c.in-Err.e (c.in-Err.ensures.exact t)) refl refl)
+
+pub returns-in-Ok-Tell-clause-carries : goal.returns-in-Ok-Tell-clause-carries
+returns-in-Ok-Tell-clause-carries g c out_tells out =
+    let fits : FitsSigned w64 c.args.now = search rules in
+    let contents = g.F.Tree.contents c.args.tree.now in
+    unseen_still c.check.ensures.reads.same c.check.ensures.reads.uncalled
+    (λ d j. carries_acts (reported c.in-Ok-Tell.lines) (known_as contents c.args.words.now (to_z-of_z w64 c.args.now fits) c.in-Ok-Tell.field-0-is c.in-Ok-Tell.ensures.exact)
+    (form_as c.args.words.now c.in-Ok-Tell.field-0-is c.in-Ok-Tell.ensures.form d)
+    (last_exact c.report.result c.report.ensures.only) refl refl (c.report.ensures.performs out_tells out d j))
+
+pub returns-in-Ok-Rewind-clause-carries : goal.returns-in-Ok-Rewind-clause-carries
+returns-in-Ok-Rewind-clause-carries g c out_tells out =
+    let fits : FitsSigned w64 c.args.now = search rules in
+    let contents = g.F.Tree.contents c.args.tree.now in
+    let dry = c.args.words.now.dry_run in
+    unseen_by (told_wet dry (wet_as dry c.in-Ok-Rewind.field-0-is c.in-Ok-Rewind.ensures.wet)) (λ t. inl t)
+    (unseen_acts (task_acts (task.Rewind c.in-Ok-Rewind.first c.in-Ok-Rewind.second c.in-Ok-Rewind.plan)) c.check.ensures.reads.same c.check.ensures.reads.uncalled (λ t. t)
+    (known_as contents c.args.words.now (to_z-of_z w64 c.args.now fits) c.in-Ok-Rewind.field-0-is c.in-Ok-Rewind.ensures.exact)
+    (form_as c.args.words.now c.in-Ok-Rewind.field-0-is c.in-Ok-Rewind.ensures.form)
+    (lines_as c.in-Ok-Rewind.plan c.as_str.ensures.value c.as_str-in-Ok-Rewind.ensures.value (c.make_told.ensures.performs out_tells out)))
+
+pub returns-in-Ok-Rewind-clause-rewound : goal.returns-in-Ok-Rewind-clause-rewound
+returns-in-Ok-Rewind-clause-rewound g c t =
+    let fits : FitsSigned w64 c.args.now = search rules in
+    let contents = g.F.Tree.contents c.args.tree.now in
+    leaves c.make_told.result c.args.words.now c.args.now contents (g.F.Tree.contents c.check.new.tree) (g.F.Tree.contents c.make_told.new.tree) c.in-Ok-Rewind.plan c.check.ensures.reads.same
+    (task_as contents c.args.words.now (to_z-of_z w64 c.args.now fits) c.in-Ok-Rewind.field-0-is (c.in-Ok-Rewind.ensures.planned t))
+    (c.make_told.ensures.rewound t)
+
+pub make_told-requires-clause-planned : goal.make_told-requires-clause-planned
+make_told-requires-clause-planned g c t =
+    let fits : FitsSigned w64 c.args.now = search rules in
+    let contents = g.F.Tree.contents c.args.tree.now in
+    let found = task_as contents c.args.words.now (to_z-of_z w64 c.args.now fits) c.in-Ok-Rewind.field-0-is (c.in-Ok-Rewind.ensures.planned t) in
+    let P : Contents → Type 0 = λ x. IsPlanFor x found.0 c.in-Ok-Rewind.plan in
+    (found.0, subst P (sym c.check.ensures.reads.same) found.2)

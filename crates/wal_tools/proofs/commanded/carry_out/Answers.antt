@@ -1,13 +1,23 @@
 use Rattle.std.proofs.Common.{FitsSigned, Ok, rules, w64}
 use Rattle.std.proofs.lemmas.Int.{to_z-of_z}
 use Rattle.acts.specs.Acts.{sunk}
-use Rattle.wal_tools.proofs.RunLemmas.{at_time, dried_cleanup, dried_reset, of_archivecleanup, of_controldata, of_resetwal, of_rewind, of_waldump}
+use Rattle.wal_tools.proofs.RunLemmas.{at_time, dried_cleanup, dried_reset, dried_rewind, of_archivecleanup, of_controldata, of_resetwal, of_rewind, of_waldump, rewound_at}
 use Rattle.wal_tools.proofs.commanded.carry_out.Goals as goal
 
 pub returns-in-Rewind-clause-carries : goal.returns-in-Rewind-clause-carries
 returns-in-Rewind-clause-carries g c =
-    of_rewind g.F.Tree.tells (g.F.Tree.contents c.args.tree.now) c.args.now c.in-Rewind.is
-    (c.rewind.ensures.carries g.O.Sink.tells (sunk (g.O.Sink.written c.args.out.now) (g.O.Sink.failed_writes c.args.out.now)))
+    let fits : FitsSigned w64 c.args.now = search rules in
+    at_time g.F.Tree.tells (g.F.Tree.contents c.args.tree.now) (Ok c.args.command.now) (to_z-of_z w64 c.args.now fits)
+    (of_rewind g.F.Tree.tells (g.F.Tree.contents c.args.tree.now) _ c.in-Rewind.is
+    (c.rewind.ensures.carries g.O.Sink.tells (sunk (g.O.Sink.written c.args.out.now) (g.O.Sink.failed_writes c.args.out.now))))
+
+pub returns-in-Rewind-clause-reads : goal.returns-in-Rewind-clause-reads
+returns-in-Rewind-clause-reads g c none = c.rewind.ensures.reads (dried_rewind c.in-Rewind.is none)
+
+pub returns-in-Rewind-clause-rewound : goal.returns-in-Rewind-clause-rewound
+returns-in-Rewind-clause-rewound g c t =
+    let fits : FitsSigned w64 c.args.now = search rules in
+    rewound_at c.rewind.result (g.F.Tree.contents c.args.tree.now) (g.F.Tree.contents c.rewind.new.tree) c.in-Rewind.is (to_z-of_z w64 c.args.now fits) (c.rewind.ensures.rewound t)
 
 pub returns-in-Controldata-clause-carries : goal.returns-in-Controldata-clause-carries
 returns-in-Controldata-clause-carries g c =

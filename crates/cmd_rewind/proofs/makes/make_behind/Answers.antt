@@ -1,0 +1,9 @@
+use Rattle.std.proofs.Common.{refl}
+use Rattle.run_acts.proofs.MadeSteps.{unseen_broken, unseen_report}
+use Rattle.cmd_rewind.proofs.makes.make_behind.Goals as goal
+
+pub returns-in-Ok-clause-performs : goal.returns-in-Ok-clause-performs
+returns-in-Ok-clause-performs g c out_tells out = unseen_report c.in-Ok.ensures.whole refl (c.make.ensures.performs out_tells out)
+
+pub returns-in-Err-clause-performs : goal.returns-in-Err-clause-performs
+returns-in-Err-clause-performs g c out_tells out = unseen_broken c.in-Err.e c.in-Err.ensures.part refl c.in-Err.ensures.only refl refl
