@@ -31,6 +31,8 @@ mod reset_words;
 #[cfg(test)]
 mod resets;
 #[cfg(test)]
+mod rewind_faults;
+#[cfg(test)]
 mod rewinds;
 #[cfg(test)]
 mod rewinds_made;

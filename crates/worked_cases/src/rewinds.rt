@@ -186,9 +186,10 @@ failing err from 3
 err $parted
 err $rewinding
 status 3
-# six marks, a size and a read for each control file and for the history, and one page of the log
+# six marks; a size and a read of each control file, twice, and of the history; a page of the log; and
+# on either side the root and two calls for each of four entries
 run pg_rewind -D t --source-pgdata s -n
-reads 13
+reads 35
 err $parted
 err $rewinding
 err $done

@@ -299,6 +299,86 @@ err pg_rewind: error: NameNotText .
 status 1
 ";
 
+// A line that standard error doesn't take.
+const LINES: &str = "case the first line fails
+control $target
+folder t/pg_wal
+log t/pg_wal
+record $checkpoint
+record $insert
+record $second
+end
+control $source
+folder s/pg_wal
+file $promoted
+run pg_rewind -D t --source-pgdata s
+failing err at 1
+err pg_rewind: error: SinkFault
+status 3
+absent t/backup_label
+run pg_rewind -D t --source-pgdata s -n
+err $parted
+err $rewinding
+err $done
+status 0
+case the second line fails
+control $target
+folder t/pg_wal
+log t/pg_wal
+record $checkpoint
+record $insert
+record $second
+end
+control $source
+folder s/pg_wal
+file $promoted
+run pg_rewind -D t --source-pgdata s
+failing err at 2
+err $parted
+err pg_rewind: error: SinkFault
+status 3
+absent t/backup_label
+run pg_rewind -D t --source-pgdata s -n
+err $parted
+err $rewinding
+err $done
+status 0
+case the last line fails
+control $target
+folder t/pg_wal
+log t/pg_wal
+record $checkpoint
+record $insert
+record $second
+end
+control $source
+folder s/pg_wal
+file $promoted
+run pg_rewind -D t --source-pgdata s
+failing err at 3
+err $parted
+err $rewinding
+err pg_rewind: error: SinkFault
+call file t/pg_rewind.unfinished
+call write t/pg_rewind.unfinished 0 12
+call sync
+call file t/pg_wal/00000002.history
+call write t/pg_wal/00000002.history 0 20
+call remove t/pg_wal/000000010000000000000001
+call file t/backup_label
+call write t/backup_label 0 173
+call write t/global/pg_control 0 8192
+call sync
+call remove t/pg_rewind.unfinished
+call sync
+status 3
+size t/backup_label 173
+absent t/pg_rewind.unfinished
+run pg_rewind -D t --source-pgdata s
+err pg_rewind: error: NotClean t 5
+status 1
+";
+
 #[test]
 fn a_rewind_is_made(rt: HostRuntime) -> Result<(), Fail> {
     check(&rt, &[NAMES, CLUSTERS, MADE])
@@ -307,4 +387,9 @@ fn a_rewind_is_made(rt: HostRuntime) -> Result<(), Fail> {
 #[test]
 fn a_path_refuses(rt: HostRuntime) -> Result<(), Fail> {
     check(&rt, &[NAMES, CLUSTERS, PATHS])
+}
+
+#[test]
+fn a_line_that_fails_ends_a_rewind(rt: HostRuntime) -> Result<(), Fail> {
+    check(&rt, &[NAMES, CLUSTERS, LINES])
 }

@@ -1,0 +1,371 @@
+// Rewinds in which a call of the tree fails, each behind the looks in turn. The order of calls is that of
+// docs/FORMATS.md.
+use super::driver::check;
+use super::names::NAMES;
+use super::rewinds::CLUSTERS;
+use std::test::Fail;
+
+// A call of the tree. Behind 35 looks come the mark and its sync, a file's kind, the file, its bytes and
+// their write, and so on.
+const CALLS: &str = "case the mark is not made
+control $target
+folder t/pg_wal
+log t/pg_wal
+record $checkpoint
+record $insert
+record $second
+end
+control $source
+folder s/pg_wal
+file $promoted
+run pg_rewind -D t --source-pgdata s
+failing tree at 36
+err $parted
+err $rewinding
+err pg_rewind: error: WriteFault
+status 3
+absent t/backup_label
+run pg_rewind -D t --source-pgdata s -n
+err $parted
+err $rewinding
+err $done
+status 0
+case the mark stays empty
+control $target
+folder t/pg_wal
+log t/pg_wal
+record $checkpoint
+record $insert
+record $second
+end
+control $source
+folder s/pg_wal
+file $promoted
+run pg_rewind -D t --source-pgdata s
+failing tree at 37
+err $parted
+err $rewinding
+err pg_rewind: error: WriteFault
+call file t/pg_rewind.unfinished
+status 3
+run pg_rewind -D t --source-pgdata s
+err pg_rewind: error: Unfinished t/pg_rewind.unfinished
+status 1
+case the mark is not durable
+control $target
+folder t/pg_wal
+log t/pg_wal
+record $checkpoint
+record $insert
+record $second
+end
+control $source
+folder s/pg_wal
+file $promoted
+run pg_rewind -D t --source-pgdata s
+failing tree at 38
+err $parted
+err $rewinding
+err pg_rewind: error: WriteFault
+call file t/pg_rewind.unfinished
+call write t/pg_rewind.unfinished 0 12
+status 3
+run pg_rewind -D t --source-pgdata s
+err pg_rewind: error: Unfinished t/pg_rewind.unfinished
+status 1
+case a file is not looked at
+control $target
+folder t/pg_wal
+log t/pg_wal
+record $checkpoint
+record $insert
+record $second
+end
+control $source
+folder s/pg_wal
+file $promoted
+run pg_rewind -D t --source-pgdata s
+failing tree at 39
+err $parted
+err $rewinding
+err pg_rewind: error: ReadFault
+call file t/pg_rewind.unfinished
+call write t/pg_rewind.unfinished 0 12
+call sync
+status 3
+run pg_rewind -D t --source-pgdata s
+err pg_rewind: error: Unfinished t/pg_rewind.unfinished
+status 1
+case a file is not made
+control $target
+folder t/pg_wal
+log t/pg_wal
+record $checkpoint
+record $insert
+record $second
+end
+control $source
+folder s/pg_wal
+file $promoted
+run pg_rewind -D t --source-pgdata s
+failing tree at 40
+err $parted
+err $rewinding
+err pg_rewind: error: WriteFault
+call file t/pg_rewind.unfinished
+call write t/pg_rewind.unfinished 0 12
+call sync
+status 3
+run pg_rewind -D t --source-pgdata s
+err pg_rewind: error: Unfinished t/pg_rewind.unfinished
+status 1
+case a file is not read
+control $target
+folder t/pg_wal
+log t/pg_wal
+record $checkpoint
+record $insert
+record $second
+end
+control $source
+folder s/pg_wal
+file $promoted
+run pg_rewind -D t --source-pgdata s
+failing tree at 41
+err $parted
+err $rewinding
+err pg_rewind: error: ReadFault
+call file t/pg_rewind.unfinished
+call write t/pg_rewind.unfinished 0 12
+call sync
+call file t/pg_wal/00000002.history
+status 3
+run pg_rewind -D t --source-pgdata s
+err pg_rewind: error: Unfinished t/pg_rewind.unfinished
+status 1
+case a file is not written
+control $target
+folder t/pg_wal
+log t/pg_wal
+record $checkpoint
+record $insert
+record $second
+end
+control $source
+folder s/pg_wal
+file $promoted
+run pg_rewind -D t --source-pgdata s
+failing tree at 42
+err $parted
+err $rewinding
+err pg_rewind: error: WriteFault
+call file t/pg_rewind.unfinished
+call write t/pg_rewind.unfinished 0 12
+call sync
+call file t/pg_wal/00000002.history
+status 3
+run pg_rewind -D t --source-pgdata s
+err pg_rewind: error: Unfinished t/pg_rewind.unfinished
+status 1
+case a file is not removed
+control $target
+folder t/pg_wal
+log t/pg_wal
+record $checkpoint
+record $insert
+record $second
+end
+control $source
+folder s/pg_wal
+file $promoted
+run pg_rewind -D t --source-pgdata s
+failing tree at 43
+err $parted
+err $rewinding
+err pg_rewind: error: WriteFault
+call file t/pg_rewind.unfinished
+call write t/pg_rewind.unfinished 0 12
+call sync
+call file t/pg_wal/00000002.history
+call write t/pg_wal/00000002.history 0 20
+status 3
+run pg_rewind -D t --source-pgdata s
+err pg_rewind: error: Unfinished t/pg_rewind.unfinished
+status 1
+case the label is not made
+control $target
+folder t/pg_wal
+log t/pg_wal
+record $checkpoint
+record $insert
+record $second
+end
+control $source
+folder s/pg_wal
+file $promoted
+run pg_rewind -D t --source-pgdata s
+failing tree at 44
+err $parted
+err $rewinding
+err pg_rewind: error: WriteFault
+call file t/pg_rewind.unfinished
+call write t/pg_rewind.unfinished 0 12
+call sync
+call file t/pg_wal/00000002.history
+call write t/pg_wal/00000002.history 0 20
+call remove t/pg_wal/000000010000000000000001
+status 3
+run pg_rewind -D t --source-pgdata s
+err pg_rewind: error: Unfinished t/pg_rewind.unfinished
+status 1
+case the label is not written
+control $target
+folder t/pg_wal
+log t/pg_wal
+record $checkpoint
+record $insert
+record $second
+end
+control $source
+folder s/pg_wal
+file $promoted
+run pg_rewind -D t --source-pgdata s
+failing tree at 45
+err $parted
+err $rewinding
+err pg_rewind: error: WriteFault
+call file t/pg_rewind.unfinished
+call write t/pg_rewind.unfinished 0 12
+call sync
+call file t/pg_wal/00000002.history
+call write t/pg_wal/00000002.history 0 20
+call remove t/pg_wal/000000010000000000000001
+call file t/backup_label
+status 3
+run pg_rewind -D t --source-pgdata s
+err pg_rewind: error: Unfinished t/pg_rewind.unfinished
+status 1
+case the control file is not written
+control $target
+folder t/pg_wal
+log t/pg_wal
+record $checkpoint
+record $insert
+record $second
+end
+control $source
+folder s/pg_wal
+file $promoted
+run pg_rewind -D t --source-pgdata s
+failing tree at 46
+err $parted
+err $rewinding
+err pg_rewind: error: WriteFault
+call file t/pg_rewind.unfinished
+call write t/pg_rewind.unfinished 0 12
+call sync
+call file t/pg_wal/00000002.history
+call write t/pg_wal/00000002.history 0 20
+call remove t/pg_wal/000000010000000000000001
+call file t/backup_label
+call write t/backup_label 0 173
+status 3
+run pg_rewind -D t --source-pgdata s
+err pg_rewind: error: Unfinished t/pg_rewind.unfinished
+status 1
+case the tree is not durable
+control $target
+folder t/pg_wal
+log t/pg_wal
+record $checkpoint
+record $insert
+record $second
+end
+control $source
+folder s/pg_wal
+file $promoted
+run pg_rewind -D t --source-pgdata s
+failing tree at 47
+err $parted
+err $rewinding
+err pg_rewind: error: WriteFault
+call file t/pg_rewind.unfinished
+call write t/pg_rewind.unfinished 0 12
+call sync
+call file t/pg_wal/00000002.history
+call write t/pg_wal/00000002.history 0 20
+call remove t/pg_wal/000000010000000000000001
+call file t/backup_label
+call write t/backup_label 0 173
+call write t/global/pg_control 0 8192
+status 3
+run pg_rewind -D t --source-pgdata s
+err pg_rewind: error: Unfinished t/pg_rewind.unfinished
+status 1
+case the mark is not removed
+control $target
+folder t/pg_wal
+log t/pg_wal
+record $checkpoint
+record $insert
+record $second
+end
+control $source
+folder s/pg_wal
+file $promoted
+run pg_rewind -D t --source-pgdata s
+failing tree at 48
+err $parted
+err $rewinding
+err pg_rewind: error: WriteFault
+call file t/pg_rewind.unfinished
+call write t/pg_rewind.unfinished 0 12
+call sync
+call file t/pg_wal/00000002.history
+call write t/pg_wal/00000002.history 0 20
+call remove t/pg_wal/000000010000000000000001
+call file t/backup_label
+call write t/backup_label 0 173
+call write t/global/pg_control 0 8192
+call sync
+status 3
+run pg_rewind -D t --source-pgdata s
+err pg_rewind: error: Unfinished t/pg_rewind.unfinished
+status 1
+case that it is gone is not durable
+control $target
+folder t/pg_wal
+log t/pg_wal
+record $checkpoint
+record $insert
+record $second
+end
+control $source
+folder s/pg_wal
+file $promoted
+run pg_rewind -D t --source-pgdata s
+failing tree at 49
+err $parted
+err $rewinding
+err pg_rewind: error: WriteFault
+call file t/pg_rewind.unfinished
+call write t/pg_rewind.unfinished 0 12
+call sync
+call file t/pg_wal/00000002.history
+call write t/pg_wal/00000002.history 0 20
+call remove t/pg_wal/000000010000000000000001
+call file t/backup_label
+call write t/backup_label 0 173
+call write t/global/pg_control 0 8192
+call sync
+call remove t/pg_rewind.unfinished
+status 3
+run pg_rewind -D t --source-pgdata s
+err pg_rewind: error: NotClean t 5
+status 1
+";
+
+#[test]
+fn a_call_that_fails_ends_a_rewind(rt: HostRuntime) -> Result<(), Fail> {
+    check(&rt, &[NAMES, CLUSTERS, CALLS])
+}
