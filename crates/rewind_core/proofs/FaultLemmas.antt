@@ -1,6 +1,5 @@
 -- Faults of a walk as faults of a rewind.
-use Rattle.std.proofs.Common.{◌≡◌, ◌⊎◌, inl, inr, Result, Ok, Err, IfErr, IfOk, refl, ap}
-use Rattle.cluster_tree.specs.Contents.{Contents}
+use Rattle.std.proofs.Common.{◌≡◌, ◌⊎◌, inl, inr, Result, Err, refl, ap}
 use Rattle.cluster_tree.specs.PathValue.{PathValue}
 use Rattle.cluster_tree.specs.declared.file_fault.FileFault.TheVariants as file
 use Rattle.file_walk.specs.Faults as walks

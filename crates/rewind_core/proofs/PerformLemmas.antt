@@ -3,7 +3,6 @@ use Rattle.std.proofs.Common.{◌≡◌, ◌≢◌, ◌⊎◌, inl, inr, Bool, L
 use Rattle.cluster_tree.specs.Change.{all_changed, first_refusal}
 use Rattle.cluster_tree.specs.Contents.{Contents, entry_at}
 use Rattle.cluster_tree.specs.PathValue.{PathValue, below}
-use Rattle.cluster_tree.specs.Run.{State}
 use Rattle.cluster_tree.specs.declared.tree.ChangeCall.{ChangeCall}
 use Rattle.marked_runs.specs.Runs.{Runs, is_done}
 use Rattle.marked_runs.specs.declared.faults.PerformFault.{PerformFault}

@@ -91,7 +91,8 @@ module _ (c : Contents) (aim : Aim) where
               (record { finished = target.0; read = target.2; parts = target_parts; walk = ok-walk _ ts told })
               (record { finished = source.0; read = source.2; parts = source_parts; walk = ok-walk _ ss there })
               tree apart (no-difference (first_lacking w (pairs_of ts ss)) (first_difference (pairs_of ts ss)) none);
-        })
+        },
+      )
 
       pub walked-plans : (pairs : List Pair) → pairs ≡ pairs_of ts ss → IsTree c → AreApart w.target w.source → IsRooted c w.target → IsRooted c w.source
           → HasParts c w.target → HasParts c' w.source → (r : Result Plan RewindFault) → IfErr r (λ e. IsFree e ⊎ (pairs_refusal w pairs ≡ Some e))

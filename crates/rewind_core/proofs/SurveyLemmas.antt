@@ -104,7 +104,7 @@ pub same-aim : (target source : PathValue) (part : Parting) (t s : Control) (siz
 same-aim target source part t s size now found control holds is =
     ap₂ (λ told control. aim_by target source told found.redo (has_in found.touched) t.relseg control size now) holds.told is
     ∙ ap₂ (λ redo wanted. aim_by target source part.told redo wanted t.relseg (rewound_control s now) size now)
-      (lsn-of found.redo part.redo holds.redo) (same-wanted part found.touched holds.touched)
+    (lsn-of found.redo part.redo holds.redo) (same-wanted part found.touched holds.touched)
 
 -- by what a survey says
 module _ (c : Contents) (target source : PathValue) (now : ℤ) where
@@ -144,9 +144,9 @@ module _ (c : Contents) (target source : PathValue) (now : ℤ) where
       record { meaning = Needs p.0; found = from-survey (survey.Parted part) is ∙ p.1; fits = p.2 }
   parted-by (survey.Parted part) parted (Err e) is fits plans = refused-by (survey.Parted part) e is (plans part fits)
     where
-    refused-by : (v : Survey) (e : RewindFault) → survey_of c target source ≡ Ok v → IsFree e ⊎ (from_survey c target source now v ≡ Err e) → IsFree e ⊎ (planned_of c target source now ≡ Err e)
-    refused-by v e is (inl free) = inl free
-    refused-by v e is (inr h) = inr (from-survey v is ∙ h)
+      refused-by : (v : Survey) (e : RewindFault) → survey_of c target source ≡ Ok v → IsFree e ⊎ (from_survey c target source now v ≡ Err e) → IsFree e ⊎ (planned_of c target source now ≡ Err e)
+      refused-by v e is (inl free) = inl free
+      refused-by v e is (inr h) = inr (from-survey v is ∙ h)
 
   pub parted-meant : (c' : Contents) (v : Surveyed) (parted : Parted) (r : Result Plan RewindFault) → c' ≡ c → FitsFound (survey_of c target source) v → v ≡ surveyed.Parted parted
       → ((part : Parting) → HoldsParted part parted → PlansNeeded c' (from_parting c' target source now part) r)

@@ -1,7 +1,7 @@
 -- What was planned, and what it leaves. Own: "The plan of a rewind".
-use Rattle.std.specs.Prelude.{◌≡◌, ◌⊎◌, ℕ, Bool, List, Option, None, Some, Result, Ok, Err, MatchResult}
+use Rattle.std.specs.Prelude.{◌≡◌, ◌⊎◌, ℕ, Bool, List, None, Some, Result, Ok, Err, MatchResult}
 use Rattle.cluster_tree.specs.Contents.{Contents, entry_at}
-use Rattle.cluster_tree.specs.PathValue.{PathValue, below}
+use Rattle.cluster_tree.specs.PathValue.{below}
 use Rattle.cluster_tree.specs.Run.{State}
 use Rattle.marked_runs.specs.Runs.{Runs}
 use Rattle.rewound_tree.specs.Rewound.{rewound}

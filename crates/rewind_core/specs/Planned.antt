@@ -1,6 +1,6 @@
 -- What a rewind of two clusters has to do, or why it is refused: PostgreSQL 16, src/bin/pg_rewind/pg_rewind.c, main and perform_rewind.
 -- Own: "The plan of a rewind".
-use Rattle.std.specs.Prelude.{ℕ, ℤ, List, [], ◌∷◌, Option, None, Some, Result, Ok, Err, option_map}
+use Rattle.std.specs.Prelude.{ℤ, List, [], ◌∷◌, Option, None, Some, Result, Ok, Err, option_map}
 use Rattle.cluster_tree.specs.Causes.{first_of, given, unless}
 use Rattle.cluster_tree.specs.Contents.{Contents}
 use Rattle.cluster_tree.specs.PathValue.{PathValue}

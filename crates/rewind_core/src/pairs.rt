@@ -1,5 +1,5 @@
 // The plan of the paths of two clusters, side by side.
-ghost use Rattle.std.specs.Prelude.{◌≡◌, ◌≢◌, ◌≤◌, length, IfErr, IfOk, OnOk, Err};
+ghost use Rattle.std.specs.Prelude.{◌≡◌, ◌≢◌, IfOk, Err};
 ghost use Rattle.cluster_tree.specs.Causes.{Passes};
 ghost use Rattle.cluster_tree.specs.PathValue.{PathValue};
 ghost use Rattle.control_file.specs.Admission.{IsControl};

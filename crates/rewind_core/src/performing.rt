@@ -1,5 +1,5 @@
 // The public call that carries out.
-ghost use Rattle.std.specs.Prelude.{◌≡◌, ◌≢◌, IsTrue, Err, IsErrOf, OnOk};
+ghost use Rattle.std.specs.Prelude.{◌≢◌, IsTrue, Err, IsErrOf, OnOk};
 ghost use Rattle.cluster_tree.specs.Causes.{Rose};
 ghost use Rattle.cluster_tree.specs.Frame.{Came};
 ghost use Rattle.cluster_tree.specs.PathValue.{PathValue};
@@ -25,7 +25,7 @@ pub fn perform<F: Tree>(tree: &mut F, plan: Plan) -> Result<(), PerformFault>
     // perhaps a part
     ensures runs { IsTrue F.tells → (n : Needing) → IsPlanFor (F.contents tree.old) n plan →
         Runs (plan_changes (F.contents tree.old) plan.writes) (F.calls tree.old) (F.calls tree.new)
-            (F.contents tree.old) (F.contents tree.new) (is_done result) }
+        (F.contents tree.old) (F.contents tree.new) (is_done result) }
     // then the tree below the target's root is the rewound one
     ensures rewound { IsTrue F.tells → (n : Needing) → IsPlanFor (F.contents tree.old) n plan →
         OnOk result (IsRewound (F.contents tree.old) n (F.contents tree.new)) }

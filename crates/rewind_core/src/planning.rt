@@ -37,11 +37,7 @@ pub(crate) struct Rewinding<'a> {
 }
 
 // The plan for the paths side by side.
-fn plan_pairs(
-    alloc: Global,
-    rewinding: &Rewinding<'_>,
-    pairs: &[Pair],
-) -> Result<Plan, RewindFault>
+fn plan_pairs(alloc: Global, rewinding: &Rewinding<'_>, pairs: &[Pair]) -> Result<Plan, RewindFault>
     requires depth { length rewinding.now.clusters.target.now.parts ≤ 61 }
     requires control { IsControl rewinding.now.control.now }
     ensures refused { IfErr result (λ e. IsFree e
@@ -111,7 +107,7 @@ fn plan_parted<F: Tree>(
     requires source { IsTrue F.tells → unfinished (F.contents tree.old) source.now ≡ None }
     ensures exact { IsTrue F.tells → (part : Parting) → HoldsParted part parted →
         PlansNeeded (F.contents tree.old)
-            (from_parting (F.contents tree.old) target.now source.now now part) result }
+        (from_parting (F.contents tree.old) target.now source.now now part) result }
     ensures fit { IfOk result (λ plan. AllAreFit plan.writes.steps.items) }
     ensures reads { Reads F.Tree tree.old tree.new }
     ensures read_fault { IsErrOf result RewindFault.ReadFault →

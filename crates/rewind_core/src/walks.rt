@@ -1,10 +1,9 @@
 // What lies below a root, or why a rewind is refused for it.
-ghost use Rattle.std.specs.Prelude.{◌≡◌, ◌≢◌, ◌≤◌, length, IfOk, IsTrue, Ok, Err, IsErrOf};
+ghost use Rattle.std.specs.Prelude.{◌≢◌, ◌≤◌, length, IfOk, IsTrue, Ok, Err, IsErrOf};
 ghost use Rattle.cluster_tree.specs.Causes.{Meets, Rose};
 ghost use Rattle.cluster_tree.specs.Frame.{Reads};
 ghost use Rattle.cluster_tree.specs.PathValue.{PathValue};
 ghost use Rattle.file_walk.specs.Listed.{AreInOrder};
-ghost use Rattle.file_walk.specs.Pairs.{pairs_of};
 ghost use Rattle.file_walk.specs.Walk.{walk_of};
 ghost use Rattle.file_walk.specs.Walk.{HasParts};
 ghost use Rattle.rewind_survey.specs.Faults.{IsFree};

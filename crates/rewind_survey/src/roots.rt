@@ -70,11 +70,7 @@ pub(crate) fn check_marks<F: Tree>(
 /// Answers `ControlMissing` where `global/pg_control` is not a file, then `Size`, `Crc`, `Version`,
 /// `Catalog` and `Shape`, with the root.
 #[tactic(auto, using(crate::proofs::FaultLemmas::fault_steps))]
-pub fn control_at<F: Tree>(
-    alloc: Global,
-    tree: &mut F,
-    root: &Path,
-) -> Result<Control, RewindFault>
+pub fn control_at<F: Tree>(alloc: Global, tree: &mut F, root: &Path) -> Result<Control, RewindFault>
     requires { length root.now.parts ≤ 61 }
     ensures exact { IsTrue F.tells →
         Meets IsFree (told_by (control_at (F.contents tree.old) root.now)) result }

@@ -1,7 +1,6 @@
 use Rattle.std.proofs.Common.{inl, inr, refl, ◌∙◌}
 use Rattle.std.proofs.lemmas.Result.{err_from_is_err_and}
 use Rattle.rewind_core.specs.Fits.{PlansNeeded}
-use Rattle.rewind_core.specs.Planned.{from_walks}
 use Rattle.rewind_core.specs.Rooted.{aim}
 use Rattle.rewind_core.proofs.PlanLemmas.{handed, source-refused, target-refused, walked-plans}
 use Rattle.rewind_core.proofs.planning.plan_walked.Goals as goal
