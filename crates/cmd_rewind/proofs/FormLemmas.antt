@@ -1,5 +1,5 @@
 -- The forms of what pg_rewind does.
-use Rattle.std.proofs.Common.{◌≡◌, ◌⊎◌, ℤ, Bool, true, false, IsTrue, List, inl, inr, refl, sym, ap, ap₂, subst, ◌∙◌, Result, Ok, Err}
+use Rattle.std.proofs.Common.{◌≡◌, ◌⊎◌, ℤ, Bool, true, false, List, inl, inr, refl, sym, ap, ap₂, subst, ◌∙◌, Result, Ok, Err}
 use Rattle.std.specs.Prelude.{if◌then◌else◌}
 use Rattle.cluster_tree.specs.Change.{Change}
 use Rattle.cluster_tree.specs.Contents.{Contents}

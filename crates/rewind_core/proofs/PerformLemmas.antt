@@ -1,6 +1,6 @@
 -- What a plan's changes leave where they ran.
-use Rattle.std.proofs.Common.{◌≡◌, ◌≢◌, ◌⊎◌, inl, inr, Bool, List, None, Result, Ok, Err, IfErr, IfOk, OnOk, refl, ap, sym, subst, ◌∙◌}
-use Rattle.cluster_tree.specs.Change.{all_changed, first_refusal}
+use Rattle.std.proofs.Common.{◌≡◌, ◌≢◌, ◌⊎◌, inl, inr, Bool, true, List, None, Result, Ok, Err, IfErr, IfOk, OnOk, refl, ap, sym, subst, ◌∙◌}
+use Rattle.cluster_tree.specs.Change.{first_refusal}
 use Rattle.cluster_tree.specs.Contents.{Contents, entry_at}
 use Rattle.cluster_tree.specs.PathValue.{PathValue, below}
 use Rattle.cluster_tree.specs.declared.tree.ChangeCall.{ChangeCall}
@@ -9,7 +9,7 @@ use Rattle.marked_runs.specs.declared.faults.PerformFault.{PerformFault}
 use Rattle.marked_runs.specs.declared.faults.PerformFault.TheVariants as perform
 use Rattle.rewind_writes.specs.Plan.{IsFound, plan_changes}
 use Rattle.rewind_plan.proofs.FinalLemmas.{plan-leaves-all, plan-unrefused}
-use Rattle.rewind_plan.proofs.FoundLemmas.{plan-found}
+use Rattle.rewind_plan.proofs.FoundLemmas.{plan-below, plan-found}
 use Rattle.rewind_survey.specs.declared.fault.RewindFault.{RewindFault}
 use Rattle.rewind_survey.specs.declared.fault.RewindFault.TheVariants as fault
 use Rattle.rewind_core.specs.Faults.{of_perform}
@@ -28,13 +28,15 @@ module _ (c : Contents) (n : Needing) (plan : Plan) (is : IsPlanFor c n plan) wh
   pub unrefused : first_refusal c (plan_changes c plan.writes) ≡ None
   unrefused = plan-unrefused c n.aim.between n.pairs n.aim.control n.aim.label plan.writes is.sides is.writes
 
-  pub left : (c' : Contents) → c' ≡ all_changed c (plan_changes c plan.writes) → IsRewound c n c'
-  left c' h parts =
-      ap (λ c. entry_at c (below n.aim.between.target parts)) h
-      ∙ plan-leaves-all c n.aim.between n.pairs n.aim.control n.aim.label plan.writes is.sides is.writes parts
+  left : {k l : List ChangeCall} (c' : Contents) → Runs (plan_changes c plan.writes) k l c c' true → IsRewound c n c'
+  left c' runs = record {
+    inside = λ parts. ap (λ c. entry_at c (below n.aim.between.target parts)) (runs.after refl)
+        ∙ plan-leaves-all c n.aim.between n.pairs n.aim.control n.aim.label plan.writes is.sides is.writes parts;
+    elsewhere = λ path out. runs.elsewhere path (plan-below c n.aim.between n.pairs n.aim.control n.aim.label plan.writes is.sides is.writes path out);
+  }
 
   pub rewound-by : {k l : List ChangeCall} {c' : Contents} (r : Result (Unit {0}) PerformFault) → Runs (plan_changes c plan.writes) k l c c' (is_done r) → OnOk r (IsRewound c n c')
-  rewound-by (Ok u) runs = left _ (runs.after refl)
+  rewound-by (Ok u) runs = left _ runs
   rewound-by (Err e) runs = tt
 
 -- faults of what is carried out, as those of a rewind

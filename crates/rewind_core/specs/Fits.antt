@@ -1,7 +1,7 @@
 -- What was planned, and what it leaves. Own: "The plan of a rewind".
 use Rattle.std.specs.Prelude.{◌≡◌, ◌⊎◌, ℕ, Bool, List, None, Some, Result, Ok, Err, MatchResult}
 use Rattle.cluster_tree.specs.Contents.{Contents, entry_at}
-use Rattle.cluster_tree.specs.PathValue.{below}
+use Rattle.cluster_tree.specs.PathValue.{Holds, PathValue, below}
 use Rattle.cluster_tree.specs.Run.{State}
 use Rattle.marked_runs.specs.Runs.{Runs}
 use Rattle.rewound_tree.specs.Rewound.{rewound}
@@ -56,9 +56,10 @@ IsFitPlanned planned.SameTimeline = Unit {0}
 IsFitPlanned (planned.EndsAtFork at) = Unit {0}
 IsFitPlanned (planned.Needed plan) = AllAreFit plan.writes.steps.items
 
--- below the target's root stands the rewound tree, path by path
-abbrev pub IsRewound : Contents → Needing → Contents → Type 0
-IsRewound c n c' = (parts : List (List ℕ)) → entry_at c' (below n.aim.between.target parts) ≡ rewound (rewinding c n.aim.between n.aim.control n.aim.label) parts
+-- below the target's root stands the rewound tree, path by path, and all that lies elsewhere stays
+pub record IsRewound (c : Contents) (n : Needing) (c' : Contents) : Type 0 where
+  pub inside : (parts : List (List ℕ)) → entry_at c' (below n.aim.between.target parts) ≡ rewound (rewinding c n.aim.between n.aim.control n.aim.label) parts
+  pub elsewhere : (path : PathValue) → (Holds n.aim.between.target path → ⊥) → entry_at c' path ≡ entry_at c path
 
 -- what was done is what was to be done, and then nothing was changed, or the rewound tree stands there
 abbrev pub IsDone : Contents → Result Meant RewindFault → RewindDone → Contents → Type 0

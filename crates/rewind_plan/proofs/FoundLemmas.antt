@@ -6,7 +6,8 @@ use Rattle.std.proofs.Math.Seq.{take-append_seam}
 use Rattle.std.proofs.lemmas.List.{take-append-le}
 use Rattle.block_refs.specs.declared.names.RelName.{RelName}
 use Rattle.cluster_tree.specs.Apart.{AreApart}
-use Rattle.cluster_tree.specs.PathValue.{PathValue, below}
+use Rattle.cluster_tree.specs.PathValue.{Holds, PathValue, below}
+use Rattle.cluster_tree.proofs.RootLemmas.{holds-below}
 use Rattle.cluster_tree.specs.Contents.{Contents, FileEntry, entry_at, is_file}
 use Rattle.cluster_tree.specs.Change.{Change, is_on}
 use Rattle.cluster_tree.specs.Tree.{bytes_in}
@@ -200,12 +201,23 @@ module _ (c : Contents) (w : Between) (changes : List Change) (off : (parts : Li
       finds_both c changes (folder_steps w xs) (all_file_steps w xs ++ removal_steps w xs) (all_folders_found xs)
       (finds_both c changes (all_file_steps w xs) (removal_steps w xs) (all_files_found xs paired) (all_removals_found xs))
 
+-- all that a plan changes lies below the target's root
+off-plan : (c : Contents) (w : Between) (all : List Pair) (new : Control) (label : Label) (plan : Plan) → Sides c w all → IsPlanOf w all new label plan
+    → (q : PathValue) → ((parts : List (List ℕ)) → q ≢ below w.target parts) → list_any (is_on q) (plan_changes c plan) ≡ false
+off-plan c w all new label plan sides of q off =
+    ap (list_any (is_on q)) (changes-are c w all new label plan sides of)
+    ∙ off_jobs w.target q (entry_at c) (jobs c w all new label plan sides of) off
+    (plan-fits c w all sides (text c w all new label plan sides of) (label_text label) (control_bytes new))
+    ((mark_parts, refl), under_both w.target (all_jobs (items_of c w all)) (label_job (below w.target label_parts) (label_text label) ∷ control_job (below w.target control_parts) (control_bytes new) ∷ end_job (below w.target mark_parts) ∷ []) (items_under c w all) ((label_parts, refl), ((control_parts, refl), ((mark_parts, refl), tt))))
+
+pub plan-below : (c : Contents) (w : Between) (all : List Pair) (new : Control) (label : Label) (plan : Plan) → Sides c w all → IsPlanOf w all new label plan
+    → (q : PathValue) → (Holds w.target q → ⊥) → list_any (is_on q) (plan_changes c plan) ≡ false
+plan-below c w all new label plan sides of q out =
+    off-plan c w all new label plan sides of q (λ parts is. out (subst (Holds w.target) (sym is) (holds-below w.target parts)))
+
 pub plan-found : (c : Contents) (w : Between) (all : List Pair) (new : Control) (label : Label) (plan : Plan) → Sides c w all → IsPlanOf w all new label plan → IsFound c plan
 plan-found c w all new label plan sides of =
     subst (FindAll c (plan_changes c plan)) (sym of.steps)
     (all_found c w (plan_changes c plan)
-    (λ parts. ap (list_any (is_on (below w.source parts))) (changes-are c w all new label plan sides of)
-    ∙ off_jobs w.target (below w.source parts) (entry_at c) (jobs c w all new label plan sides of) (λ ys. apart-below w.target w.source parts ys sides.apart)
-    (plan-fits c w all sides (text c w all new label plan sides of) (label_text label) (control_bytes new))
-    ((mark_parts, refl), under_both w.target (all_jobs (items_of c w all)) (label_job (below w.target label_parts) (label_text label) ∷ control_job (below w.target control_parts) (control_bytes new) ∷ end_job (below w.target mark_parts) ∷ []) (items_under c w all) ((label_parts, refl), ((control_parts, refl), ((mark_parts, refl), tt)))))
+    (λ parts. off-plan c w all new label plan sides of (below w.source parts) (λ ys. apart-below w.target w.source parts ys sides.apart))
     all sides.paired)
