@@ -10,7 +10,7 @@ use Rattle.rewind_survey.specs.declared.fault.RewindFault.{RewindFault}
 use Rattle.rewind_survey.specs.declared.fault.RewindFault.TheVariants as fault
 use Rattle.rewind_core.specs.Planned.{pairs_refusal}
 
-both : (a b : Option PathValue) → Option RewindFault
+abbrev both : (a b : Option PathValue) → Option RewindFault
 both a b = first_of (option_map fault.TooDeep a ∷ option_map fault.KindsDiffer b ∷ [])
 
 first-deep : (b : Option PathValue) (p : PathValue) → both (Some p) b ≡ Some (fault.TooDeep p)

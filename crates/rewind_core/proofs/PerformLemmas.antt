@@ -1,17 +1,26 @@
 -- What a plan's changes leave where they ran.
-use Rattle.std.proofs.Common.{◌≡◌, List, None, Result, Ok, Err, OnOk, refl, ap, ◌∙◌}
+use Rattle.std.proofs.Common.{◌≡◌, ◌≢◌, ◌⊎◌, inl, inr, Bool, List, None, Result, Ok, Err, IfErr, IfOk, OnOk, refl, ap, sym, subst, ◌∙◌}
 use Rattle.cluster_tree.specs.Change.{all_changed, first_refusal}
 use Rattle.cluster_tree.specs.Contents.{Contents, entry_at}
-use Rattle.cluster_tree.specs.PathValue.{below}
+use Rattle.cluster_tree.specs.PathValue.{PathValue, below}
+use Rattle.cluster_tree.specs.Run.{State}
 use Rattle.cluster_tree.specs.declared.tree.ChangeCall.{ChangeCall}
 use Rattle.marked_runs.specs.Runs.{Runs, is_done}
 use Rattle.marked_runs.specs.declared.faults.PerformFault.{PerformFault}
+use Rattle.marked_runs.specs.declared.faults.PerformFault.TheVariants as perform
 use Rattle.rewind_writes.specs.Plan.{IsFound, plan_changes}
 use Rattle.rewind_plan.proofs.FinalLemmas.{plan-leaves-all, plan-unrefused}
 use Rattle.rewind_plan.proofs.FoundLemmas.{plan-found}
-use Rattle.rewind_core.specs.Fits.{IsPlanFor, IsRewound}
-use Rattle.rewind_core.specs.Planned.{Needing}
+use Rattle.rewind_survey.specs.declared.fault.RewindFault.{RewindFault}
+use Rattle.rewind_survey.specs.declared.fault.RewindFault.TheVariants as fault
+use Rattle.rewind_core.specs.Faults.{of_perform}
+use Rattle.rewind_core.specs.Fits.{Fits, FitsMeant, IsCause, IsDone, IsPlanFor, IsRewound, Went}
+use Rattle.rewind_core.specs.Planned.{AtFork, Meant, Needing, Needs, OneTimeline}
 use Rattle.rewind_core.specs.declared.outcome.Plan.{Plan}
+use Rattle.rewind_core.specs.declared.outcome.Planned.{Planned}
+use Rattle.rewind_core.specs.declared.outcome.Planned.TheVariants as planned
+use Rattle.rewind_core.specs.declared.outcome.RewindDone.{RewindDone}
+use Rattle.rewind_core.specs.declared.outcome.RewindDone.TheVariants as done
 
 module _ (c : Contents) (n : Needing) (plan : Plan) (is : IsPlanFor c n plan) where
   pub found : IsFound c plan.writes
@@ -28,3 +37,56 @@ module _ (c : Contents) (n : Needing) (plan : Plan) (is : IsPlanFor c n plan) wh
   pub rewound-by : {k l : List ChangeCall} {c' : Contents} (r : Result (Unit {0}) PerformFault) → Runs (plan_changes c plan.writes) k l c c' (is_done r) → OnOk r (IsRewound c n c')
   rewound-by (Ok u) runs = left _ (runs.after refl)
   rewound-by (Err e) runs = tt
+
+-- faults of what is carried out, as those of a rewind
+pub changed-of : (f : PerformFault) (p : PathValue) → of_perform f ≡ fault.Changed p → f ≡ perform.Changed p
+changed-of perform.ReadFault p h = absurd (cc h)
+changed-of perform.WriteFault p h = absurd (cc h)
+changed-of (perform.Changed path) p h = cc h
+
+-- a plan that is needed, by what was planned
+needed-by : (c : Contents) (m : Meant) (plan : Plan) → Fits c m (planned.Needed plan) → (n : Needing) × (m ≡ Needs n) × IsPlanFor c n plan
+needed-by c OneTimeline plan fits = absurd fits
+needed-by c (AtFork fork) plan fits = absurd fits
+needed-by c (Needs n) plan fits = (n, refl, fits)
+
+pub needed-of : (c : Contents) (meant : Result Meant RewindFault) (v : Planned) (plan : Plan) → FitsMeant c meant v → v ≡ planned.Needed plan
+    → (n : Needing) × (meant ≡ Ok (Needs n)) × IsPlanFor c n plan
+needed-of c meant v plan fits is =
+    let p : (n : Needing) × (fits.meaning ≡ Needs n) × IsPlanFor c n plan = needed-by c fits.meaning plan (subst (Fits c fits.meaning) is fits.fits) in
+    (p.0, fits.found ∙ ap (λ m. Ok m) p.1, p.2)
+
+module _ (c : Contents) (meant : Result Meant RewindFault) (n : Needing) (plan : Plan) (is : IsPlanFor c n plan) (found : meant ≡ Ok (Needs n)) where
+  pub done-by : (c' : Contents) (r : Result RewindDone RewindFault) → IfOk r (λ d. d ≡ done.Rewound plan.told) → OnOk r (IsRewound c n c') → IfOk r (λ d. IsDone c meant d c')
+  done-by c' (Ok d) told left = subst (λ x. IsDone c meant x c') (sym told) (n, found, is.told, left)
+  done-by c' (Err e) told left = tt
+
+  cause-in : (e : RewindFault) → (e ≡ fault.ReadFault) ⊎ (e ≡ fault.WriteFault) ⊎ ((p : PathValue) × (e ≡ fault.Changed p)) → ((p : PathValue) → e ≢ fault.Changed p) → IsCause meant e
+  cause-in e (inl read) never = inl (inl read)
+  cause-in e (inr (inl write)) never = inr (inl write)
+  cause-in e (inr (inr changed)) never = absurd (never changed.0 changed.1)
+
+  pub cause-by : (r : Result RewindDone RewindFault) → IfErr r (λ e. (e ≡ fault.ReadFault) ⊎ (e ≡ fault.WriteFault) ⊎ ((p : PathValue) × (e ≡ fault.Changed p)))
+      → ((p : PathValue) → r ≢ Err (fault.Changed p)) → IfErr r (IsCause meant)
+  cause-by (Ok d) only never = tt
+  cause-by (Err e) only never = cause-in e only (λ p h. never p (ap (λ x. Err x) h))
+
+-- and where the tree is as it was planned for
+module _ (c c1 c' : Contents) (meant : Result Meant RewindFault) (n : Needing) (plan : Plan) (same : c1 ≡ c) (is : IsPlanFor c n plan) (found : meant ≡ Ok (Needs n)) where
+  there : IsPlanFor c1 n plan
+  there = subst (λ x. IsPlanFor x n plan) (sym same) is
+
+  pub done-at : (r : Result RewindDone RewindFault) → IfOk r (λ d. d ≡ done.Rewound plan.told) → (IsPlanFor c1 n plan → OnOk r (IsRewound c1 n c')) → IfOk r (λ d. IsDone c meant d c')
+  done-at r told left = done-by c meant n plan is found c' r told (subst (λ x. OnOk r (IsRewound x n c')) same (left there))
+
+  pub cause-at : (r : Result RewindDone RewindFault) → IfErr r (λ e. (e ≡ fault.ReadFault) ⊎ (e ≡ fault.WriteFault) ⊎ ((p : PathValue) × (e ≡ fault.Changed p)))
+      → (IsPlanFor c1 n plan → (p : PathValue) → r ≢ Err (fault.Changed p)) → IfErr r (IsCause meant)
+  cause-at r only never = cause-by c meant n plan is found r only (never there)
+
+  pub went-at : (k k1 k' : List ChangeCall) (ok : Bool) → k1 ≡ k → (IsPlanFor c1 n plan → Runs (plan_changes c1 plan.writes) k1 k' c1 c' ok)
+      → Went meant (record { contents = c; calls = k }) (record { contents = c'; calls = k' }) ok
+  went-at k k1 k' ok uncalled runs =
+      inr (n, plan, found, is, subst (λ x. Runs (plan_changes x plan.writes) k k' x c' ok) same (subst (λ l. Runs (plan_changes c1 plan.writes) l k' c1 c' ok) uncalled (runs there)))
+
+  pub never-at : {P : PathValue → Type 0} → (IsPlanFor c1 n plan → (p : PathValue) → P p) → (p : PathValue) → P p
+  never-at never = never there

@@ -1,5 +1,5 @@
 -- What is meant, stage by stage.
-use Rattle.std.proofs.Common.{◌≡◌, ◌⊎◌, inl, inr, List, [], ◌∷◌, Option, None, Some, Result, Ok, Err, option_map, refl, ap, ◌∙◌}
+use Rattle.std.proofs.Common.{◌≡◌, ◌⊎◌, inl, inr, List, [], ◌∷◌, Option, None, Some, Result, Ok, Err, option_map, IfErr, IfOk, refl, ap, sym, subst, ◌∙◌}
 use Rattle.cluster_tree.specs.Apart.{AreApart}
 use Rattle.cluster_tree.specs.Causes.{first_of, given, unless}
 use Rattle.cluster_tree.specs.Contents.{Contents, IsTree}
@@ -8,6 +8,7 @@ use Rattle.file_walk.specs.Pairs.{pairs_of}
 use Rattle.file_walk.specs.Walk.{walk_of}
 use Rattle.file_walk.specs.declared.entry.Entry.{Entry}
 use Rattle.file_walk.specs.declared.fault.WalkFault.{WalkFault}
+use Rattle.file_walk.specs.declared.pair.Pair.{Pair}
 use Rattle.rewind_plan.proofs.WalksFit.{walks-fit}
 use Rattle.rewind_plan.specs.Checks.{first_difference}
 use Rattle.rewind_plan.specs.PlanOf.{IsPlanOf}
@@ -18,10 +19,14 @@ use Rattle.rewind_survey.specs.Faults.{IsFree}
 use Rattle.rewind_survey.specs.declared.fault.RewindFault.{RewindFault}
 use Rattle.rewind_survey.specs.declared.fault.RewindFault.TheVariants as fault
 use Rattle.rewind_core.specs.Faults.{seen}
-use Rattle.rewind_core.specs.Fits.{IsPlanFor}
+use Rattle.rewind_core.specs.Fits.{IsPlanFor, PlansNeeded}
 use Rattle.rewind_core.specs.Planned.{Aim, Needing, Needs, from_pairs, from_walks, pairs_refusal}
 use Rattle.rewind_core.specs.Rooted.{IsRooted}
 use Rattle.rewind_core.specs.declared.outcome.Plan.{Plan}
+
+-- a fault that is handed on
+pub handed : {A : Type 0} (P : Result A RewindFault → Type 0) (r : Result A RewindFault) (e : RewindFault) → ((f : RewindFault) × (r ≡ Err f) × (f ≡ e)) → P (Err e) → P r
+handed P r e p why = subst P (sym (p.1 ∙ ap (λ x. Err x) p.2)) why
 
 -- a reading that is refused
 pub given-err : {A B : Type 0} (meant : Result A RewindFault) (k : A → Result B RewindFault) (e : RewindFault) → IsFree e ⊎ (meant ≡ Err e) → IsFree e ⊎ (given meant k ≡ Err e)
@@ -29,7 +34,7 @@ given-err meant k e (inl free) = inl free
 given-err meant k e (inr is) = inr (ap (λ m. given m k) is)
 
 -- and one that isn't
-given-ok : {A B : Type 0} {meant : Result A RewindFault} {v : A} (k : A → Result B RewindFault) → meant ≡ Ok v → given meant k ≡ k v
+pub given-ok : {A B : Type 0} {meant : Result A RewindFault} {v : A} (k : A → Result B RewindFault) → meant ≡ Ok v → given meant k ≡ k v
 given-ok k is = ap (λ m. given m k) is
 
 pub ok-walk : {A : Type 0} (meant : Result A WalkFault) (v : A) → seen meant ≡ Ok v → meant ≡ Ok v
@@ -53,12 +58,16 @@ module _ (c : Contents) (aim : Aim) where
   target-refused e h = given-err _ _ e h
 
   module _ (ts : List Entry) (told : seen (walk_of c w.target) ≡ Ok ts) where
-    pub source-refused : (e : RewindFault) → IsFree e ⊎ (seen (walk_of c w.source) ≡ Err e) → IsFree e ⊎ (from_walks c aim ≡ Err e)
+    pub source-refused : (c' : Contents) (e : RewindFault) → c' ≡ c → IsFree e ⊎ (seen (walk_of c' w.source) ≡ Err e) → IsFree e ⊎ (from_walks c aim ≡ Err e)
     unfolding from_walks
-    source-refused e (inl free) = inl free
-    source-refused e (inr is) = inr (given-ok _ told ∙ ap (λ m. given m (λ ss. from_pairs aim (pairs_of ts ss))) is)
+    source-refused c' e same (inl free) = inl free
+    source-refused c' e same (inr is) =
+        inr (given-ok _ told ∙ ap (λ m. given m (λ ss. from_pairs aim (pairs_of ts ss))) (ap (λ x. seen (walk_of x w.source)) (sym same) ∙ is))
 
-    module _ (ss : List Entry) (there : seen (walk_of c w.source) ≡ Ok ss) where
+    module _ (c' : Contents) (ss : List Entry) (same : c' ≡ c) (seen-there : seen (walk_of c' w.source) ≡ Ok ss) where
+      there : seen (walk_of c w.source) ≡ Ok ss
+      there = ap (λ x. seen (walk_of x w.source)) (sym same) ∙ seen-there
+
       walked-on : from_walks c aim ≡ from_pairs aim (pairs_of ts ss)
       unfolding from_walks
       walked-on = given-ok _ told ∙ given-ok (λ ss. from_pairs aim (pairs_of ts ss)) there
@@ -78,8 +87,18 @@ module _ (c : Contents) (aim : Aim) where
         record {
           told = is;
           writes = writes;
-          sides = walks-fit c w target.1.0 source.1.0 ts ss
-              (record { finished = target.0; read = target.1.1; parts = target_parts; walk = ok-walk _ ts told })
-              (record { finished = source.0; read = source.1.1; parts = source_parts; walk = ok-walk _ ss there })
+          sides = walks-fit c w target.1 source.1 ts ss
+              (record { finished = target.0; read = target.2; parts = target_parts; walk = ok-walk _ ts told })
+              (record { finished = source.0; read = source.2; parts = source_parts; walk = ok-walk _ ss there })
               tree apart (no-difference (first_lacking w (pairs_of ts ss)) (first_difference (pairs_of ts ss)) none);
         })
+
+      pub walked-plans : (pairs : List Pair) → pairs ≡ pairs_of ts ss → IsTree c → AreApart w.target w.source → IsRooted c w.target → IsRooted c w.source
+          → HasParts c w.target → HasParts c' w.source → (r : Result Plan RewindFault) → IfErr r (λ e. IsFree e ⊎ (pairs_refusal w pairs ≡ Some e))
+          → IfOk r (λ plan. pairs_refusal w pairs ≡ None) → IfOk r (λ plan. plan.told ≡ aim.told) → IfOk r (λ plan. IsPlanOf w pairs aim.control aim.label plan.writes)
+          → PlansNeeded c (from_walks c aim) r
+      walked-plans pairs is tree apart t s tp sp (Ok plan) refused none told made =
+          planned-for plan tree apart t s tp (subst (λ x. HasParts x w.source) same sp) (subst (λ l. pairs_refusal w l ≡ None) is none) told
+          (subst (λ l. IsPlanOf w l aim.control aim.label plan.writes) is made)
+      walked-plans pairs is tree apart t s tp sp (Err e) refused none told made =
+          pairs-refused e (subst (λ l. IsFree e ⊎ (pairs_refusal w l ≡ Some e)) is refused)
