@@ -1,0 +1,4 @@
+pub mod FaultLemmas
+pub mod LabelLemmas
+pub mod ScanLemmas
+pub mod StageLemmas

@@ -1,0 +1,34 @@
+-- What the first reading of a log answers, by what was seen.
+use Rattle.std.proofs.Common.{◌≡◌, ◌⊎◌, ◌∙◌, inl, inr, List, [], ◌∷◌, None, Option, Some, option_map, ◌||◌, false, refl, ap, sym, subst}
+use Rattle.std.specs.List.{list_any}
+use Rattle.backup_label.specs.declared.reading.LabelPlaces.{LabelPlaces}
+use Rattle.cluster_tree.specs.PathValue.{PathValue}
+use Rattle.cluster_tree.specs.Causes.{first_of}
+use Rattle.cluster_tree.proofs.PointLemmas.{first_of-none, first_of-some}
+use Rattle.control_file.specs.declared.control.Control.{Control}
+use Rattle.replay_profile.specs.Profile.{first_outside}
+use Rattle.wal_records.specs.Log.{end_after}
+use Rattle.wal_records.specs.Reading.{LogRecord}
+use Rattle.replay_start.specs.Faults.{IsFree, of_profile}
+use Rattle.replay_start.specs.Scanned.{ends_too_soon, is_labelled, log_refusal, unlabelled}
+use Rattle.replay_start.specs.Steps.{IsRefused, IsScanned}
+use Rattle.replay_start.specs.declared.fault.ReplayFault.{ReplayFault}
+use Rattle.replay_start.specs.declared.scan.Seen.{Seen}
+
+module _ (root : PathValue) (control : Control) (label : LabelPlaces) (records : List LogRecord) where
+  -- a record that isn't taken
+  pub log_refused : (e : ReplayFault) → IsRefused records e → IsFree e ⊎ (log_refusal root control label records ≡ Some e)
+  unfolding log_refusal
+  log_refused e (inl free) = inl free
+  log_refused e (inr is) = inr (first_of-some (option_map of_profile (first_outside records)) e _ is)
+
+  -- all are: then the end and the checkpoint decide
+  pub log_seen : (before after : Seen) → before.end.0 ≡ label.start.0 → before.found ≡ false → IsScanned label records before after
+      → log_refusal root control label records ≡ first_of (ends_too_soon control.minRecoveryPoint after.end.0 ∷ unlabelled root after.found ∷ [])
+  unfolding log_refusal
+  log_seen before after start none seen =
+      first_of-none (option_map of_profile (first_outside records)) _ (ap (option_map of_profile) seen.taken)
+      ∙ ap (λ end. first_of (ends_too_soon control.minRecoveryPoint end ∷ unlabelled root (list_any (is_labelled label) records) ∷ [])) (ap (λ at. end_after at records) (sym start) ∙ seen.end)
+      ∙ ap (λ found. first_of (ends_too_soon control.minRecoveryPoint after.end.0 ∷ unlabelled root found ∷ [])) (ap (λ b. b || list_any (is_labelled label) records) (sym none) ∙ seen.found)
+
+pub ruleset log_steps = (log_refused, log_seen)

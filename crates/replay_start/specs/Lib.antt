@@ -1,0 +1,4 @@
+pub mod Faults
+pub mod Scanned
+pub mod Checked
+pub mod Steps
