@@ -1,14 +1,12 @@
 -- Files after a record's effect: PostgreSQL 16, src/backend/access/transam/xact.c, xact_redo_commit and xact_redo_abort;
 -- src/include/access/clog.h; src/backend/access/transam/multixact.c, PerformOffsetsTruncation and PerformMembersTruncation.
 use Rattle.std.specs.Prelude.{ℕ, ◌+◌, ◌-◌, ◌/◌, ◌%◌, ◌^◌, ◌==◌, List, [], ◌∷◌, ◌++◌, Result, Ok, if◌then◌else◌}
-use Rattle.block_refs.specs.Bytes.{main_bytes}
 use Rattle.block_refs.specs.Parts.{PartsView}
 use Rattle.block_refs.specs.declared.names.RelName.{RelName}
 use Rattle.cluster_tree.specs.Causes.{given}
 use Rattle.cluster_tree.specs.Contents.{Contents}
 use Rattle.cluster_tree.specs.PathValue.{PathValue}
 use Rattle.cluster_tree.specs.declared.file_fault.FileFault.{FileFault}
-use Rattle.record_layouts.specs.Operation.{operation_of}
 use Rattle.record_layouts.specs.declared.end.TransactionEnd.{TransactionEnd}
 use Rattle.record_layouts.specs.declared.end_parts.Outcome.{Outcome}
 use Rattle.record_layouts.specs.declared.end_parts.Outcome.TheVariants.{Commit, Abort}
@@ -24,7 +22,7 @@ use Rattle.storage_replay.specs.Changes.{created, relation_dropped, truncated}
 use Rattle.storage_replay.specs.MapBits.{map_edited}
 use Rattle.storage_replay.specs.declared.map_edit.MapEdit.TheVariants.{Clear}
 use Rattle.wal_records.specs.Reading.{LogRecord}
-use Rattle.file_effects.specs.Effect.{effect_of}
+use Rattle.file_effects.specs.Effect.{effect_in}
 use Rattle.file_effects.specs.MapClears.{bits_number, map_clears}
 use Rattle.file_effects.specs.declared.clearing.Clearing.{Clearing}
 use Rattle.file_effects.specs.declared.effect.FileEffect.{FileEffect}
@@ -77,10 +75,6 @@ effect_done root per_file rec parts (effect.CutMultis cut) c = multis_cut root c
 effect_done root per_file rec parts effect.WriteMap c = map_written root (update_in rec parts) c
 effect_done root per_file rec parts (effect.MakeDatabase database) c = database_made root database c
 effect_done root per_file rec parts (effect.DropDatabase database) c = database_dropped root database c
-
--- the effect of a record
-abbrev pub effect_in : LogRecord → PartsView → FileEffect
-effect_in rec parts = effect_of (operation_of rec.header.manager rec.header.info) (main_bytes rec.body parts)
 
 -- the files of a cluster after a record: the map's bits first, and then its effect
 unfoldable pub files_after : PathValue → (per_file : ℕ) → LogRecord → PartsView → Contents → Result Contents FileFault

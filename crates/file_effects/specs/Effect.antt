@@ -3,10 +3,13 @@
 -- multixact_redo; src/backend/commands/dbcommands.c, dbase_redo; src/backend/utils/cache/relmapper.c, relmap_redo.
 use Rattle.std.specs.Prelude.{ℕ, List, Option}
 use Rattle.std.specs.Option.{option_map_or}
+use Rattle.block_refs.specs.Bytes.{main_bytes}
+use Rattle.block_refs.specs.Parts.{PartsView}
 use Rattle.record_layouts.specs.Clog.{clog_truncate_of, clog_zero_page_of}
 use Rattle.record_layouts.specs.Database.{database_create_of, database_drop_of}
 use Rattle.record_layouts.specs.End.{end_of}
 use Rattle.record_layouts.specs.MultiXact.{multixact_truncate_of, multixact_zero_page_of}
+use Rattle.record_layouts.specs.Operation.{operation_of}
 use Rattle.record_layouts.specs.Storage.{storage_create_of, storage_truncate_of}
 use Rattle.record_layouts.specs.declared.clog.ClogOp.{ClogOp}
 use Rattle.record_layouts.specs.declared.clog.ClogOp.TheVariants as clog
@@ -24,6 +27,7 @@ use Rattle.record_layouts.specs.declared.transaction.TransactionOp.{TransactionO
 use Rattle.record_layouts.specs.declared.transaction.TransactionOp.TheVariants as transaction
 use Rattle.slru_replay.specs.declared.area.Area.{Area}
 use Rattle.slru_replay.specs.declared.area.Area.TheVariants as area
+use Rattle.wal_records.specs.Reading.{LogRecord}
 use Rattle.file_effects.specs.declared.effect.FileEffect.{FileEffect}
 use Rattle.file_effects.specs.declared.effect.FileEffect.TheVariants as effect
 
@@ -74,3 +78,7 @@ effect_of (op.Database o) main = effect_by_database o main
 effect_of (op.MultiXact o) main = effect_by_multixact o main
 effect_of (op.RelMap o) main = effect_by_relmap o
 effect_of _ main = effect.Nothing
+
+-- the effect of a record
+abbrev pub effect_in : LogRecord → PartsView → FileEffect
+effect_in rec parts = effect_of (operation_of rec.header.manager rec.header.info) (main_bytes rec.body parts)

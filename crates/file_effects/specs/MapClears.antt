@@ -83,6 +83,9 @@ listed (Some clearing) = clearing ∷ []
 abbrev pub all_listed : Clears → List Clearing
 all_listed clears = listed clears.first ++ listed clears.second
 
+abbrev pub clears_in : LogRecord → PartsView → Clears
+clears_in rec parts = cleared_by (operation_of rec.header.manager rec.header.info) (main_bytes rec.body parts) parts
+
 -- the bits that a record clears, an update's old block first
 abbrev pub map_clears : LogRecord → PartsView → List Clearing
-map_clears rec parts = all_listed (cleared_by (operation_of rec.header.manager rec.header.info) (main_bytes rec.body parts) parts)
+map_clears rec parts = all_listed (clears_in rec parts)

@@ -7,49 +7,21 @@ ghost use Rattle.cluster_tree.specs.Frame.{Came};
 ghost use Rattle.file_edits.specs.Answers.{Does};
 ghost use Rattle.file_edits.specs.Own.{OnOwn};
 ghost use Rattle.storage_replay.specs.Files.{AreFit};
-ghost use Rattle.file_effects.specs.Done.{bits_cleared, effect_done, effect_in, files_after, for_each};
-ghost use Rattle.file_effects.specs.MapClears.{map_clears};
+ghost use Rattle.file_effects.specs.Done.{effect_done, files_after};
 ghost use Rattle.file_effects.specs.Own.{is_replayed};
 
 use crate::bits::clear_bits;
-use crate::effect::{FileEffect, effect_of};
+use crate::effect::{FileEffect, effect_in};
 use crate::ending::end_transaction;
-use crate::map_clears::cleared_by;
+use crate::map_clears::clears_in;
 use crate::multis::cut_multis;
 use block_refs::Parts;
 use cluster_tree::{FileFault, Tree};
-use record_layouts::Operation;
 use slru_replay::{Area, add_multi, cut_before, zero_page};
 use std::alloc::Global;
 use storage_databases::{drop_database, make_database, write_relation_map};
 use storage_replay::{Files, create, truncate};
 use wal_records::Record;
-
-// Clears the bits of the map that a record clears.
-fn clear_map<F: Tree>(
-    alloc: Global,
-    tree: &mut F,
-    at: &Files,
-    rec: &Record,
-    parts: &Parts,
-) -> Result<(), FileFault>
-    requires fit { AreFit at.now }
-    requires parts { ArePartsOf rec.now parts.now }
-    ensures exact { IsTrue F.tells → Does (for_each (bits_cleared at.now.root at.now.per_file)
-        (map_clears rec.now parts.now) (F.contents tree.old)) (F.contents tree.new) result }
-    ensures frame { Came F.Tree tree.old tree.new }
-    ensures own { IsTrue F.tells → OnOwn F.calls (is_replayed at.now.root) tree.old tree.new }
-    ensures read_fault { IsErrOf result FileFault.ReadFault →
-        Rose (F.failed_reads tree.old) (F.failed_reads tree.new) }
-    ensures write_fault { IsErrOf result FileFault.WriteFault →
-        Rose (F.failed_changes tree.old) (F.failed_changes tree.new) }
-    ensures changed { IsTrue F.tells → (p : PathValue) → result ≢ Err (FileFault.Changed p) }
-{
-    let header = rec.header();
-    let op = Operation::of(header.manager, header.info);
-    let clears = cleared_by(op, parts.main_bytes(rec), parts);
-    clear_bits(alloc, tree, at, clears)
-}
 
 // Carries out a record's effect.
 fn carry_out<F: Tree>(
@@ -124,9 +96,8 @@ pub fn act_on_files<F: Tree>(
         Rose (F.failed_changes tree.old) (F.failed_changes tree.new) }
     ensures changed { IsTrue F.tells → (p : PathValue) → result ≢ Err (FileFault.Changed p) }
 {
-    clear_map(alloc, tree, at, rec, parts)?;
-    let header = rec.header();
-    let op = Operation::of(header.manager, header.info);
-    let effect = effect_of(op, parts.main_bytes(rec));
+    let clears = clears_in(rec, parts);
+    clear_bits(alloc, tree, at, clears)?;
+    let effect = effect_in(rec, parts);
     carry_out(alloc, tree, at, rec, parts, &effect)
 }

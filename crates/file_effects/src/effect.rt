@@ -1,13 +1,16 @@
 // What a record does to files beside bits of the map.
 ghost use Rattle.std.specs.Prelude.{◌≡◌};
-ghost use Rattle.file_effects.specs.Effect.{effect_by_clog, effect_by_database, effect_by_multixact, effect_by_relmap, effect_by_storage, effect_by_transaction, effect_of, page_effect};
+ghost use Rattle.block_refs.specs.Parts.{ArePartsOf};
+ghost use Rattle.file_effects.specs.Effect.{effect_by_clog, effect_by_database, effect_by_multixact, effect_by_relmap, effect_by_storage, effect_by_transaction, effect_in, effect_of, page_effect};
 
+use block_refs::Parts;
 use record_layouts::{
     ClogOp, ClogTruncate, ClogZeroPage, DatabaseCreate, DatabaseDrop, DatabaseOp, MultiXactOp,
     MultiXactTruncate, MultiXactZeroPage, Operation, Outcome, RelMapOp, StorageCreate, StorageOp,
     StorageTruncate, TransactionEnd, TransactionOp,
 };
 use slru_replay::Area;
+use wal_records::Record;
 
 /// What an operation does to files.
 #[derive(Drop)]
@@ -134,8 +137,9 @@ fn effect_by_database<'a>(op: DatabaseOp, main: &[u8]) -> FileEffect<'a>
     }
 }
 
-/// What an operation with these main bytes does.
-pub(crate) fn effect_of<'a>(op: Operation, main: &'a [u8]) -> FileEffect<'a>
+// What an operation with these main bytes does.
+#[tactic(auto, unfolding(crate::specs::Effect::effect_of))]
+fn effect_of<'a>(op: Operation, main: &'a [u8]) -> FileEffect<'a>
     ensures { result ≡ effect_of op main.now }
 {
     match op {
@@ -147,4 +151,14 @@ pub(crate) fn effect_of<'a>(op: Operation, main: &'a [u8]) -> FileEffect<'a>
         Operation::RelMap(op) => effect_by_relmap(op),
         _ => FileEffect::Nothing,
     }
+}
+
+/// What a record of these parts does.
+pub(crate) fn effect_in<'a>(rec: &'a Record, parts: &Parts) -> FileEffect<'a>
+    requires parts { ArePartsOf rec.now parts.now }
+    ensures { result ≡ effect_in rec.now parts.now }
+{
+    let header = rec.header();
+    let op = Operation::of(header.manager, header.info);
+    effect_of(op, parts.main_bytes(rec))
 }

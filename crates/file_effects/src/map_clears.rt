@@ -1,15 +1,17 @@
 // The bits of the visibility map that a record clears.
 ghost use Rattle.std.specs.Prelude.{◌≡◌};
 ghost use Rattle.block_refs.specs.Bits.{has_bits};
+ghost use Rattle.block_refs.specs.Parts.{ArePartsOf};
 ghost use Rattle.block_refs.specs.declared.names.Fork.TheVariants.{Main};
 ghost use Rattle.storage_replay.specs.Cutting.{same_fork};
-ghost use Rattle.file_effects.specs.MapClears.{bits_of, cleared_by, cleared_by_heap, cleared_by_heap2, flagged, frozen_cleared, no_clears, old_id, update_cleared, visible_cleared};
+ghost use Rattle.file_effects.specs.MapClears.{bits_of, cleared_by, cleared_by_heap, cleared_by_heap2, clears_in, flagged, frozen_cleared, no_clears, old_id, update_cleared, visible_cleared};
 
 use crate::clearing::{ClearedBits, Clearing, Clears};
 use block_refs::{BlockName, Fork, Parts};
 use record_layouts::{
     Heap2Op, HeapDelete, HeapInsert, HeapLock, HeapMultiInsert, HeapOp, HeapUpdate, Operation,
 };
+use wal_records::Record;
 
 // The flag of a record that its block is no longer all visible, of an update the old tuple's block.
 const CLEARED: u8 = 1;
@@ -147,8 +149,8 @@ fn cleared_by_heap2(op: Heap2Op, main: &[u8], parts: &Parts) -> Clears
     }
 }
 
-/// The bits that an operation with these main bytes clears, on blocks of these parts.
-pub(crate) fn cleared_by(op: Operation, main: &[u8], parts: &Parts) -> Clears
+// The bits that an operation with these main bytes clears.
+fn cleared_by(op: Operation, main: &[u8], parts: &Parts) -> Clears
     ensures { result ≡ cleared_by op main.now parts.now }
 {
     match op {
@@ -156,4 +158,14 @@ pub(crate) fn cleared_by(op: Operation, main: &[u8], parts: &Parts) -> Clears
         Operation::Heap2(op) => cleared_by_heap2(op, main, parts),
         _ => no_clears(),
     }
+}
+
+/// The bits that a record of these parts clears.
+pub(crate) fn clears_in(rec: &Record, parts: &Parts) -> Clears
+    requires parts { ArePartsOf rec.now parts.now }
+    ensures { result ≡ clears_in rec.now parts.now }
+{
+    let header = rec.header();
+    let op = Operation::of(header.manager, header.info);
+    cleared_by(op, parts.main_bytes(rec), parts)
 }
