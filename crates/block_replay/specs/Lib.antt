@@ -1,0 +1,5 @@
+pub mod World
+pub mod Faults
+pub mod Pages
+pub mod Blocks
+pub mod Own
