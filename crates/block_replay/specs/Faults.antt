@@ -1,5 +1,5 @@
 -- Why a record isn't replayed. Own: "Answers and their causes".
-use Rattle.std.specs.Prelude.{List, ℕ, Result, Ok, Err}
+use Rattle.std.specs.Prelude.{◌≡◌, List, ℕ, Result, Ok, Err, MatchResult}
 use Rattle.block_refs.specs.Outcomes.{start_of}
 use Rattle.block_refs.specs.declared.names.BlockName.{BlockName}
 use Rattle.cluster_tree.specs.declared.file_fault.FileFault.{FileFault}
@@ -23,3 +23,7 @@ of_redo rec name (Err why) = Err (RedoFailed (start_of rec) name why)
 abbrev pub IsFreeFault : RecordFault → Type 0
 IsFreeFault (File fault) = IsFree fault
 IsFreeFault (RedoFailed start name why) = ⊥
+
+-- a page is left that is the one meant, or the refusal is
+abbrev pub Leaves : Result (List ℕ) RecordFault → List ℕ → Result (Unit {0}) RecordFault → Type 0
+Leaves meant page result = MatchResult result (λ _. meant ≡ Ok page) (λ fault. meant ≡ Err fault)

@@ -1,6 +1,6 @@
 -- Pages that replay puts in place: PostgreSQL 16, src/backend/access/transam/xlogutils.c, XLogReadBufferForRedoExtended.
 -- Own: "Blocks in replay".
-use Rattle.std.specs.Prelude.{ℕ, List, nat_lt, Option, None, Some, Result, Ok, option_or, if◌then◌else◌}
+use Rattle.std.specs.Prelude.{ℕ, List, nat_lt, Option, None, Some, Result, Ok, if◌then◌else◌}
 use Rattle.block_refs.specs.declared.names.BlockName.{BlockName}
 use Rattle.cluster_tree.specs.Causes.{given}
 use Rattle.cluster_tree.specs.Contents.{Contents}

@@ -2,7 +2,6 @@
 
 ghost use Rattle.std.specs.Prelude.{◌≡◌, ◌≢◌, ◌<◌, ◌-◌, ◌^◌, IsTrue, Err, IsErrOf};
 ghost use Rattle.block_effects.specs.Effects.{zeros};
-ghost use Rattle.block_refs.specs.Outcomes.{MeetsIn};
 ghost use Rattle.block_refs.specs.Parts.{ArePartsOf};
 ghost use Rattle.cluster_tree.specs.Causes.{MeetsInto, Rose};
 ghost use Rattle.cluster_tree.specs.Frame.{Came, Reads};
@@ -13,7 +12,7 @@ ghost use Rattle.storage_pages.specs.MapPage.{visible_map};
 ghost use Rattle.storage_replay.specs.Files.{AreFit};
 ghost use Rattle.storage_replay.specs.Reading.{ReadsBlock, block_read};
 ghost use Rattle.block_replay.specs.Blocks.{redone};
-ghost use Rattle.block_replay.specs.Faults.{IsFreeFault, of_redo};
+ghost use Rattle.block_replay.specs.Faults.{IsFreeFault, Leaves, of_redo};
 ghost use Rattle.block_replay.specs.Own.{is_replayed};
 ghost use Rattle.block_replay.specs.Pages.{image_left, page_put};
 
@@ -99,7 +98,7 @@ pub(crate) fn redo_page(
     page: &mut Page,
 ) -> Result<(), RecordFault>
     requires parts { ArePartsOf rec.now parts.now }
-    ensures exact { MeetsIn (of_redo rec.now block.now.name (redone rec.now parts.now block.now
+    ensures exact { Leaves (of_redo rec.now block.now.name (redone rec.now parts.now block.now
         page.old)) page.new result }
 {
     match redo(rec, parts, block.id, page) {
@@ -116,7 +115,7 @@ pub(crate) fn redo_map_page(
     page: &mut Page,
 ) -> Result<(), RecordFault>
     requires parts { ArePartsOf rec.now parts.now }
-    ensures exact { MeetsIn (of_redo rec.now name (stamped rec.now.end (visible_map rec.now parts.now)
+    ensures exact { Leaves (of_redo rec.now name (stamped rec.now.end (visible_map rec.now parts.now)
         page.old)) page.new result }
 {
     match redo_map(rec, parts, page) {
