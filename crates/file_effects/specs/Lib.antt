@@ -1,0 +1,5 @@
+pub mod Own
+pub mod MapClears
+pub mod Effect
+pub mod Done
+pub mod Laws
