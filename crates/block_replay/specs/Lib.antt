@@ -2,4 +2,3 @@ pub mod World
 pub mod Faults
 pub mod Pages
 pub mod Blocks
-pub mod Own

@@ -12,7 +12,7 @@ ghost use Rattle.page_masks.specs.Law.{stamped};
 ghost use Rattle.storage_pages.specs.MapPage.{visible_map};
 ghost use Rattle.storage_replay.specs.Files.{AreFit};
 ghost use Rattle.block_replay.specs.Faults.{IsFreeFault};
-ghost use Rattle.block_replay.specs.Own.{is_replayed};
+ghost use Rattle.file_effects.specs.Own.{is_replayed};
 ghost use Rattle.block_replay.specs.Blocks.{map_changed, redone};
 ghost use Rattle.block_replay.specs.Pages.{image_put, older_put, redone_put};
 

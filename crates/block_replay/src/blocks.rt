@@ -12,7 +12,7 @@ ghost use Rattle.page_masks.specs.Law.{stamped};
 ghost use Rattle.storage_pages.specs.MapPage.{visible_map};
 ghost use Rattle.storage_replay.specs.Files.{AreFit};
 ghost use Rattle.block_replay.specs.Faults.{IsFreeFault};
-ghost use Rattle.block_replay.specs.Own.{is_replayed};
+ghost use Rattle.file_effects.specs.Own.{is_replayed};
 ghost use Rattle.std.specs.Prelude.{true};
 ghost use Rattle.record_effects.specs.Acts.{act_on};
 ghost use Rattle.replay_profile.specs.Names.{are_known};

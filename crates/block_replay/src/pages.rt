@@ -13,7 +13,7 @@ ghost use Rattle.storage_replay.specs.Files.{AreFit};
 ghost use Rattle.storage_replay.specs.Reading.{ReadsBlock, block_read};
 ghost use Rattle.block_replay.specs.Blocks.{redone};
 ghost use Rattle.block_replay.specs.Faults.{IsFreeFault, Leaves, of_redo};
-ghost use Rattle.block_replay.specs.Own.{is_replayed};
+ghost use Rattle.file_effects.specs.Own.{is_replayed};
 ghost use Rattle.block_replay.specs.Pages.{image_left, page_put};
 
 use crate::faults::RecordFault;
