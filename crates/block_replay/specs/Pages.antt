@@ -22,17 +22,15 @@ page_there root per_file name c = of_files (block_read root per_file name c zero
 abbrev pub page_put : PathValue → (per_file : ℕ) → BlockName → List ℕ → Contents → Result Contents RecordFault
 page_put root per_file name page c = of_files (block_put root per_file name page c)
 
--- an image with the record's end as LSN, or zeros
-abbrev pub image_left : (end : ℕ) → List ℕ → List ℕ
-image_left end page = or_zeros (put_in_place end page)
-  where
-    or_zeros : Option (List ℕ) → List ℕ
-    or_zeros None = zeros
-    or_zeros (Some page) = page
+-- the bytes of a block that has this page, or none
+abbrev pub bytes_of : Option (List ℕ) → List ℕ
+bytes_of None = zeros
+bytes_of (Some page) = page
 
+-- an image put in place with the record's end as LSN, or as zeros
 abbrev pub image_put : PathValue → (per_file : ℕ) → LogRecord → BlockName → Option (List ℕ) → Contents → Result Contents RecordFault
 image_put root per_file rec name None c = Ok c
-image_put root per_file rec name (Some page) c = page_put root per_file name (image_left rec.end page) c
+image_put root per_file rec name (Some page) c = page_put root per_file name (bytes_of (put_in_place rec.end page)) c
 
 -- what redo makes of a page, put in place
 abbrev pub redone_put : PathValue → (per_file : ℕ) → LogRecord → BlockName → Redone → Contents → Result Contents RecordFault

@@ -1,0 +1,65 @@
+-- Pages that are redone and put in place.
+use Rattle.std.proofs.Common.{◌≡◌, ℕ, ◌≤◌, ◌<◌, ◌==◌, Bool, true, false, List, [], ◌∷◌, length, replicate, Option, None, Some, Result, Ok, Err, MatchOption, arith, ap, ap₂, sym, ◌∙◌, refl, inl, inr}
+use Rattle.std.specs.Prelude.{nat_lt, if◌then◌else◌}
+use Rattle.std.specs.List.{list_all}
+use Rattle.std.proofs.lemmas.Bool.{and_parts}
+use Rattle.std.proofs.lemmas.Bool.Decides.{nat_tests}
+use Rattle.block_effects.specs.Effects.{put_in_place, zeros}
+use Rattle.block_refs.specs.declared.names.BlockName.{BlockName}
+use Rattle.cluster_tree.specs.Causes.{MeetsInto, given}
+use Rattle.cluster_tree.specs.Contents.{Contents}
+use Rattle.cluster_tree.specs.PathValue.{PathValue}
+use Rattle.page_layout.specs.Lsn.{lsn, with_lsn}
+use Rattle.page_masks.specs.Kind.{is_zero}
+use Rattle.page_masks.specs.Law.{Redone}
+use Rattle.wal_records.specs.Reading.{LogRecord}
+use Rattle.block_replay.specs.Faults.{IsFreeFault, of_redo}
+use Rattle.block_replay.specs.Pages.{bytes_of, image_put, older_put, page_put, redone_put}
+use Rattle.block_replay.specs.declared.faults.RecordFault.{RecordFault}
+use Rattle.block_replay.proofs.FaultLemmas.{Why, given-ok, given-err, meets-is}
+
+all_zeros : (p : List ℕ) → is_zero p ≡ true → p ≡ replicate (length p) 0
+all_zeros [] e = refl
+all_zeros (b ∷ bs) e =
+    let parts = and_parts (b == 0) (list_all (λ x. x == 0) bs) e in
+    let none : b ≡ 0 = let first = parts.0 in grind (arith, nat_tests, first) in
+    ap₂ (λ x xs. x ∷ xs) none (all_zeros bs parts.1)
+
+-- an image, as it is put in place
+
+pub image-zeros : (end : ℕ) (p : List ℕ) → length p ≡ 8192 → is_zero p ≡ true → p ≡ bytes_of (put_in_place end p)
+image-zeros end p size e = all_zeros p e ∙ ap (λ n. replicate n 0) size ∙ ap (λ b. bytes_of (if b then None else Some (with_lsn end p))) (sym e)
+
+pub image-stamped : (end : ℕ) (p : List ℕ) → is_zero p ≡ false → with_lsn end p ≡ bytes_of (put_in_place end p)
+image-stamped end p e = ap (λ b. bytes_of (if b then None else Some (with_lsn end p))) (sym e)
+
+module _ (root : PathValue) (per : ℕ) (rec : LogRecord) (name : BlockName) (c : Contents) where
+  pub image-none : (o : Option (List ℕ)) (there : Bool) (new : List ℕ) → MatchOption o (there ≡ false) (λ image. (there ≡ true) × (new ≡ image)) → there ≡ false → image_put root per rec name o c ≡ Ok c
+  image-none None there new is e = refl
+  image-none (Some image) there new is e = absurd (let no : true ≡ false = sym is.0 ∙ e in cc no)
+
+  pub image-some : {A : Type 0} (o : Option (List ℕ)) (there : Bool) (new left : List ℕ) (d : Contents) (r : Result A RecordFault) → MatchOption o (there ≡ false) (λ image. (there ≡ true) × (new ≡ image)) → there ≡ true → left ≡ bytes_of (put_in_place rec.end new)
+      → MeetsInto IsFreeFault (page_put root per name left c) d r → MeetsInto IsFreeFault (image_put root per rec name o c) d r
+  image-some None there new left d r is e l done = absurd (let no : true ≡ false = sym e ∙ is in cc no)
+  image-some (Some image) there new left d r is e l done =
+      meets-is (page_put root per name left c) _ d r (ap (λ p. page_put root per name (bytes_of (put_in_place rec.end p)) c) (sym is.1) ∙ ap (λ p. page_put root per name p c) (sym l)) done
+
+  -- a page that was redone
+
+  pub put-refused : (redone : Redone) (e : RecordFault) → of_redo rec name redone ≡ Err e → Why (redone_put root per rec name redone c) e
+  put-refused redone e is = inr (given-err (of_redo rec name redone) (λ p. page_put root per name p c) e is)
+
+  pub put-done : {A : Type 0} (redone : Redone) (page : List ℕ) (d : Contents) (r : Result A RecordFault) → of_redo rec name redone ≡ Ok page → MeetsInto IsFreeFault (page_put root per name page c) d r → MeetsInto IsFreeFault (redone_put root per rec name redone c) d r
+  put-done redone page d r is done = meets-is (page_put root per name page c) _ d r (given-ok (of_redo rec name redone) (λ p. page_put root per name p c) page is) done
+
+  -- where it was older
+
+  pub older-left : (change : List ℕ → Redone) (page : List ℕ) → rec.end ≤ lsn page → older_put root per rec name change page c ≡ Ok c
+  older-left change page l =
+      let no : nat_lt (lsn page) rec.end ≡ false = grind (arith, nat_tests, l) in
+      ap (λ b. if b then redone_put root per rec name (change page) c else Ok c) no
+
+  pub older-put : {A : Type 0} (change : List ℕ → Redone) (page : List ℕ) (d : Contents) (r : Result A RecordFault) → lsn page < rec.end → MeetsInto IsFreeFault (redone_put root per rec name (change page) c) d r → MeetsInto IsFreeFault (older_put root per rec name change page c) d r
+  older-put change page d r l done =
+      let yes_older : nat_lt (lsn page) rec.end ≡ true = grind (arith, nat_tests, l) in
+      meets-is (redone_put root per rec name (change page) c) _ d r (ap (λ b. if b then redone_put root per rec name (change page) c else Ok c) yes_older) done
