@@ -1,8 +1,10 @@
 -- Blocks of a record.
-use Rattle.std.proofs.Common.{◌≡◌, ◌⊎◌, ℕ, ◌+◌, ◌-◌, ◌^◌, ◌<◌, ◌≤◌, ◌==◌, ◌&&◌, Bool, true, false, not, List, [], ◌∷◌, length, drop, Option, None, Some, option_map, Result, Ok, Err, arith, ap, ap₂, sym, ◌∙◌, refl, subst, inl, inr}
+use Rattle.std.proofs.Common.{◌≡◌, ◌⊎◌, ℕ, zero, suc, ◌+◌, ◌-◌, ◌^◌, ◌<◌, ◌≤◌, ◌==◌, ◌&&◌, Bool, true, false, not, List, [], ◌∷◌, length, drop, Option, None, Some, option_map, Result, Ok, Err, arith, ap, ap₂, sym, ◌∙◌, refl, subst, inl, inr}
 use Rattle.std.specs.List.{slice_get}
 use Rattle.std.proofs.lemmas.Bool.{and_parts}
 use Rattle.std.proofs.lemmas.Bool.Decides.{nat_tests}
+use Rattle.std.proofs.lemmas.List.{drop_all, drop_more}
+use Rattle.std.proofs.lemmas.Option.{slice_get_within, get_or_from_slice_get}
 use Rattle.block_effects.specs.Effects.{zeros}
 use Rattle.block_refs.specs.Parts.{PartsView}
 use Rattle.block_refs.specs.declared.block_ref.BlockRef.{BlockRef}
@@ -67,11 +69,11 @@ module _ (root : PathValue) (per : ℕ) (rec : LogRecord) (parts : PartsView) wh
   step placed w = block_after root per rec parts placed w
 
   split-at : (xs : List Placed) (i : ℕ) (x : Placed) → slice_get xs i ≡ Some x → drop i xs ≡ x ∷ drop (i + 1) xs
-  split-at xs i x e = ?split
+  split-at xs i x e = drop_more xs i x (slice_get_within xs i x e) ∙ ap (λ y. y ∷ drop (i + 1) xs) (get_or_from_slice_get xs i x x e)
 
   pub each-end : (xs : List Placed) (i : ℕ) (w : BlockWorld) → length xs ≤ i → each_after root per rec parts (drop i xs) w ≡ Ok w
   unfolding each_after
-  each-end xs i w l = let none : drop i xs ≡ [] = ?none in ap (λ ns. each_after root per rec parts ns w) none
+  each-end xs i w l = ap (λ ns. each_after root per rec parts ns w) (drop_all i xs l)
 
   pub each-more : (xs : List Placed) (i : ℕ) (placed : Placed) (w v : BlockWorld) → slice_get xs i ≡ Some placed → by_act root per rec parts placed.block w (act_on rec parts placed.block) ≡ Ok v → each_after root per rec parts (drop i xs) w ≡ each_after root per rec parts (drop (i + 1) xs) v
   unfolding each_after block_after
@@ -86,7 +88,29 @@ module _ (root : PathValue) (per : ℕ) (rec : LogRecord) (parts : PartsView) wh
 -- each block is a known one
 
 pub known-at : (xs : List Placed) (i : ℕ) (placed : Placed) → are_known xs ≡ true → slice_get xs i ≡ Some placed → is_known_block placed.block.name ≡ true
-known-at xs i placed known e = ?known
+known-at [] i placed known e = cc e
+known-at (x ∷ xs) zero placed known e =
+    let same : x ≡ placed = cc e in
+    ap (λ (p : Placed). is_known_block p.block.name) (sym same) ∙ (and_parts (is_known_block x.block.name) (not (is_named x.block.name xs)) (and_parts (is_known_block x.block.name && not (is_named x.block.name xs)) (are_known xs) known).0).0
+known-at (x ∷ xs) (suc i) placed known e = known-at xs i placed (and_parts (is_known_block x.block.name && not (is_named x.block.name xs)) (are_known xs) known).1 e
 
 pub known-number : (name : BlockName) → name.block < 2 ^ 32 → is_known_block name ≡ true → name.block < 2 ^ 32 - 1
-known-number name l known = ?number
+known-number name l known = below (name.block == 0xFFFFFFFF) refl (and_parts (is_known_rel name.rel) (not (name.block == 0xFFFFFFFF)) known).1
+  where
+    below : (b : Bool) → (name.block == 0xFFFFFFFF) ≡ b → not b ≡ true → name.block < 2 ^ 32 - 1
+    below true is no = cc no
+    below false is no = grind (arith, nat_tests, is, l)
+
+-- a reference by its place
+
+pub placed-at : (xs : List Placed) (i : ℕ) (block : BlockRef) → Some block ≡ option_map (λ (p : Placed). p.block) (slice_get xs i) → (placed : Placed) × (slice_get xs i ≡ Some placed) × (placed.block ≡ block)
+placed-at xs i block e = at (slice_get xs i) refl e
+  where
+    at : (o : Option Placed) → slice_get xs i ≡ o → Some block ≡ option_map (λ (p : Placed). p.block) o → (placed : Placed) × (slice_get xs i ≡ Some placed) × (placed.block ≡ block)
+    at None is e = cc e
+    at (Some placed) is e = (placed, is, let same : placed.block ≡ block = cc e in same)
+
+pub none-at : (xs : List Placed) (i : ℕ) → i < length xs → None ≡ option_map (λ (p : Placed). p.block) (slice_get xs i) → ⊥
+none-at [] i l e = absurd (omega arith)
+none-at (x ∷ xs) zero l e = cc e
+none-at (x ∷ xs) (suc i) l e = none-at xs i (omega arith) e
