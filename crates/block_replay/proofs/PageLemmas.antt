@@ -1,9 +1,11 @@
 -- Pages that are redone and put in place.
-use Rattle.std.proofs.Common.{◌≡◌, ℕ, ◌≤◌, ◌<◌, ◌==◌, Bool, true, false, List, [], ◌∷◌, length, replicate, Option, None, Some, Result, Ok, Err, MatchOption, arith, ap, ap₂, sym, ◌∙◌, refl, inl, inr}
-use Rattle.std.specs.Prelude.{nat_lt, if◌then◌else◌}
+use Rattle.std.proofs.Common.{◌≡◌, ℕ, ◌≤◌, ◌<◌, ◌==◌, Bool, true, false, List, [], ◌∷◌, ◌++◌, length, replicate, Option, None, Some, Result, Ok, Err, arith, ap, ap₂, sym, ◌∙◌, refl, inl, inr}
+use Rattle.std.specs.Prelude.{nat_lt, is_some, if◌then◌else◌}
 use Rattle.std.specs.List.{list_all}
 use Rattle.std.proofs.lemmas.Bool.{and_parts}
 use Rattle.std.proofs.lemmas.Bool.Decides.{nat_tests}
+use Rattle.std.proofs.lemmas.List.{append-nil, drop_all}
+use Rattle.block_refs.specs.Bytes.{overwritten}
 use Rattle.block_effects.specs.Effects.{put_in_place, zeros}
 use Rattle.block_refs.specs.declared.names.BlockName.{BlockName}
 use Rattle.cluster_tree.specs.Causes.{MeetsInto, given}
@@ -25,7 +27,12 @@ all_zeros (b ∷ bs) e =
     let none : b ≡ 0 = let first = parts.0 in grind (arith, nat_tests, first) in
     ap₂ (λ x xs. x ∷ xs) none (all_zeros bs parts.1)
 
--- an image, as it is put in place
+-- an image, as it is written and put in place
+
+pub image-written : (o : Option (List ℕ)) (there : Bool) (old new : List ℕ) → length old ≡ 8192 → there ≡ is_some o → new ≡ overwritten o old → o ≡ (if there then Some new else None)
+image-written None there old new size is left = ap (λ b. if b then Some new else None) (sym is)
+image-written (Some image) there old new size is left =
+    ap (λ i. Some i) (sym (append-nil image) ∙ ap (λ xs. image ++ xs) (sym (drop_all 8192 old (omega (arith, size)))) ∙ sym left) ∙ ap (λ b. if b then Some new else None) (sym is)
 
 pub image-zeros : (end : ℕ) (p : List ℕ) → length p ≡ 8192 → is_zero p ≡ true → p ≡ bytes_of (put_in_place end p)
 image-zeros end p size e = all_zeros p e ∙ ap (λ n. replicate n 0) size ∙ ap (λ b. bytes_of (if b then None else Some (with_lsn end p))) (sym e)
@@ -34,15 +41,14 @@ pub image-stamped : (end : ℕ) (p : List ℕ) → is_zero p ≡ false → with_
 image-stamped end p e = ap (λ b. bytes_of (if b then None else Some (with_lsn end p))) (sym e)
 
 module _ (root : PathValue) (per : ℕ) (rec : LogRecord) (name : BlockName) (c : Contents) where
-  pub image-none : (o : Option (List ℕ)) (there : Bool) (new : List ℕ) → MatchOption o (there ≡ false) (λ image. (there ≡ true) × (new ≡ image)) → there ≡ false → image_put root per rec name o c ≡ Ok c
-  image-none None there new is e = refl
-  image-none (Some image) there new is e = absurd (let no : true ≡ false = sym is.0 ∙ e in cc no)
+  pub image-none : (o : Option (List ℕ)) (there : Bool) (new : List ℕ) → o ≡ (if there then Some new else None) → there ≡ false → image_put root per rec name o c ≡ Ok c
+  image-none o there new is e = ap (λ i. image_put root per rec name i c) (is ∙ ap (λ b. if b then Some new else None) e)
 
-  pub image-some : {A : Type 0} (o : Option (List ℕ)) (there : Bool) (new left : List ℕ) (d : Contents) (r : Result A RecordFault) → MatchOption o (there ≡ false) (λ image. (there ≡ true) × (new ≡ image)) → there ≡ true → left ≡ bytes_of (put_in_place rec.end new)
+  pub image-some : {A : Type 0} (o : Option (List ℕ)) (there : Bool) (new left : List ℕ) (d : Contents) (r : Result A RecordFault) → o ≡ (if there then Some new else None) → there ≡ true → left ≡ bytes_of (put_in_place rec.end new)
       → MeetsInto IsFreeFault (page_put root per name left c) d r → MeetsInto IsFreeFault (image_put root per rec name o c) d r
-  image-some None there new left d r is e l done = absurd (let no : true ≡ false = sym e ∙ is in cc no)
-  image-some (Some image) there new left d r is e l done =
-      meets-is (page_put root per name left c) _ d r (ap (λ p. page_put root per name (bytes_of (put_in_place rec.end p)) c) (sym is.1) ∙ ap (λ p. page_put root per name p c) (sym l)) done
+  image-some o there new left d r is e l done =
+      meets-is (page_put root per name left c) _ d r
+      (ap (λ i. image_put root per rec name i c) (is ∙ ap (λ b. if b then Some new else None) e) ∙ ap (λ p. page_put root per name p c) (sym l)) done
 
   -- a page that was redone
 

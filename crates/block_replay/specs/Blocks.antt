@@ -2,7 +2,6 @@
 -- XLogReadBufferForRedoExtended, XLogInitBufferForRedo and XLogReadBufferExtended; src/backend/access/heap/heapam.c,
 -- heap_xlog_visible. Own: "Blocks in replay".
 use Rattle.std.specs.Prelude.{ℕ, List, [], ◌∷◌, Result, Ok}
-use Rattle.block_refs.specs.Bytes.{page_of}
 use Rattle.block_refs.specs.Parts.{PartsView}
 use Rattle.block_refs.specs.declared.block_ref.BlockRef.{BlockRef}
 use Rattle.block_refs.specs.declared.names.BlockName.{BlockName}
@@ -23,7 +22,7 @@ use Rattle.record_effects.specs.Managers.{rules_of}
 use Rattle.record_effects.specs.declared.acts.Act.{Act}
 use Rattle.record_effects.specs.declared.acts.Act.TheVariants.{Nothing, Image, Make, Change, MapPage, Gone}
 use Rattle.block_replay.specs.Faults.{of_files}
-use Rattle.block_replay.specs.Pages.{image_put, older_put, page_there, redone_put}
+use Rattle.block_replay.specs.Pages.{image_at, image_put, older_put, page_there, redone_put}
 use Rattle.block_replay.specs.World.{BlockWorld, with_name}
 use Rattle.block_replay.specs.declared.faults.RecordFault.{RecordFault}
 
@@ -56,7 +55,7 @@ map_changed root per_file rec parts name c =
 abbrev pub by_act : PathValue → (per_file : ℕ) → LogRecord → PartsView → BlockRef → BlockWorld → Act → Result BlockWorld RecordFault
 by_act root per_file rec parts block w Nothing = Ok w
 by_act root per_file rec parts block w Gone = Ok w
-by_act root per_file rec parts block w Image = with_files w.skipped (image_put root per_file rec block.name (page_of rec.body parts block.id) w.files)
+by_act root per_file rec parts block w Image = with_files w.skipped (image_put root per_file rec block.name (image_at rec parts block.id) w.files)
 by_act root per_file rec parts block w Make = with_files w.skipped (redone_put root per_file rec block.name (redone rec parts block zeros) w.files)
 by_act root per_file rec parts block w Change = changed root per_file rec parts block w
 by_act root per_file rec parts block w MapPage = with_files w.skipped (map_changed root per_file rec parts block.name w.files)

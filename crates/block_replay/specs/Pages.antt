@@ -1,6 +1,8 @@
 -- Pages that replay puts in place: PostgreSQL 16, src/backend/access/transam/xlogutils.c, XLogReadBufferForRedoExtended.
 -- Own: "Blocks in replay".
 use Rattle.std.specs.Prelude.{ℕ, List, nat_lt, Option, None, Some, Result, Ok, if◌then◌else◌}
+use Rattle.block_refs.specs.Bytes.{page_of}
+use Rattle.block_refs.specs.Parts.{PartsView}
 use Rattle.block_refs.specs.declared.names.BlockName.{BlockName}
 use Rattle.cluster_tree.specs.Causes.{given}
 use Rattle.cluster_tree.specs.Contents.{Contents}
@@ -21,6 +23,10 @@ page_there root per_file name c = of_files (block_read root per_file name c zero
 -- a page put in the place of a block, behind zeros where the fork was shorter
 abbrev pub page_put : PathValue → (per_file : ℕ) → BlockName → List ℕ → Contents → Result Contents RecordFault
 page_put root per_file name page c = of_files (block_put root per_file name page c)
+
+-- the image of a reference, if there is one
+abbrev pub image_at : LogRecord → PartsView → (id : ℕ) → Option (List ℕ)
+image_at rec parts id = page_of rec.body parts id
 
 -- the bytes of a block that has this page, or none
 abbrev pub bytes_of : Option (List ℕ) → List ℕ

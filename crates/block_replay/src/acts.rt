@@ -2,7 +2,6 @@
 
 ghost use Rattle.std.specs.Prelude.{◌≡◌, ◌≢◌, ◌<◌, ◌-◌, ◌^◌, IsTrue, true, false, Err, IsErrOf, MatchOption};
 ghost use Rattle.block_effects.specs.Effects.{zeros};
-ghost use Rattle.block_refs.specs.Bytes.{page_of};
 ghost use Rattle.block_refs.specs.Parts.{ArePartsOf};
 ghost use Rattle.cluster_tree.specs.Causes.{MeetsInto, Rose};
 ghost use Rattle.cluster_tree.specs.Frame.{Came};
@@ -14,25 +13,16 @@ ghost use Rattle.storage_replay.specs.Files.{AreFit};
 ghost use Rattle.block_replay.specs.Faults.{IsFreeFault};
 ghost use Rattle.file_effects.specs.Own.{is_replayed};
 ghost use Rattle.block_replay.specs.Blocks.{map_changed, redone};
-ghost use Rattle.block_replay.specs.Pages.{image_put, older_put, redone_put};
+ghost use Rattle.block_replay.specs.Pages.{image_at, image_put, older_put, redone_put};
 
 use crate::faults::RecordFault;
-use crate::pages::{clear, put_page, read_page, redo_map_page, redo_page, stamp_image};
-use block_refs::{BlockName, BlockRef, Parts, image_page};
+use crate::pages::{clear, make_image, put_page, redo_page, stamp_image};
+use block_refs::{BlockRef, Parts};
 use cluster_tree::{FileFault, Tree};
 use page_layout::Page;
 use std::alloc::Global;
 use storage_replay::Files;
 use wal_records::Record;
-
-/// Fills a page with the image of a reference, if there is one.
-fn image_of(rec: &Record, parts: &Parts, id: u8, page: &mut Page) -> bool
-    requires parts { ArePartsOf rec.now parts.now }
-    ensures { MatchOption (page_of rec.now.body parts.now id) (result ≡ false)
-        (λ image. (result ≡ true) × (page.new ≡ image)) }
-{
-    image_page(rec, parts, id, page.bytes_mut())
-}
 
 /// Puts the image of a reference in place.
 pub(crate) fn put_image<F: Tree>(
@@ -49,7 +39,7 @@ pub(crate) fn put_image<F: Tree>(
     requires block { block.now.name.block < 2 ^ 32 - 1 }
     ensures exact { IsTrue F.tells → MeetsInto IsFreeFault
         (image_put at.now.root at.now.per_file rec.now block.now.name
-        (page_of rec.now.body parts.now block.now.id) (F.contents tree.old))
+        (image_at rec.now parts.now block.now.id) (F.contents tree.old))
         (F.contents tree.new) result }
     ensures frame { Came F.Tree tree.old tree.new }
     ensures own { IsTrue F.tells → OnOwn F.calls (is_replayed at.now.root) tree.old tree.new }
@@ -60,7 +50,7 @@ pub(crate) fn put_image<F: Tree>(
     ensures changed { IsTrue F.tells → (p : PathValue) →
         result ≢ Err (RecordFault.File (FileFault.Changed p)) }
 {
-    if !image_of(rec, parts, block.id, page) {
+    if !make_image(rec, parts, block.id, page) {
         return Ok(());
     }
     stamp_image(rec, page);

@@ -1,6 +1,6 @@
 //! The page of a block, as it is read, redone and put in place.
 
-ghost use Rattle.std.specs.Prelude.{◌≡◌, ◌≢◌, ◌<◌, ◌-◌, ◌^◌, IsTrue, Err, IsErrOf};
+ghost use Rattle.std.specs.Prelude.{◌≡◌, ◌≢◌, ◌<◌, ◌-◌, ◌^◌, length, None, Some, IsTrue, Err, IsErrOf, if◌then◌else◌};
 ghost use Rattle.block_effects.specs.Effects.{put_in_place, zeros};
 ghost use Rattle.block_refs.specs.Parts.{ArePartsOf};
 ghost use Rattle.cluster_tree.specs.Causes.{MeetsInto, Rose};
@@ -14,10 +14,10 @@ ghost use Rattle.storage_replay.specs.Reading.{ReadsBlock, block_read};
 ghost use Rattle.block_replay.specs.Blocks.{redone};
 ghost use Rattle.block_replay.specs.Faults.{IsFreeFault, Leaves, of_redo};
 ghost use Rattle.file_effects.specs.Own.{is_replayed};
-ghost use Rattle.block_replay.specs.Pages.{bytes_of, page_put};
+ghost use Rattle.block_replay.specs.Pages.{bytes_of, image_at, page_put};
 
 use crate::faults::RecordFault;
-use block_refs::{BlockName, BlockRef, Parts};
+use block_refs::{BlockName, BlockRef, Parts, image_page};
 use cluster_tree::{FileFault, Tree};
 use page_layout::Page;
 use record_effects::redo;
@@ -26,12 +26,37 @@ use storage_pages::redo_map;
 use storage_replay::{Files, Found, read_block, write_block};
 use wal_records::Record;
 
+fn fill_zeros(bytes: &mut [u8])
+    requires { length bytes.old ≡ 8192 }
+    ensures { bytes.new ≡ zeros }
+{
+    bytes.fill(0);
+}
+
 /// Makes a page one of zeros.
 #[tactic(auto, using(page_layout::proofs::Lent::over_same))]
 pub(crate) fn clear(page: &mut Page)
     ensures { page.new ≡ zeros }
 {
-    page.bytes_mut().fill(0);
+    fill_zeros(page.bytes_mut());
+}
+
+// Writes the image of a reference over bytes, if there is one.
+fn write_image(rec: &Record, parts: &Parts, id: u8, bytes: &mut [u8]) -> bool
+    requires parts { ArePartsOf rec.now parts.now }
+    requires size { length bytes.old ≡ 8192 }
+    ensures { image_at rec.now parts.now id ≡ (if result then Some bytes.new else None) }
+{
+    image_page(rec, parts, id, bytes)
+}
+
+/// Makes a page the image of a reference, if there is one.
+#[tactic(auto, using(page_layout::proofs::Lent::over_same))]
+pub(crate) fn make_image(rec: &Record, parts: &Parts, id: u8, page: &mut Page) -> bool
+    requires parts { ArePartsOf rec.now parts.now }
+    ensures { image_at rec.now parts.now id ≡ (if result then Some page.new else None) }
+{
+    write_image(rec, parts, id, page.bytes_mut())
 }
 
 /// Reads a block into a page: one that isn't there as zeros.
