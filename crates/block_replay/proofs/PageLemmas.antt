@@ -1,31 +1,20 @@
 -- Pages that are redone and put in place.
 use Rattle.std.proofs.Common.{◌≡◌, ℕ, ◌≤◌, ◌<◌, ◌==◌, Bool, true, false, List, [], ◌∷◌, ◌++◌, length, replicate, Option, None, Some, Result, Ok, Err, arith, ap, ap₂, sym, ◌∙◌, refl, inl, inr}
 use Rattle.std.specs.Prelude.{nat_lt, is_some, if◌then◌else◌}
-use Rattle.std.specs.List.{list_all}
-use Rattle.std.proofs.lemmas.Bool.{and_parts}
 use Rattle.std.proofs.lemmas.Bool.Decides.{nat_tests}
 use Rattle.std.proofs.lemmas.List.{append-nil, drop_all}
 use Rattle.block_refs.specs.Bytes.{overwritten}
-use Rattle.block_effects.specs.Effects.{put_in_place, zeros}
 use Rattle.block_refs.specs.declared.names.BlockName.{BlockName}
 use Rattle.cluster_tree.specs.Causes.{MeetsInto, given}
 use Rattle.cluster_tree.specs.Contents.{Contents}
 use Rattle.cluster_tree.specs.PathValue.{PathValue}
-use Rattle.page_layout.specs.Lsn.{lsn, with_lsn}
-use Rattle.page_masks.specs.Kind.{is_zero}
+use Rattle.page_layout.specs.Lsn.{lsn}
 use Rattle.page_masks.specs.Law.{Redone}
 use Rattle.wal_records.specs.Reading.{LogRecord}
 use Rattle.block_replay.specs.Faults.{IsFreeFault, of_redo}
-use Rattle.block_replay.specs.Pages.{bytes_of, image_put, older_put, page_put, redone_put}
+use Rattle.block_replay.specs.Pages.{image_left, image_put, older_put, page_put, redone_put}
 use Rattle.block_replay.specs.declared.faults.RecordFault.{RecordFault}
 use Rattle.block_replay.proofs.FaultLemmas.{Why, given-ok, given-err, meets-is}
-
-all_zeros : (p : List ℕ) → is_zero p ≡ true → p ≡ replicate (length p) 0
-all_zeros [] e = refl
-all_zeros (b ∷ bs) e =
-    let parts = and_parts (b == 0) (list_all (λ x. x == 0) bs) e in
-    let none : b ≡ 0 = let first = parts.0 in grind (arith, nat_tests, first) in
-    ap₂ (λ x xs. x ∷ xs) none (all_zeros bs parts.1)
 
 -- an image, as it is written and put in place
 
@@ -34,17 +23,11 @@ image-written None there old new size is left = ap (λ b. if b then Some new els
 image-written (Some image) there old new size is left =
     ap (λ i. Some i) (sym (append-nil image) ∙ ap (λ xs. image ++ xs) (sym (drop_all 8192 old (omega (arith, size)))) ∙ sym left) ∙ ap (λ b. if b then Some new else None) (sym is)
 
-pub image-zeros : (end : ℕ) (p : List ℕ) → length p ≡ 8192 → is_zero p ≡ true → p ≡ bytes_of (put_in_place end p)
-image-zeros end p size e = all_zeros p e ∙ ap (λ n. replicate n 0) size ∙ ap (λ b. bytes_of (if b then None else Some (with_lsn end p))) (sym e)
-
-pub image-stamped : (end : ℕ) (p : List ℕ) → is_zero p ≡ false → with_lsn end p ≡ bytes_of (put_in_place end p)
-image-stamped end p e = ap (λ b. bytes_of (if b then None else Some (with_lsn end p))) (sym e)
-
 module _ (root : PathValue) (per : ℕ) (rec : LogRecord) (name : BlockName) (c : Contents) where
   pub image-none : (o : Option (List ℕ)) (there : Bool) (new : List ℕ) → o ≡ (if there then Some new else None) → there ≡ false → image_put root per rec name o c ≡ Ok c
   image-none o there new is e = ap (λ i. image_put root per rec name i c) (is ∙ ap (λ b. if b then Some new else None) e)
 
-  pub image-some : {A : Type 0} (o : Option (List ℕ)) (there : Bool) (new left : List ℕ) (d : Contents) (r : Result A RecordFault) → o ≡ (if there then Some new else None) → there ≡ true → left ≡ bytes_of (put_in_place rec.end new)
+  pub image-some : {A : Type 0} (o : Option (List ℕ)) (there : Bool) (new left : List ℕ) (d : Contents) (r : Result A RecordFault) → o ≡ (if there then Some new else None) → there ≡ true → left ≡ image_left rec.end new
       → MeetsInto IsFreeFault (page_put root per name left c) d r → MeetsInto IsFreeFault (image_put root per rec name o c) d r
   image-some o there new left d r is e l done =
       meets-is (page_put root per name left c) _ d r

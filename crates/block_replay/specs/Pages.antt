@@ -1,6 +1,6 @@
 -- Pages that replay puts in place: PostgreSQL 16, src/backend/access/transam/xlogutils.c, XLogReadBufferForRedoExtended.
 -- Own: "Blocks in replay".
-use Rattle.std.specs.Prelude.{ℕ, List, nat_lt, Option, None, Some, Result, Ok, if◌then◌else◌}
+use Rattle.std.specs.Prelude.{ℕ, List, nat_lt, Option, None, Some, Result, Ok, unwrap_or, if◌then◌else◌}
 use Rattle.block_refs.specs.Bytes.{page_of}
 use Rattle.block_refs.specs.Parts.{PartsView}
 use Rattle.block_refs.specs.declared.names.BlockName.{BlockName}
@@ -28,15 +28,14 @@ page_put root per_file name page c = of_files (block_put root per_file name page
 abbrev pub image_at : LogRecord → PartsView → (id : ℕ) → Option (List ℕ)
 image_at rec parts id = page_of rec.body parts id
 
--- the bytes of a block that has this page, or none
-abbrev pub bytes_of : Option (List ℕ) → List ℕ
-bytes_of None = zeros
-bytes_of (Some page) = page
+-- an image with the record's end as LSN; one of zeros stays so
+abbrev pub image_left : (end : ℕ) → List ℕ → List ℕ
+image_left end page = unwrap_or (put_in_place end page) page
 
--- an image put in place with the record's end as LSN, or as zeros
+-- put in place, whatever stood there
 abbrev pub image_put : PathValue → (per_file : ℕ) → LogRecord → BlockName → Option (List ℕ) → Contents → Result Contents RecordFault
 image_put root per_file rec name None c = Ok c
-image_put root per_file rec name (Some page) c = page_put root per_file name (bytes_of (put_in_place rec.end page)) c
+image_put root per_file rec name (Some page) c = page_put root per_file name (image_left rec.end page) c
 
 -- what redo makes of a page, put in place
 abbrev pub redone_put : PathValue → (per_file : ℕ) → LogRecord → BlockName → Redone → Contents → Result Contents RecordFault

@@ -1,7 +1,7 @@
 //! The page of a block, as it is read, redone and put in place.
 
 ghost use Rattle.std.specs.Prelude.{◌≡◌, ◌≢◌, ◌<◌, ◌-◌, ◌^◌, length, None, Some, IsTrue, Err, IsErrOf, if◌then◌else◌};
-ghost use Rattle.block_effects.specs.Effects.{put_in_place, zeros};
+ghost use Rattle.block_effects.specs.Effects.{zeros};
 ghost use Rattle.block_refs.specs.Parts.{ArePartsOf};
 ghost use Rattle.cluster_tree.specs.Causes.{MeetsInto, Rose};
 ghost use Rattle.cluster_tree.specs.Frame.{Came, Reads};
@@ -14,7 +14,7 @@ ghost use Rattle.storage_replay.specs.Reading.{ReadsBlock, block_read};
 ghost use Rattle.block_replay.specs.Blocks.{redone};
 ghost use Rattle.block_replay.specs.Faults.{IsFreeFault, Leaves, of_redo};
 ghost use Rattle.file_effects.specs.Own.{is_replayed};
-ghost use Rattle.block_replay.specs.Pages.{bytes_of, image_at, page_put};
+ghost use Rattle.block_replay.specs.Pages.{image_at, image_left, page_put};
 
 use crate::faults::RecordFault;
 use block_refs::{BlockName, BlockRef, Parts, image_page};
@@ -108,7 +108,7 @@ pub(crate) fn put_page<F: Tree>(
 
 /// Writes the record's end as LSN, where the page isn't all zeros.
 pub(crate) fn stamp_image(rec: &Record, page: &mut Page)
-    ensures { page.new ≡ bytes_of (put_in_place rec.now.end page.old) }
+    ensures { page.new ≡ image_left rec.now.end page.old }
 {
     if !page.is_zero() {
         page.set_lsn(rec.end());
