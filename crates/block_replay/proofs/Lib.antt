@@ -1,3 +1,2 @@
-pub mod FaultLemmas
-pub mod PageLemmas
 pub mod BlockLemmas
+pub mod PageLemmas

@@ -1,7 +1,7 @@
 -- What a record does to the blocks that it references: PostgreSQL 16, src/backend/access/transam/xlogutils.c,
 -- XLogReadBufferForRedoExtended, XLogInitBufferForRedo and XLogReadBufferExtended; src/backend/access/heap/heapam.c,
 -- heap_xlog_visible. Own: "Blocks in replay".
-use Rattle.std.specs.Prelude.{ℕ, List, [], ◌∷◌, Result, Ok}
+use Rattle.std.specs.Prelude.{ℕ, List, [], ◌∷◌, Option, None, Some, Result, Ok}
 use Rattle.block_refs.specs.Parts.{PartsView}
 use Rattle.block_refs.specs.declared.block_ref.BlockRef.{BlockRef}
 use Rattle.block_refs.specs.declared.names.BlockName.{BlockName}
@@ -12,7 +12,6 @@ use Rattle.cluster_tree.specs.PathValue.{PathValue}
 use Rattle.page_masks.specs.Law.{Redone, stamped}
 use Rattle.storage_pages.specs.MapPage.{visible_map}
 use Rattle.storage_replay.specs.Changes.{created}
-use Rattle.storage_replay.specs.Reading.{Reading}
 use Rattle.storage_replay.specs.declared.found.Found.{Found}
 use Rattle.storage_replay.specs.declared.found.Found.TheVariants as found
 use Rattle.wal_records.specs.Reading.{LogRecord}
@@ -68,6 +67,11 @@ block_after root per_file rec parts placed w = by_act root per_file rec parts pl
 unfoldable pub each_after : PathValue → (per_file : ℕ) → LogRecord → PartsView → List Placed → BlockWorld → Result BlockWorld RecordFault
 each_after root per_file rec parts [] w = Ok w
 each_after root per_file rec parts (placed ∷ more) w = given (block_after root per_file rec parts placed w) (each_after root per_file rec parts more)
+
+-- of one, if there is one
+abbrev pub placed_after : PathValue → (per_file : ℕ) → LogRecord → PartsView → Option Placed → BlockWorld → Result BlockWorld RecordFault
+placed_after root per_file rec parts None w = Ok w
+placed_after root per_file rec parts (Some placed) w = block_after root per_file rec parts placed w
 
 -- of all, in the order of their ids
 abbrev pub blocks_after : PathValue → (per_file : ℕ) → LogRecord → PartsView → BlockWorld → Result BlockWorld RecordFault

@@ -1,18 +1,16 @@
 //! Pages that a record puts in place, whatever stood there, or where they are older.
 
-ghost use Rattle.std.specs.Prelude.{◌≡◌, ◌≢◌, ◌<◌, ◌-◌, ◌^◌, IsTrue, true, false, Err, IsErrOf, MatchOption};
+ghost use Rattle.std.specs.Prelude.{◌≢◌, IsTrue, Err, IsErrOf};
 ghost use Rattle.block_effects.specs.Effects.{zeros};
 ghost use Rattle.block_refs.specs.Parts.{ArePartsOf};
 ghost use Rattle.cluster_tree.specs.Causes.{MeetsInto, Rose};
 ghost use Rattle.cluster_tree.specs.Frame.{Came};
 ghost use Rattle.cluster_tree.specs.PathValue.{PathValue};
 ghost use Rattle.file_edits.specs.Own.{OnOwn};
-ghost use Rattle.page_masks.specs.Law.{stamped};
-ghost use Rattle.storage_pages.specs.MapPage.{visible_map};
 ghost use Rattle.storage_replay.specs.Files.{AreFit};
 ghost use Rattle.block_replay.specs.Faults.{IsFreeFault};
 ghost use Rattle.file_effects.specs.Own.{is_replayed};
-ghost use Rattle.block_replay.specs.Blocks.{map_changed, redone};
+ghost use Rattle.block_replay.specs.Blocks.{redone};
 ghost use Rattle.block_replay.specs.Pages.{image_at, image_put, older_put, redone_put};
 
 use crate::faults::RecordFault;
@@ -36,7 +34,7 @@ pub(crate) fn put_image<F: Tree>(
 ) -> Result<(), RecordFault>
     requires fit { AreFit at.now }
     requires parts { ArePartsOf rec.now parts.now }
-    requires block { block.now.name.block < 2 ^ 32 - 1 }
+    requires block { block.now.name.block ≢ 0xFFFFFFFF }
     ensures exact { IsTrue F.tells → MeetsInto IsFreeFault
         (image_put at.now.root at.now.per_file rec.now block.now.name
         (image_at rec.now parts.now block.now.id) (F.contents tree.old))
@@ -69,7 +67,7 @@ fn put_redone<F: Tree>(
 ) -> Result<(), RecordFault>
     requires fit { AreFit at.now }
     requires parts { ArePartsOf rec.now parts.now }
-    requires block { block.now.name.block < 2 ^ 32 - 1 }
+    requires block { block.now.name.block ≢ 0xFFFFFFFF }
     ensures exact { IsTrue F.tells → MeetsInto IsFreeFault
         (redone_put at.now.root at.now.per_file rec.now block.now.name
         (redone rec.now parts.now block.now page.old) (F.contents tree.old))
@@ -99,7 +97,7 @@ pub(crate) fn put_made<F: Tree>(
 ) -> Result<(), RecordFault>
     requires fit { AreFit at.now }
     requires parts { ArePartsOf rec.now parts.now }
-    requires block { block.now.name.block < 2 ^ 32 - 1 }
+    requires block { block.now.name.block ≢ 0xFFFFFFFF }
     ensures exact { IsTrue F.tells → MeetsInto IsFreeFault
         (redone_put at.now.root at.now.per_file rec.now block.now.name
         (redone rec.now parts.now block.now zeros) (F.contents tree.old))
@@ -129,7 +127,7 @@ pub(crate) fn put_changed<F: Tree>(
 ) -> Result<(), RecordFault>
     requires fit { AreFit at.now }
     requires parts { ArePartsOf rec.now parts.now }
-    requires block { block.now.name.block < 2 ^ 32 - 1 }
+    requires block { block.now.name.block ≢ 0xFFFFFFFF }
     ensures exact { IsTrue F.tells → MeetsInto IsFreeFault
         (older_put at.now.root at.now.per_file rec.now block.now.name
         (redone rec.now parts.now block.now) page.old (F.contents tree.old))

@@ -1,21 +1,18 @@
 //! The blocks of a record.
 
-ghost use Rattle.std.specs.Prelude.{◌≡◌, ◌≢◌, ◌<◌, ◌-◌, ◌^◌, IsTrue, Err, IsErrOf};
-ghost use Rattle.block_effects.specs.Effects.{zeros};
+ghost use Rattle.std.specs.Prelude.{◌≡◌, ◌≢◌, IsTrue, true, Err, IsErrOf};
 ghost use Rattle.block_refs.specs.Parts.{ArePartsOf};
 ghost use Rattle.cluster_tree.specs.Causes.{MeetsInto, Rose};
 ghost use Rattle.cluster_tree.specs.Frame.{Came};
 ghost use Rattle.cluster_tree.specs.PathValue.{PathValue};
 ghost use Rattle.file_edits.specs.Own.{OnOwn};
-ghost use Rattle.page_masks.specs.Law.{stamped};
-ghost use Rattle.storage_pages.specs.MapPage.{visible_map};
 ghost use Rattle.storage_replay.specs.Files.{AreFit};
 ghost use Rattle.block_replay.specs.Faults.{IsFreeFault};
 ghost use Rattle.file_effects.specs.Own.{is_replayed};
-ghost use Rattle.std.specs.Prelude.{true};
+ghost use Rattle.std.specs.List.{slice_get};
 ghost use Rattle.record_effects.specs.Acts.{act_on};
 ghost use Rattle.replay_profile.specs.Names.{are_known};
-ghost use Rattle.block_replay.specs.Blocks.{blocks_after, by_act};
+ghost use Rattle.block_replay.specs.Blocks.{blocks_after, by_act, placed_after};
 
 use crate::acts::{put_image, put_made};
 use crate::changes::{change, set_map_bits};
@@ -42,7 +39,7 @@ fn replay_block<F: Tree>(
 ) -> Result<(), RecordFault>
     requires fit { AreFit at.now }
     requires parts { ArePartsOf rec.now parts.now }
-    requires block { block.now.name.block < 2 ^ 32 - 1 }
+    requires block { block.now.name.block ≢ 0xFFFFFFFF }
     ensures exact { IsTrue F.tells → MeetsInto IsFreeFault
         (by_act at.now.root at.now.per_file rec.now parts.now block.now
         (record { files = F.contents tree.old; skipped = skipped.old })
@@ -63,6 +60,40 @@ fn replay_block<F: Tree>(
         Act::Make => put_made(alloc, tree, at, rec, parts, block, page),
         Act::Change => change(alloc, tree, at, skipped, rec, parts, block, page),
         Act::MapPage => set_map_bits(alloc, tree, at, rec, parts, block.name, page),
+    }
+}
+
+/// Does what a record does to the block of the reference at a place, if there is one.
+fn replay_at<F: Tree>(
+    alloc: Global,
+    tree: &mut F,
+    at: &Files,
+    skipped: &mut Skipped,
+    rec: &Record,
+    parts: &Parts,
+    index: usize,
+    page: &mut Page,
+) -> Result<(), RecordFault>
+    requires fit { AreFit at.now }
+    requires parts { ArePartsOf rec.now parts.now }
+    requires known { are_known parts.now.blocks ≡ true }
+    ensures exact { IsTrue F.tells → MeetsInto IsFreeFault
+        (placed_after at.now.root at.now.per_file rec.now parts.now
+        (slice_get parts.now.blocks index)
+        (record { files = F.contents tree.old; skipped = skipped.old }))
+        (record { files = F.contents tree.new; skipped = skipped.new }) result }
+    ensures frame { Came F.Tree tree.old tree.new }
+    ensures own { IsTrue F.tells → OnOwn F.calls (is_replayed at.now.root) tree.old tree.new }
+    ensures read_fault { IsErrOf result (RecordFault.File FileFault.ReadFault) →
+        Rose (F.failed_reads tree.old) (F.failed_reads tree.new) }
+    ensures write_fault { IsErrOf result (RecordFault.File FileFault.WriteFault) →
+        Rose (F.failed_changes tree.old) (F.failed_changes tree.new) }
+    ensures changed { IsTrue F.tells → (p : PathValue) →
+        result ≢ Err (RecordFault.File (FileFault.Changed p)) }
+{
+    match parts.get(index) {
+        Some(block) => replay_block(alloc, tree, at, skipped, rec, parts, &block, page),
+        None => Ok(()),
     }
 }
 
@@ -101,9 +132,7 @@ pub fn replay_blocks<F: Tree>(
         result ≢ Err (RecordFault.File (FileFault.Changed p)) }
 {
     for index in 0..parts.count() {
-        if let Some(block) = parts.get(index) {
-            replay_block(alloc, tree, at, skipped, rec, parts, &block, page)?;
-        }
+        replay_at(alloc, tree, at, skipped, rec, parts, index, page)?;
     }
     Ok(())
 }

@@ -1,7 +1,6 @@
 //! Changes of pages that have to be read first.
 
-ghost use Rattle.std.specs.Prelude.{◌≡◌, ◌≢◌, ◌<◌, ◌-◌, ◌^◌, IsTrue, Err, IsErrOf};
-ghost use Rattle.block_effects.specs.Effects.{zeros};
+ghost use Rattle.std.specs.Prelude.{◌≢◌, IsTrue, Err, IsErrOf};
 ghost use Rattle.block_refs.specs.Parts.{ArePartsOf};
 ghost use Rattle.cluster_tree.specs.Causes.{MeetsInto, Rose};
 ghost use Rattle.cluster_tree.specs.Frame.{Came};
@@ -38,7 +37,7 @@ fn put_map<F: Tree>(
 ) -> Result<(), RecordFault>
     requires fit { AreFit at.now }
     requires parts { ArePartsOf rec.now parts.now }
-    requires block { name.block < 2 ^ 32 - 1 }
+    requires block { name.block ≢ 0xFFFFFFFF }
     ensures exact { IsTrue F.tells → MeetsInto IsFreeFault
         (redone_put at.now.root at.now.per_file rec.now name
         (stamped rec.now.end (visible_map rec.now parts.now) page.old) (F.contents tree.old))
@@ -68,7 +67,7 @@ fn put_older_map<F: Tree>(
 ) -> Result<(), RecordFault>
     requires fit { AreFit at.now }
     requires parts { ArePartsOf rec.now parts.now }
-    requires block { name.block < 2 ^ 32 - 1 }
+    requires block { name.block ≢ 0xFFFFFFFF }
     ensures exact { IsTrue F.tells → MeetsInto IsFreeFault
         (older_put at.now.root at.now.per_file rec.now name
         (stamped rec.now.end (visible_map rec.now parts.now)) page.old (F.contents tree.old))
@@ -100,7 +99,7 @@ pub(crate) fn set_map_bits<F: Tree>(
 ) -> Result<(), RecordFault>
     requires fit { AreFit at.now }
     requires parts { ArePartsOf rec.now parts.now }
-    requires block { name.block < 2 ^ 32 - 1 }
+    requires block { name.block ≢ 0xFFFFFFFF }
     ensures exact { IsTrue F.tells → MeetsInto IsFreeFault
         (map_changed at.now.root at.now.per_file rec.now parts.now name
         (F.contents tree.old))
@@ -159,7 +158,7 @@ fn change_found<F: Tree>(
 ) -> Result<(), RecordFault>
     requires fit { AreFit at.now }
     requires parts { ArePartsOf rec.now parts.now }
-    requires block { block.now.name.block < 2 ^ 32 - 1 }
+    requires block { block.now.name.block ≢ 0xFFFFFFFF }
     ensures exact { IsTrue F.tells → MeetsInto IsFreeFault
         (change_at at.now.root at.now.per_file rec.now parts.now block.now
         (record { files = F.contents tree.old; skipped = skipped.old })
@@ -193,7 +192,7 @@ pub(crate) fn change<F: Tree>(
 ) -> Result<(), RecordFault>
     requires fit { AreFit at.now }
     requires parts { ArePartsOf rec.now parts.now }
-    requires block { block.now.name.block < 2 ^ 32 - 1 }
+    requires block { block.now.name.block ≢ 0xFFFFFFFF }
     ensures exact { IsTrue F.tells → MeetsInto IsFreeFault
         (changed at.now.root at.now.per_file rec.now parts.now block.now
         (record { files = F.contents tree.old; skipped = skipped.old }))

@@ -1,6 +1,6 @@
 //! The page of a block, as it is read, redone and put in place.
 
-ghost use Rattle.std.specs.Prelude.{◌≡◌, ◌≢◌, ◌<◌, ◌-◌, ◌^◌, length, None, Some, IsTrue, Err, IsErrOf, if◌then◌else◌};
+ghost use Rattle.std.specs.Prelude.{◌≡◌, ◌≢◌, length, None, Some, IsTrue, Err, IsErrOf, if◌then◌else◌};
 ghost use Rattle.block_effects.specs.Effects.{zeros};
 ghost use Rattle.block_refs.specs.Parts.{ArePartsOf};
 ghost use Rattle.cluster_tree.specs.Causes.{MeetsInto, Rose};
@@ -68,7 +68,7 @@ pub(crate) fn read_page<F: Tree>(
     page: &mut Page,
 ) -> Result<Found, FileFault>
     requires fit { AreFit at.now }
-    requires block { name.block < 2 ^ 32 - 1 }
+    requires block { name.block ≢ 0xFFFFFFFF }
     ensures exact { IsTrue F.tells → ReadsBlock (block_read at.now.root at.now.per_file name
         (F.contents tree.old) zeros) page.new result }
     ensures frame { Reads F.Tree tree.old tree.new }
@@ -90,7 +90,7 @@ pub(crate) fn put_page<F: Tree>(
     page: &Page,
 ) -> Result<(), RecordFault>
     requires fit { AreFit at.now }
-    requires block { name.block < 2 ^ 32 - 1 }
+    requires block { name.block ≢ 0xFFFFFFFF }
     ensures exact { IsTrue F.tells → MeetsInto IsFreeFault (page_put at.now.root at.now.per_file
         name page.now (F.contents tree.old)) (F.contents tree.new) result }
     ensures frame { Came F.Tree tree.old tree.new }
