@@ -1,0 +1,13 @@
+use Rattle.std.proofs.Common.{◌≡◌, drop, IsTrue}
+use Rattle.cluster_tree.specs.Frame.{Came}
+use Rattle.file_edits.specs.Own.{OnOwn}
+use Rattle.file_effects.specs.Own.{is_replayed}
+use Rattle.block_replay.specs.Blocks.{each_after}
+use Rattle.block_replay.proofs.blocks.replay_blocks.Given as goal
+
+abbrev pub invariant-loop-index : goal.invariant-loop-index
+invariant-loop-index g l = record {
+  frame : Came g.F.Tree l.fn.tree l.tree;
+  own : IsTrue g.F.Tree.tells → OnOwn g.F.Tree.calls (is_replayed l.at.root) l.fn.tree l.tree;
+  meant : IsTrue g.F.Tree.tells → each_after l.at.root l.at.per_file l.rec l.parts (drop l.index l.parts.blocks) (record { files = g.F.Tree.contents l.tree; skipped = l.skipped }) ≡ each_after l.at.root l.at.per_file l.rec l.parts l.parts.blocks (record { files = g.F.Tree.contents l.fn.tree; skipped = l.fn.skipped });
+}

@@ -1,0 +1,12 @@
+use Rattle.file_edits.proofs.OwnLemmas.{own-wider}
+use Rattle.file_effects.proofs.OwnLemmas.{relation-replayed}
+use Rattle.block_replay.proofs.changes.skip.Goals as goal
+
+pub returns-in_err-create-clause-own : goal.returns-in_err-create-clause-own
+returns-in_err-create-clause-own g c told = own-wider g.F.Tree.calls _ _ _ _ (relation-replayed c.args.at.now.root c.args.name.rel) (c.create.ensures.own told)
+
+pub returns-in_err-add-clause-own : goal.returns-in_err-add-clause-own
+returns-in_err-add-clause-own g c told = own-wider g.F.Tree.calls _ _ _ _ (relation-replayed c.args.at.now.root c.args.name.rel) (c.create.ensures.own told)
+
+pub returns-clause-own : goal.returns-clause-own
+returns-clause-own g c told = own-wider g.F.Tree.calls _ _ _ _ (relation-replayed c.args.at.now.root c.args.name.rel) (c.create.ensures.own told)

@@ -1,0 +1,4 @@
+pub mod World
+pub mod Faults
+pub mod Pages
+pub mod Blocks
