@@ -15,7 +15,7 @@ use Rattle.wal_records.specs.Log.{Log, end_after, ended, with_first}
 use Rattle.wal_records.specs.Reading.{LogRecord}
 use Rattle.replay_start.specs.Faults.{IsFree, of_profile}
 use Rattle.replay_start.specs.Scanned.{is_labelled}
-use Rattle.replay_start.specs.Steps.{IsFurther, IsRefused, IsScanned, MovesOn, Scans, ScansAll, ScansNext}
+use Rattle.replay_start.specs.Steps.{IsFurther, IsRefused, IsScanned, MovesOn, Scans, ScansNext, with_record}
 use Rattle.replay_start.specs.declared.fault.ReplayFault.{ReplayFault}
 use Rattle.replay_start.specs.declared.scan.Seen.{Seen}
 use Rattle.replay_start.specs.declared.scan.Turn.{Turn}
@@ -55,7 +55,7 @@ or_none false = refl
 
 -- a record that is taken
 pub one_more : (label : LabelPlaces) (r : LogRecord) (parts : PartsView) (old new : List LogRecord) (s : Seen) → old ≡ r ∷ new → judged r ≡ Ok parts
-    → Scans label old new s (record { end = record { 0 = r.end }; found = s.found || is_labelled label r })
+    → Scans label old new s (with_record label r s)
 one_more label r parts old new s is taken = record {
   outside = ap first_outside is ∙ ap (λ j. first_of j (first_outside new)) taken;
   end = ap (end_after s.end.0) is;

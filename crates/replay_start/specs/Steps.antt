@@ -13,6 +13,10 @@ use Rattle.replay_start.specs.declared.scan.Seen.{Seen}
 use Rattle.replay_start.specs.declared.scan.Turn.{Turn}
 use Rattle.replay_start.specs.declared.scan.Turn.TheVariants.{More, Done}
 
+-- what was seen with a record more
+abbrev pub with_record : LabelPlaces → LogRecord → Seen → Seen
+with_record label r seen = record { end = record { 0 = r.end }; found = seen.found || is_labelled label r }
+
 -- what is asked of records is asked of the rest, the first ones having been seen
 pub record Scans (label : LabelPlaces) (old new : List LogRecord) (before after : Seen) : Type 0 where
   pub outside : first_outside old ≡ first_outside new

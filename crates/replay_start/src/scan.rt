@@ -8,7 +8,7 @@ ghost use Rattle.cluster_tree.specs.PathValue.{PathValue};
 ghost use Rattle.replay_profile.specs.Profile.{parts_or_none};
 ghost use Rattle.wal_records.specs.Cursor.{Knows, to_come};
 ghost use Rattle.replay_start.specs.Scanned.{is_labelled};
-ghost use Rattle.replay_start.specs.Steps.{MovesOn, ScansAll, ScansNext};
+ghost use Rattle.replay_start.specs.Steps.{MovesOn, ScansAll, ScansNext, with_record};
 
 use crate::ReplayFault;
 use backup_label::LabelPlaces;
@@ -52,6 +52,18 @@ fn is_labelled(label: LabelPlaces, rec: &Record, parts: &Parts) -> bool
     }
 }
 
+/// What was seen with a record more.
+fn seen_with(seen: Seen, label: LabelPlaces, rec: &Record, parts: &Parts) -> Seen
+    requires parts { ArePartsOf rec.now parts.now }
+    requires own { parts.now ≡ parts_or_none (record_parts rec.now) }
+    ensures { result ≡ with_record label rec.now seen }
+{
+    Seen {
+        end: rec.end(),
+        found: seen.found || is_labelled(label, rec, parts),
+    }
+}
+
 /// Reads the next record, and judges it.
 fn scan_next<F: Tree>(
     cursor: &mut RecordCursor,
@@ -79,10 +91,7 @@ fn scan_next<F: Tree>(
     }
     let rec = cursor.current().unwrap();
     judge(rec, parts)?;
-    *seen = Seen {
-        end: rec.end(),
-        found: seen.found || is_labelled(label, rec, parts),
-    };
+    *seen = seen_with(*seen, label, rec, parts);
     Ok(Turn::More)
 }
 

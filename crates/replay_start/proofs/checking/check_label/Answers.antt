@@ -1,0 +1,20 @@
+use Rattle.std.proofs.Common.{◌≡◌, None, Ok, refl, subst}
+use Rattle.cluster_tree.specs.Contents.{Contents}
+use Rattle.wal_base.specs.Segment.{bytes_of}
+use Rattle.wal_records.specs.Further.{pages_of}
+use Rattle.wal_records.specs.Log.{log_of}
+use Rattle.clusters.specs.RootHistory.{history_at}
+use Rattle.replay_start.specs.Faults.{told_by}
+use Rattle.replay_start.specs.Scanned.{log_refusal}
+use Rattle.replay_start.proofs.StageLemmas.{label_start}
+use Rattle.replay_start.proofs.checking.check_label.Goals as goal
+
+pub returns-clause-exact : goal.returns-clause-exact
+returns-clause-exact g c = λ told.
+    let contents = g.F.Tree.contents c.args.tree.now in
+    let log = c.in_ok-cursor.cursor.log in
+    let passed = subst (λ (x : Contents). log_refusal c.args.root.now c.args.control c.args.label (log_of (pages_of log x) (bytes_of log.size) c.args.label.start.0).records ≡ None)
+        c.history_at.ensures.reads.same (c.in_ok-check_log.ensures.answer told) in
+    let history = subst (λ tli. told_by (history_at contents c.args.root.now tli) ≡ Ok c.in_ok-history.history) c.timeline.ensures (c.in_ok-history.ensures.exact told) in
+    (_, label_start contents c.args.root.now c.args.control c.args.label c.in_ok-history.history log history c.in_ok-cursor.ensures.log passed,
+    record { control = refl; label = refl; log = c.check_log.ensures.log })

@@ -1,0 +1,1 @@
+-- What a record leaves, from what its parts leave.
