@@ -22,7 +22,7 @@ use Rattle.wal_base.specs.SizeOfBytes.{size_of_bytes}
 use Rattle.wal_base.specs.declared.spans.Span.{Span}
 use Rattle.wal_pages.specs.declared.log_path.LogPath.{LogPath}
 use Rattle.wal_records.specs.Further.{pages_of}
-use Rattle.wal_records.specs.Log.{log_of}
+use Rattle.wal_records.specs.Log.{end_after, log_of}
 use Rattle.wal_records.specs.Reading.{LogRecord}
 use Rattle.replay_start.specs.Faults.{IsFree, of_cluster, told_by}
 use Rattle.replay_start.specs.Scanned.{log_refusal}
@@ -93,6 +93,7 @@ pub record IsStart (start : Start) (v : Checked) : Type 0 where
   pub control : v.control ≡ start.control
   pub label : v.label ≡ start.label
   pub log : v.cursor.log ≡ start.log
+  pub end : v.end.0 ≡ end_after start.label.start.0 start.records
 
 -- the answer is the one that is meant, or a failed read, or want of memory
 abbrev pub Checks : Result Start ReplayFault → Result Checked ReplayFault → Type 0

@@ -8,7 +8,7 @@ ghost use Rattle.clusters.specs.Marks.{unfinished};
 ghost use Rattle.wal_base.specs.Segment.{bytes_of};
 ghost use Rattle.wal_records.specs.Cursor.{Knows};
 ghost use Rattle.wal_records.specs.Further.{pages_of};
-ghost use Rattle.wal_records.specs.Log.{log_of};
+ghost use Rattle.wal_records.specs.Log.{end_after, log_of};
 ghost use Rattle.replay_start.specs.Faults.{IsFree};
 ghost use Rattle.replay_start.specs.Checked.{Checks, from_control, from_label, start_of};
 ghost use Rattle.replay_start.specs.Scanned.{ends_too_soon, log_refusal, unlabelled};
@@ -51,7 +51,7 @@ fn check_seen(
     Ok(())
 }
 
-// Reads the whole log from the label's start on.
+// Reads the whole log from the label's start on, and tells where it ends.
 #[tactic(auto, using(crate::proofs::StageLemmas::log_steps))]
 fn check_log<F: Tree>(
     alloc: Global,
@@ -60,11 +60,14 @@ fn check_log<F: Tree>(
     control: &Control,
     label: LabelPlaces,
     cursor: &mut RecordCursor,
-) -> Result<(), ReplayFault>
+) -> Result<Lsn, ReplayFault>
     requires knows { IsTrue F.tells → Knows cursor.old (F.contents tree.old) }
     ensures answer { IsTrue F.tells → Passes IsFree (log_refusal root.now control.now label (log_of
         (pages_of cursor.old.log (F.contents tree.old)) (bytes_of cursor.old.log.size)
         label.start.0).records) result }
+    ensures end { IsTrue F.tells → IfOk result (λ end. end.0 ≡ end_after label.start.0 (log_of
+        (pages_of cursor.old.log (F.contents tree.old)) (bytes_of cursor.old.log.size)
+        label.start.0).records) }
     ensures knows { IsTrue F.tells → Knows cursor.new (F.contents tree.new) }
     ensures log { cursor.new.log ≡ cursor.old.log }
     ensures reads { Reads F.Tree tree.old tree.new }
@@ -79,7 +82,8 @@ fn check_log<F: Tree>(
         found: false,
     };
     scan_all(cursor, tree, label, &mut Parts::new(), &mut seen)?;
-    check_seen(alloc, root, control, seen)
+    check_seen(alloc, root, control, seen)?;
+    Ok(seen.end)
 }
 
 // What follows from the control file and the label.
@@ -106,10 +110,11 @@ fn check_label<F: Tree>(
 {
     let history = history_at(alloc, tree, root, control.timeline())?;
     let mut cursor = log_cursor(alloc, root, &control, &history, label.start)?;
-    check_log(alloc, tree, root, &control, label, &mut cursor)?;
+    let end = check_log(alloc, tree, root, &control, label, &mut cursor)?;
     Ok(Checked {
         control,
         label,
+        end,
         cursor,
     })
 }
