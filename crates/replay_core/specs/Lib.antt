@@ -1,0 +1,4 @@
+pub mod Faults
+pub mod Replayed
+pub mod Steps
+pub mod Went

@@ -1,0 +1,86 @@
+-- What a replay leaves: PostgreSQL 16, src/backend/access/transam/xlogrecovery.c, PerformWalRecovery; xlogutils.c, XLogCheckInvalidPages. Own: "A replay, in order".
+use Rattle.std.specs.Prelude.{ℕ, List, [], ◌∷◌, ◌++◌, length, codes, Option, option_map, Result, Ok}
+use Rattle.block_refs.specs.declared.names.BlockName.{BlockName}
+use Rattle.cluster_tree.specs.Causes.{given, unless}
+use Rattle.cluster_tree.specs.Change.{Change, Removes, Writes, all_changed}
+use Rattle.cluster_tree.specs.Contents.{Contents}
+use Rattle.cluster_tree.specs.Marks.{marks_of}
+use Rattle.cluster_tree.specs.PathValue.{PathValue, below}
+use Rattle.clusters.specs.Roots.{path_in}
+use Rattle.control_file.specs.Reading.{timeline_of}
+use Rattle.control_file.specs.Writing.{control_bytes}
+use Rattle.control_file.specs.declared.control.Control.{Control}
+use Rattle.marked_runs.specs.Runs.{begun, ended}
+use Rattle.wal_records.specs.Log.{end_after}
+use Rattle.block_replay.specs.World.{least_name}
+use Rattle.replay_control.specs.Following.{control_left}
+use Rattle.replay_start.specs.Checked.{Start, start_of}
+use Rattle.replay_start.specs.declared.fault.ReplayFault.{ReplayFault}
+use Rattle.replay_start.specs.declared.fault.ReplayFault.TheVariants as fault
+use Rattle.replay_world.specs.Records.{records_after}
+use Rattle.replay_world.specs.World.{World}
+use Rattle.replay_core.specs.Faults.{recorded}
+
+-- the mark, with a text of one line
+abbrev pub mark_of : PathValue → PathValue
+mark_of root = (marks_of root).replay
+
+abbrev pub mark_text : List ℕ
+mark_text = codes "pg_walreplay 1\n"
+
+-- what is changed before the first record
+abbrev pub beginning : PathValue → List Change
+beginning root = begun (mark_of root) mark_text
+
+abbrev pub control_path : PathValue → PathValue
+control_path root = path_in root (codes "global/pg_control")
+
+abbrev pub label_path : PathValue → PathValue
+label_path root = below root (codes "backup_label" ∷ [])
+
+-- and behind the last one: the control file is written, the label removed, and then the mark
+abbrev pub closing : PathValue → Control → List Change
+closing root control = Writes (control_path root) 0 (control_bytes control) ∷ Removes (label_path root) ∷ ended (mark_of root)
+
+-- what is left, and what is told of it
+pub record After : Type 0 where
+  pub files : Contents
+  pub records : ℕ
+  pub end : ℕ
+  pub tli : ℕ
+
+-- a block that is changed, and that wasn't there to the end of the log
+abbrev pub missing_page : List BlockName → Option ReplayFault
+missing_page skipped = option_map fault.MissingPage (least_name skipped)
+
+-- the end of the log that is replayed
+abbrev pub end_of : Start → ℕ
+end_of s = end_after s.label.start.0 s.records
+
+-- the control file that is written
+abbrev pub last_control : Start → World → Control
+last_control s w = control_left (timeline_of s.control) (end_of s) w.control
+
+abbrev pub closed : PathValue → Start → World → After
+closed root s w = record {
+  files = all_changed w.files (closing root (last_control s w));
+  records = length s.records;
+  end = end_of s;
+  tli = timeline_of s.control;
+}
+
+abbrev pub closed_or : PathValue → Start → World → Result After ReplayFault
+closed_or root s w = unless (missing_page w.skipped) (Ok (closed root s w))
+
+-- the cluster under the mark, before the first record
+abbrev pub first_world : Contents → PathValue → Start → World
+first_world c root s = record { files = all_changed c (beginning root); control = s.control; skipped = [] }
+
+-- all records are replayed
+abbrev pub replayed_from : Contents → PathValue → Start → Result After ReplayFault
+replayed_from c root s =
+    given (recorded (records_after root s.control.relseg s.records (first_world c root s))) (closed_or root s)
+
+-- what a replay leaves of a cluster, or why it ends: every check comes before its first change
+unfoldable pub after_replay : Contents → PathValue → Result After ReplayFault
+after_replay c root = given (start_of c root) (replayed_from c root)

@@ -1,0 +1,45 @@
+-- How far a replay went, and what it answers. Own: "Changes under a mark", "A replay, in order".
+use Rattle.std.specs.Prelude.{◌≡◌, ◌⊎◌, Bool, true, false, List, Result, Ok, Err}
+use Rattle.cluster_tree.specs.Contents.{Contents, entry_at}
+use Rattle.cluster_tree.specs.PathValue.{PathValue}
+use Rattle.cluster_tree.specs.Change.{Change}
+use Rattle.cluster_tree.specs.Run.{State}
+use Rattle.control_file.specs.declared.control.Control.{Control}
+use Rattle.file_edits.specs.Own.{GoesOn}
+use Rattle.file_effects.specs.Own.{is_replayed}
+use Rattle.marked_runs.specs.Runs.{Runs}
+use Rattle.replay_start.specs.declared.fault.ReplayFault.{ReplayFault}
+use Rattle.replay_core.specs.Faults.{IsFree}
+use Rattle.replay_core.specs.Replayed.{After, beginning, closing}
+use Rattle.replay_core.specs.declared.outcome.Replayed.{Replayed}
+
+-- these changes ran between two states
+abbrev pub Ran : List Change → State → State → Bool → Type 0
+Ran changes old new done = Runs changes old.calls new.calls old.contents new.contents done
+
+-- calls at paths that replay changes alone were made between them, and all else is as it was
+pub record RanRecords (root : PathValue) (old new : State) : Type 0 where
+  pub own : GoesOn (is_replayed root) old.calls new.calls
+  pub elsewhere : (path : PathValue) → is_replayed root path ≡ false → entry_at new.contents path ≡ entry_at old.contents path
+
+-- Nothing was changed; or the making of the mark broke off; or it stands, and records were replayed, all or the first ones; or the changes at the end
+-- were begun behind them, and are done where the replay is.
+pub data Went (root : PathValue) (old : State) : State → (done : Bool) → Type 0 where
+  Unchanged : {new : State} → new.calls ≡ old.calls → new.contents ≡ old.contents → Went root old new false
+  Begins : {new : State} → Ran (beginning root) old new false → Went root old new false
+  Replaying : {new : State} (marked : State) → Ran (beginning root) old marked true → RanRecords root marked new → Went root old new false
+  Closing : {new : State} {done : Bool} (marked late : State) (control : Control) → Ran (beginning root) old marked true → RanRecords root marked late
+      → Ran (closing root control) late new done → Went root old new done
+
+-- what was replayed is what is meant
+pub record IsAfter (meant : Result After ReplayFault) (told : Replayed) (files : Contents) : Type 0 where
+  pub after : After
+  pub is : meant ≡ Ok after
+  pub files_are : files ≡ after.files
+  pub records : told.records ≡ after.records
+  pub end : told.end.0 ≡ after.end
+  pub tli : told.tli ≡ after.tli
+
+-- the answer is the one that is meant, or free
+abbrev pub IsCause : Result After ReplayFault → ReplayFault → Type 0
+IsCause meant e = IsFree e ⊎ (meant ≡ Err e)

@@ -1,0 +1,13 @@
+//! The replay of a cluster's log.
+#![tactic(auto)]
+
+mod closing;
+mod faults;
+mod outcome;
+mod paths;
+mod replaying;
+mod running;
+
+pub use outcome::Replayed;
+pub use replay_start::ReplayFault;
+pub use replaying::replay;

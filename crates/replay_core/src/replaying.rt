@@ -1,0 +1,183 @@
+// The public call that replays.
+ghost use Rattle.std.specs.Prelude.{◌≡◌, ◌≢◌, ◌⊎◌, ◌≤◌, [], length, Err, IfErr, IfOk, IsErrOf, IsTrue, Ok, is_ok};
+ghost use Rattle.cluster_tree.specs.Causes.{Rose};
+ghost use Rattle.cluster_tree.specs.Contents.{Contents};
+ghost use Rattle.cluster_tree.specs.Frame.{Came};
+ghost use Rattle.cluster_tree.specs.PathValue.{PathValue};
+ghost use Rattle.cluster_tree.specs.Run.{state_by};
+ghost use Rattle.clusters.specs.Roots.{wal_folder};
+ghost use Rattle.control_file.specs.Admission.{IsControl};
+ghost use Rattle.file_edits.specs.Own.{OnOwn};
+ghost use Rattle.file_effects.specs.Own.{is_replayed};
+ghost use Rattle.storage_replay.specs.Files.{AreFit};
+ghost use Rattle.replay_profile.specs.Profile.{first_outside};
+ghost use Rattle.wal_base.specs.Segment.{bytes_of};
+ghost use Rattle.wal_records.specs.Cursor.{Knows};
+ghost use Rattle.wal_records.specs.Further.{pages_of};
+ghost use Rattle.wal_records.specs.Log.{end_after, log_of};
+ghost use Rattle.replay_start.specs.Checked.{IsStart, Start, start_of};
+ghost use Rattle.replay_world.specs.Records.{records_after};
+ghost use Rattle.replay_world.specs.World.{World, world_of};
+ghost use Rattle.replay_core.specs.Faults.{IsFree};
+ghost use Rattle.replay_core.specs.Replayed.{after_replay, closed_or, first_world, replayed_from};
+ghost use Rattle.replay_core.specs.Steps.{IsReplayedLog};
+ghost use Rattle.replay_core.specs.Went.{IsAfter, IsCause, Ran, RanRecords, Went};
+
+use crate::closing::{begin_mark, close};
+use crate::faults::of_perform;
+use crate::outcome::Replayed;
+use crate::paths::Paths;
+use crate::running::{Count, Room, replay_all};
+use block_refs::Parts;
+use cluster_tree::{Path, Tree};
+use marked_runs::about;
+use page_layout::Page;
+use replay_control::control_left;
+use replay_start::{Checked, ReplayFault, check};
+use replay_world::{Files, Replaying, Skipped};
+use std::alloc::Global;
+
+// Replays the whole log under the mark, and tells what was replayed.
+fn replay_log<F: Tree>(
+    alloc: Global,
+    tree: &mut F,
+    log: &Path,
+    checked: &mut Checked,
+    world: &mut Replaying,
+    room: &mut Room,
+) -> Result<Count, ReplayFault>
+    requires fit { AreFit world.old.files }
+    requires folder { checked.old.cursor.log.folder ≡ wal_folder world.old.files.root }
+    requires control { IsControl world.old.control }
+    requires knows { IsTrue F.tells → Knows checked.old.cursor (F.contents tree.old) }
+    requires taken { IsTrue F.tells → first_outside (log_of
+        (pages_of checked.old.cursor.log (F.contents tree.old))
+        (bytes_of checked.old.cursor.log.size) checked.old.label.start.0).records ≡ None }
+    requires ends { IsTrue F.tells → checked.old.end.0 ≡ end_after checked.old.label.start.0 (log_of
+        (pages_of checked.old.cursor.log (F.contents tree.old))
+        (bytes_of checked.old.cursor.log.size) checked.old.label.start.0).records }
+    ensures all { IsTrue F.tells → IsReplayedLog world.old.files.root world.old.files.per_file
+        checked.old.label.start.0 (log_of (pages_of checked.old.cursor.log (F.contents tree.old))
+        (bytes_of checked.old.cursor.log.size) checked.old.label.start.0).records
+        (world_of (F.contents tree.old) world.old) (world_of (F.contents tree.new) world.new) result }
+    ensures files { world.new.files ≡ world.old.files }
+    ensures control { IsControl world.new.control }
+    ensures frame { Came F.Tree tree.old tree.new }
+    ensures own { IsTrue F.tells →
+        OnOwn F.calls (is_replayed world.old.files.root) tree.old tree.new }
+    ensures read_fault { IsErrOf result ReplayFault.ReadFault →
+        Rose (F.failed_reads tree.old) (F.failed_reads tree.new) }
+    ensures write_fault { IsErrOf result ReplayFault.WriteFault →
+        Rose (F.failed_changes tree.old) (F.failed_changes tree.new) }
+    ensures changed { IsTrue F.tells → (p : PathValue) → result ≢ Err (ReplayFault.Changed p) }
+{
+    let cursor = &mut checked.cursor;
+    cursor.go_to(checked.label.start);
+    let mut count = Count {
+        records: 0,
+        end: checked.label.start,
+    };
+    replay_all(alloc, tree, log, cursor, world, room, &mut count)?;
+    if count.end.0 != checked.end.0 {
+        return Err(ReplayFault::Changed(log.copy(alloc)?));
+    }
+    Ok(count)
+}
+
+// What is left to do behind the last record: nothing may be missing, and the changes at the end.
+fn finish<F: Tree>(
+    tree: &mut F,
+    paths: Paths,
+    world: Replaying,
+    tli: u32,
+    count: Count,
+) -> Result<Replayed, ReplayFault>
+    requires control { IsControl world.control }
+{
+    if let Some(name) = world.skipped.least() {
+        return Err(ReplayFault::MissingPage(name));
+    }
+    let Count { records, end } = count;
+    match close(tree, paths, &control_left(tli, end, &world.control)) {
+        Ok(()) => Ok(Replayed { records, end, tli }),
+        Err(fault) => Err(of_perform(fault)),
+    }
+}
+
+// Carries out a replay whose mark stands.
+fn replay_marked<F: Tree>(
+    alloc: Global,
+    tree: &mut F,
+    paths: Paths,
+    mut checked: Checked,
+    mut world: Replaying,
+    mut room: Room,
+) -> Result<Replayed, ReplayFault>
+    requires control { IsControl checked.control }
+{
+    let tli = checked.control.timeline();
+    let count = replay_log(alloc, tree, &paths.log, &mut checked, &mut world, &mut room)?;
+    finish(tree, paths, world, tli, count)
+}
+
+// Carries out a replay that was checked.
+fn replay_checked<F: Tree>(
+    alloc: Global,
+    tree: &mut F,
+    root: &Path,
+    checked: Checked,
+) -> Result<Replayed, ReplayFault>
+    requires room { length root.now.parts ≤ 61 }
+    requires control { IsControl checked.control }
+{
+    let paths = Paths::of(alloc, root)?;
+    let page = Page::zero(alloc)?;
+    let world = Replaying {
+        files: Files {
+            root: root.copy(alloc)?,
+            per_file: checked.control.relseg,
+        },
+        control: checked.control,
+        skipped: Skipped::new(alloc),
+    };
+    let room = Room {
+        parts: Parts::new(),
+        page,
+    };
+    match begin_mark(tree, &paths.mark) {
+        Ok(()) => replay_marked(alloc, tree, paths, checked, world, room),
+        Err(fault) => Err(of_perform(about(fault, paths.mark))),
+    }
+}
+
+/// Replays a cluster's log into its files, from its label's start to the log's end. The mark
+/// `pg_walreplay.unfinished` stands from before the first other change until after the last; then the
+/// cluster is one that was shut down in recovery.
+///
+/// Answers, in the order of `ReplayFault`: what `check` refuses, before any change; at the record that
+/// meets it `RedoFailed`, or `Link`, `NotFolder`, `KindsDiffer`, `NameNotText` and `TooDeep` for an
+/// entry that the record needs; and behind the last record `MissingPage` of the least block that was
+/// changed and wasn't there. From its first change on the mark stays, whatever the answer, but for a
+/// failure while it is made or removed. `Changed` never where the tree tells.
+pub fn replay<F: Tree>(alloc: Global, tree: &mut F, root: &Path) -> Result<Replayed, ReplayFault>
+    requires room { length root.now.parts ≤ 61 }
+    // what is left is what is meant, and so is what is told of it
+    ensures done { IsTrue F.tells → IfOk result (λ done.
+        IsAfter (after_replay (F.contents tree.old) root.now) done (F.contents tree.new)) }
+    ensures refused { IsTrue F.tells → IfErr result
+        (IsCause (after_replay (F.contents tree.old) root.now)) }
+    // and this is how far it went
+    ensures went { IsTrue F.tells → Went root.now (state_by F.contents F.calls tree.old)
+        (state_by F.contents F.calls tree.new) (is_ok result) }
+    ensures checked { IsTrue F.tells → (e : ReplayFault) →
+        start_of (F.contents tree.old) root.now ≡ Err e → F.calls tree.new ≡ F.calls tree.old }
+    ensures frame { Came F.Tree tree.old tree.new }
+    ensures read_fault { IsErrOf result ReplayFault.ReadFault →
+        Rose (F.failed_reads tree.old) (F.failed_reads tree.new) }
+    ensures write_fault { IsErrOf result ReplayFault.WriteFault →
+        Rose (F.failed_changes tree.old) (F.failed_changes tree.new) }
+    ensures changed { IsTrue F.tells → (p : PathValue) → result ≢ Err (ReplayFault.Changed p) }
+{
+    let checked = check(alloc, tree, root)?;
+    replay_checked(alloc, tree, root, checked)
+}

@@ -1,0 +1,174 @@
+// The second reading of the log: each record is replayed.
+ghost use Rattle.std.specs.Prelude.{◌≡◌, ◌≢◌, ◌⊎◌, ◌+◌, ◌-◌, ◌≤◌, ◌<◌, ◌^◌, Err, IfErr, IfOk, IsErrOf, IsTrue, None, Ok};
+ghost use Rattle.block_refs.specs.Parts.{ArePartsOf};
+ghost use Rattle.cluster_tree.specs.Causes.{Rose};
+ghost use Rattle.cluster_tree.specs.Frame.{Came};
+ghost use Rattle.cluster_tree.specs.PathValue.{PathValue};
+ghost use Rattle.clusters.specs.Roots.{wal_folder};
+ghost use Rattle.control_file.specs.Admission.{IsControl};
+ghost use Rattle.file_edits.specs.Own.{OnOwn};
+ghost use Rattle.file_effects.specs.Own.{is_replayed};
+ghost use Rattle.replay_profile.specs.Profile.{first_outside, judged};
+ghost use Rattle.replay_profile.specs.declared.fault.ProfileFault.{ProfileFault};
+ghost use Rattle.storage_replay.specs.Files.{AreFit};
+ghost use Rattle.wal_records.specs.Cursor.{Knows, to_come};
+ghost use Rattle.replay_world.specs.World.{world_of};
+ghost use Rattle.replay_core.specs.Steps.{MovesOn, ReplaysAll, ReplaysNext};
+
+use crate::faults::of_record;
+use block_refs::Parts;
+use cluster_tree::{Path, Tree};
+use page_layout::Page;
+use replay_profile::judge;
+use replay_start::ReplayFault;
+use replay_world::{Replaying, replay_record};
+use std::alloc::Global;
+use wal_base::Lsn;
+use wal_records::{Record, RecordCursor, Step};
+
+/// How many records were replayed so far, and where the last of them ends.
+#[derive(Clone, Copy, Debug)]
+pub(crate) struct Count {
+    pub(crate) records: u64,
+    pub(crate) end: Lsn,
+}
+
+/// How the reading of a log goes on.
+#[derive(Clone, Copy, Debug)]
+pub(crate) enum Turn {
+    /// With the next record.
+    More,
+    /// No further.
+    Done,
+}
+
+/// Room for one record: its parts, and a page.
+#[derive(Drop)]
+pub(crate) struct Room {
+    pub(crate) parts: Parts,
+    pub(crate) page: Page,
+}
+
+// Judges a record as it was judged before: where it isn't taken now, the log was changed.
+fn judge_again(
+    alloc: Global,
+    log: &Path,
+    rec: &Record,
+    parts: &mut Parts,
+) -> Result<(), ReplayFault>
+    ensures parts { IfOk result (λ _. judged rec.now ≡ Ok parts.new) }
+    ensures of { IfOk result (λ _. ArePartsOf rec.now parts.new) }
+    ensures refused { IfErr result (λ e. (e ≡ ReplayFault.OutOfMemory)
+        ⊎ ((fault : ProfileFault) × (judged rec.now ≡ Err fault))) }
+    ensures read_fault { result ≢ Err ReplayFault.ReadFault }
+    ensures write_fault { result ≢ Err ReplayFault.WriteFault }
+{
+    match judge(rec, parts) {
+        Ok(()) => Ok(()),
+        Err(_) => Err(ReplayFault::Changed(log.copy(alloc)?)),
+    }
+}
+
+// A record more.
+fn count_on(count: Count, rec: &Record) -> Count
+    requires { count.records < 2 ^ 64 - 1 }
+    ensures { result ≡ record { records = count.records + 1; end = record { 0 = rec.now.end } } }
+{
+    Count {
+        records: count.records + 1,
+        end: rec.end(),
+    }
+}
+
+// Reads the next record, and replays it.
+fn replay_next<F: Tree>(
+    alloc: Global,
+    tree: &mut F,
+    log: &Path,
+    cursor: &mut RecordCursor,
+    world: &mut Replaying,
+    room: &mut Room,
+    count: &mut Count,
+) -> Result<Turn, ReplayFault>
+    requires opened { cursor.old.ended ≡ None }
+    requires fit { AreFit world.old.files }
+    requires within { cursor.old.place < 2 ^ 64 }
+    requires below { count.old.records ≤ cursor.old.place }
+    requires folder { cursor.old.log.folder ≡ wal_folder world.old.files.root }
+    requires knows { IsTrue F.tells → Knows cursor.old (F.contents tree.old) }
+    requires taken { IsTrue F.tells →
+        first_outside (to_come cursor.old (F.contents tree.old)).records ≡ None }
+    ensures step { IsTrue F.tells → ReplaysNext world.old.files.root world.old.files.per_file
+        (to_come cursor.old (F.contents tree.old)).records
+        (to_come cursor.new (F.contents tree.new)).records
+        (world_of (F.contents tree.old) world.old) (world_of (F.contents tree.new) world.new)
+        count.old count.new result }
+    ensures moves { IfOk result (MovesOn cursor.old cursor.new count.old count.new) }
+    ensures knows { IsTrue F.tells → Knows cursor.new (F.contents tree.new) }
+    ensures log { cursor.new.log ≡ cursor.old.log }
+    ensures files { world.new.files ≡ world.old.files }
+    ensures control { IsControl world.old.control → IsControl world.new.control }
+    ensures frame { Came F.Tree tree.old tree.new }
+    ensures own { IsTrue F.tells →
+        OnOwn F.calls (is_replayed world.old.files.root) tree.old tree.new }
+    ensures read_fault { IsErrOf result ReplayFault.ReadFault →
+        Rose (F.failed_reads tree.old) (F.failed_reads tree.new) }
+    ensures write_fault { IsErrOf result ReplayFault.WriteFault →
+        Rose (F.failed_changes tree.old) (F.failed_changes tree.new) }
+    ensures changed { IsTrue F.tells → (p : PathValue) → result ≢ Err (ReplayFault.Changed p) }
+{
+    match cursor.next_unchanged(tree)? {
+        Step::Record => {}
+        Step::End(_, _) => return Ok(Turn::Done),
+    }
+    let rec = cursor.current().unwrap();
+    judge_again(alloc, log, rec, &mut room.parts)?;
+    match replay_record(alloc, tree, world, rec, &room.parts, &mut room.page) {
+        Ok(()) => {}
+        Err(fault) => return Err(of_record(fault)),
+    }
+    *count = count_on(*count, rec);
+    Ok(Turn::More)
+}
+
+/// Replays what a cursor has still to give.
+pub(crate) fn replay_all<F: Tree>(
+    alloc: Global,
+    tree: &mut F,
+    log: &Path,
+    cursor: &mut RecordCursor,
+    world: &mut Replaying,
+    room: &mut Room,
+    count: &mut Count,
+) -> Result<(), ReplayFault>
+    requires opened { cursor.old.ended ≡ None }
+    requires fit { AreFit world.old.files }
+    requires within { cursor.old.place < 2 ^ 64 }
+    requires below { count.old.records ≤ cursor.old.place }
+    requires folder { cursor.old.log.folder ≡ wal_folder world.old.files.root }
+    requires knows { IsTrue F.tells → Knows cursor.old (F.contents tree.old) }
+    requires taken { IsTrue F.tells →
+        first_outside (to_come cursor.old (F.contents tree.old)).records ≡ None }
+    ensures all { IsTrue F.tells → ReplaysAll world.old.files.root world.old.files.per_file
+        (to_come cursor.old (F.contents tree.old)).records
+        (world_of (F.contents tree.old) world.old) (world_of (F.contents tree.new) world.new)
+        count.old count.new result }
+    ensures files { world.new.files ≡ world.old.files }
+    ensures control { IsControl world.old.control → IsControl world.new.control }
+    ensures frame { Came F.Tree tree.old tree.new }
+    ensures own { IsTrue F.tells →
+        OnOwn F.calls (is_replayed world.old.files.root) tree.old tree.new }
+    ensures read_fault { IsErrOf result ReplayFault.ReadFault →
+        Rose (F.failed_reads tree.old) (F.failed_reads tree.new) }
+    ensures write_fault { IsErrOf result ReplayFault.WriteFault →
+        Rose (F.failed_changes tree.old) (F.failed_changes tree.new) }
+    ensures changed { IsTrue F.tells → (p : PathValue) → result ≢ Err (ReplayFault.Changed p) }
+{
+    'records: loop {
+        match replay_next(alloc, tree, log, cursor, world, room, count) {
+            Ok(Turn::More) => {}
+            Ok(Turn::Done) => return Ok(()),
+            Err(e) => return Err(e),
+        }
+    }
+}
