@@ -1,5 +1,6 @@
 -- Files after a record's effect: PostgreSQL 16, src/backend/access/transam/xact.c, xact_redo_commit and xact_redo_abort;
 -- src/include/access/clog.h; src/backend/access/transam/multixact.c, PerformOffsetsTruncation and PerformMembersTruncation.
+-- Own: "Effects of records on files".
 use Rattle.std.specs.Prelude.{ℕ, ◌+◌, ◌-◌, ◌/◌, ◌%◌, ◌^◌, ◌==◌, List, [], ◌∷◌, ◌++◌, Result, Ok, if◌then◌else◌}
 use Rattle.block_refs.specs.Parts.{PartsView}
 use Rattle.block_refs.specs.declared.names.RelName.{RelName}

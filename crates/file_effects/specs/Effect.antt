@@ -1,6 +1,7 @@
 -- What a record does to files beside bits of the map, by its operation: PostgreSQL 16, src/backend/access/transam/xact.c,
 -- xact_redo; src/backend/catalog/storage.c, smgr_redo; src/backend/access/transam/clog.c, clog_redo; multixact.c,
 -- multixact_redo; src/backend/commands/dbcommands.c, dbase_redo; src/backend/utils/cache/relmapper.c, relmap_redo.
+-- Own: "Effects of records on files".
 use Rattle.std.specs.Prelude.{ℕ, List, Option}
 use Rattle.std.specs.Option.{option_map_or}
 use Rattle.block_refs.specs.Bytes.{main_bytes}

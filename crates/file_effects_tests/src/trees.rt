@@ -1,16 +1,21 @@
 //! What a cluster has before a record, and what stands in it then.
-use crate::texts::{bytes_of, cut_at, number};
-use cluster_tree::{Kind, MemoryTree, Path, Tree};
+use crate::texts::{byte, bytes_of, cut_at, number};
+use cluster_tree::{Kind, MemoryTree, Path, Tree, TreeFault};
 use std::alloc::Global;
 use std::test::Fail;
 
-/// Makes the folders of a path's first parts, as many as they are.
-fn put_way(alloc: Global, tree: &mut MemoryTree, path: &Path, parts: usize) -> Result<(), Fail> {
-    for count in 1..=parts {
-        let folder = path.front(alloc, count)?;
-        if tree.kind(&folder)? == Kind::Absent {
-            tree.make_folder(&folder)?;
-        }
+/// Makes a folder that isn't there.
+fn put_folder(tree: &mut MemoryTree, folder: &Path) -> Result<(), TreeFault> {
+    if tree.kind(folder)? == Kind::Absent {
+        tree.make_folder(folder)?;
+    }
+    Ok(())
+}
+
+/// Makes the folders on the way to a path.
+fn put_way(alloc: Global, tree: &mut MemoryTree, path: &Path) -> Result<(), Fail> {
+    for parts in 1..path.len() {
+        put_folder(tree, &path.front(alloc, parts)?)?;
     }
     Ok(())
 }
@@ -20,16 +25,14 @@ fn put(alloc: Global, tree: &mut MemoryTree, entry: &str) -> Result<(), Fail> {
     let (verb, behind) = cut_at(entry, " ");
     let (text, behind) = cut_at(behind, " ");
     let path = Path::parse(alloc, text)?;
-    if path.len() == 0 {
+    put_way(alloc, tree, &path)?;
+    if verb == "folder" {
+        put_folder(tree, &path)?;
         return Ok(());
     }
-    if verb == "folder" {
-        return put_way(alloc, tree, &path, path.len());
-    }
-    let (count, byte) = cut_at(behind, " ");
-    put_way(alloc, tree, &path, path.len() - 1)?;
+    let (count, filling) = cut_at(behind, " ");
+    let bytes = vec![in alloc; byte(filling)?; number(count)? as usize]?;
     tree.make_file(&path)?;
-    let bytes = vec![in alloc; (number(byte)? % 256) as u8; number(count)? as usize]?;
     tree.write_at(&path, 0, &bytes)?;
     Ok(())
 }
