@@ -40,9 +40,11 @@ module _ (root : PathValue) (per : ℕ) (rec : LogRecord) (parts : PartsView) wh
   next : (xs : List Placed) (i : ℕ) (w : BlockWorld) → each_after root per rec parts (drop i xs) w ≡ given (placed_after root per rec parts (slice_get xs i) w) (each_after root per rec parts (drop (i + 1) xs))
   unfolding each_after
   next [] zero w = refl
-  next [] (suc i) w = refl
+  next [] (suc i) w = sym (ap (λ ns. each_after root per rec parts ns w) (drop_all (suc i + 1) [] (omega arith)))
   next (x ∷ xs) zero w = refl
-  next (x ∷ xs) (suc i) w = next xs i w
+  next (x ∷ xs) (suc i) w =
+      let behind : suc (i + 1) ≡ suc i + 1 = omega arith in
+      next xs i w ∙ ap (λ n. given (placed_after root per rec parts (slice_get xs i) w) (each_after root per rec parts (drop n (x ∷ xs)))) behind
 
   pub each-end : (xs : List Placed) (i : ℕ) (w : BlockWorld) → length xs ≤ i → each_after root per rec parts (drop i xs) w ≡ Ok w
   unfolding each_after
@@ -66,8 +68,8 @@ number : (name : BlockName) → is_known_block name ≡ true → name.block ≢ 
 number name known = differs (name.block == 0xFFFFFFFF) refl (and_parts (is_known_rel name.rel) (not (name.block == 0xFFFFFFFF)) known).1
   where
     differs : (b : Bool) → (name.block == 0xFFFFFFFF) ≡ b → not b ≡ true → name.block ≢ 0xFFFFFFFF
-    differs true is no same = cc no
-    differs false is no same = grind (arith, nat_tests, is, same)
+    differs true is known same = cc known
+    differs false is known same = grind (arith, nat_tests, is, same)
 
 pub known-at : (xs : List Placed) (i : ℕ) (block : BlockRef) → are_known xs ≡ true → Some block ≡ ref_of (slice_get xs i) → block.name.block ≢ 0xFFFFFFFF
 known-at [] i block known e = cc e

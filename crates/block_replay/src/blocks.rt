@@ -104,8 +104,8 @@ fn replay_at<F: Tree>(
 /// reference names a known block, none twice. `page` is room for one page, and open afterwards.
 ///
 /// Answers `RedoFailed` with the record's start, the block and why its page can't be redone, and `File`
-/// with a fault of the files, of which that of reading a page comes before its redo. Blocks before that
-/// one are as they are to be; after a fault `skipped` is open.
+/// with a fault of the files, of which that of reading a page comes before its redo. After a fault
+/// `skipped` is open.
 pub fn replay_blocks<F: Tree>(
     alloc: Global,
     tree: &mut F,
