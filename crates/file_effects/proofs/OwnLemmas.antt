@@ -9,20 +9,19 @@ use Rattle.cluster_tree.specs.Contents.{parent}
 use Rattle.cluster_tree.specs.Folders.{lies_in}
 use Rattle.cluster_tree.specs.PathOrder.{path_eq}
 use Rattle.cluster_tree.specs.PathValue.{PathValue, Holds, below, front}
-use Rattle.cluster_tree.proofs.HoldLemmas.{held-holds, holds-held}
+use Rattle.cluster_tree.proofs.HoldLemmas.{holds-held}
 use Rattle.cluster_tree.proofs.OrderLemmas.{path_eq-same, same_path}
 use Rattle.cluster_tree.proofs.RootLemmas.{holds-below}
 use Rattle.file_edits.proofs.ClearLemmas.{held-above}
 use Rattle.file_edits.specs.Edits.{folders_between, leads, on_way}
 use Rattle.record_layouts.specs.declared.relmap.RelMapUpdate.{RelMapUpdate}
-use Rattle.relation_files.specs.Paths.{database_parts, folder_parts, global_parts, relation_folder}
-use Rattle.relation_files.specs.Reading.{is_of_number}
-use Rattle.slru_replay.specs.Area.{folder_of, is_of_area}
+use Rattle.relation_files.specs.Paths.{database_parts, global_parts}
+use Rattle.slru_replay.specs.Area.{is_of_area}
 use Rattle.slru_replay.specs.MultiXact.{is_of_multixacts}
 use Rattle.slru_replay.specs.declared.area.Area.{Area}
 use Rattle.slru_replay.specs.declared.area.Area.TheVariants.{Status, Offsets, Members}
 use Rattle.storage_databases.specs.Databases.{database_folder, version_file}
-use Rattle.storage_databases.specs.RelationMap.{is_of_map, map_file, map_parts}
+use Rattle.storage_databases.specs.RelationMap.{is_of_map}
 use Rattle.storage_replay.specs.Files.{is_file_in, is_of_relation}
 use Rattle.file_effects.specs.Own.{is_at, is_replayed}
 
@@ -38,9 +37,10 @@ held_leads : (k n : ℕ) (folder path q : PathValue) → Holds folder path → l
 unfolding leads
 held_leads zero n folder path q held l e = subst (Holds folder) (sym (path_eq-same q path e)) held
 held_leads (suc k) n folder path q held l e =
-    elim (path_eq q (front n path)) as (λ b. path_eq q (front n path) ≡ b → (b || leads k (n + 1) path q) ≡ true → Holds folder q)
-    [ true ↦ λ is _. subst (Holds folder) (sym (path_eq-same q (front n path) is)) (held_front folder path n held l)
-    | false ↦ λ _ more. held_leads k (n + 1) folder path q held (omega arith) more ]
+    elim (path_eq q (front n path)) as (λ b. path_eq q (front n path) ≡ b → (b || leads k (n + 1) path q) ≡ true → Holds folder q) [
+      | true ↦ λ is _. subst (Holds folder) (sym (path_eq-same q (front n path) is)) (held_front folder path n held l)
+      | false ↦ λ _ more. held_leads k (n + 1) folder path q held (omega arith) more
+    ]
     refl e
 
 held_way : (root : PathValue) (top : List ℕ) (path q : PathValue) → Holds (below root (top ∷ [])) path → on_way root path q ≡ true → is_at root top q ≡ true
@@ -55,7 +55,7 @@ held_in folder above q held e =
     let least : length above.parts ≤ length q.parts - 1 = omega (arith, ap (λ (p : PathValue). length p.parts) same, length-take (length q.parts - 1) q.parts) in
     let within : length folder.parts ≤ length q.parts - 1 = omega (arith, fewer, least) in
     let parts : take (length folder.parts) above.parts ≡ take (length folder.parts) q.parts =
-        ap (λ (p : PathValue). take (length folder.parts) p.parts) same ∙ fewer-first q.parts (length folder.parts) (length q.parts - 1) within in
+    ap (λ (p : PathValue). take (length folder.parts) p.parts) same ∙ fewer-first q.parts (length folder.parts) (length q.parts - 1) within in
     holds-held folder q (record { mark = held.mark ∙ ap (λ (p : PathValue). p.absolute) same; prefix = sym parts ∙ held.prefix })
 
 -- what lies below an entry of the root

@@ -3,7 +3,6 @@
 -- Own: "Effects of records on files".
 use Rattle.std.specs.Prelude.{ℕ, ◌+◌, ◌-◌, ◌/◌, ◌%◌, ◌^◌, ◌==◌, List, [], ◌∷◌, ◌++◌, Result, Ok, if◌then◌else◌}
 use Rattle.block_refs.specs.Parts.{PartsView}
-use Rattle.block_refs.specs.declared.names.RelName.{RelName}
 use Rattle.cluster_tree.specs.Causes.{given}
 use Rattle.cluster_tree.specs.Contents.{Contents}
 use Rattle.cluster_tree.specs.PathValue.{PathValue}

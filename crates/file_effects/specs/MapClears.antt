@@ -2,7 +2,7 @@
 -- heap_xlog_delete, heap_xlog_update, heap_xlog_multi_insert, heap_xlog_lock and heap_xlog_lock_updated;
 -- src/backend/access/heap/visibilitymap.c, visibilitymap_clear. The heap block itself, its LSN and its image don't matter.
 -- Own: "Effects of records on files".
-use Rattle.std.specs.Prelude.{ℕ, Bool, List, [], ◌∷◌, ◌++◌, Option, None, Some, is_some, option_and_then, if◌then◌else◌}
+use Rattle.std.specs.Prelude.{ℕ, List, [], ◌∷◌, ◌++◌, Option, None, Some, is_some, option_and_then, if◌then◌else◌}
 use Rattle.std.specs.Option.{option_map_or}
 use Rattle.block_refs.specs.Bits.{has_bits}
 use Rattle.block_refs.specs.Bytes.{block_with, main_bytes}

@@ -2,7 +2,7 @@
 use block_refs::RelName;
 
 /// Which of a block's bits are cleared.
-#[derive(Clone, Copy, Debug, PartialEq, Eq)]
+#[derive(Clone, Copy)]
 pub enum ClearedBits {
     /// Both, all visible and all frozen (`VISIBILITYMAP_VALID_BITS`).
     Both,
@@ -11,7 +11,7 @@ pub enum ClearedBits {
 }
 
 /// Bits of a heap block in the visibility map of its relation.
-#[derive(Clone, Copy, Debug, PartialEq, Eq)]
+#[derive(Clone, Copy)]
 pub struct Clearing {
     /// The relation.
     pub rel: RelName,
@@ -22,7 +22,7 @@ pub struct Clearing {
 }
 
 /// What a record clears: a block's bits, and then another's.
-#[derive(Clone, Copy, Debug, PartialEq, Eq)]
+#[derive(Clone, Copy)]
 pub struct Clears {
     /// The first, of an update that of the old tuple's block.
     pub first: Option<Clearing>,
