@@ -26,3 +26,4 @@ insert into scratch select g, 's' from generate_series(1, 200) g;
 insert into event select from generate_series(1, 150);
 select count(nextval('ticket')) from generate_series(1, 40);
 vacuum (analyze) account, journal;
+select setval('ticket', 500), setval('event_id_seq', 150);

@@ -1,0 +1,234 @@
+"""pg_rewind and pg_walreplay beside PostgreSQL's own pg_rewind and its servers."""
+import os
+import re
+import shutil
+
+import server_masks
+import server_stops
+from server_checks import control_lines, unequal, unequal_lines
+from server_format import BLOCK, convert, is_segment, read
+from server_pair import Server
+
+MARK = "pg_rewind.unfinished"
+MAIN_FORK = re.compile(r"(global|base/\d+)/\d+(\.\d+)?")
+OWN_SETTINGS = ("postgresql.conf", "postgresql.auto.conf", "pg_hba.conf", "pg_ident.conf")
+
+
+def tree(root):
+    """What lies below a root: of each path the bytes of its file, or None for a folder."""
+    found = {}
+    for folder, folders, files in os.walk(root):
+        for name in folders + files:
+            path = os.path.join(folder, name)
+            found[os.path.relpath(path, root)] = None if os.path.isdir(path) else read(path)
+    return found
+
+
+def blocks(data):
+    return [data[at:at + BLOCK] for at in range(0, len(data), BLOCK)]
+
+
+def label_lines(data):
+    return [line for line in data.decode().split("\n") if not line.startswith("START TIME: ")]
+
+
+class Rewound:
+    """What two rewinds of one target left, and where that differs but by the time of the run."""
+
+    def __init__(self, machine, real, ours, old, new):
+        """Roots in one format: what the two left, and the clusters from which they made it."""
+        self.machine, self.roots = machine, (real, ours)
+        self.real, self.ours, self.old, self.new = map(tree, (real, ours, old, new))
+        self.touched = 0
+
+    def control(self, root):
+        return control_lines(self.machine.done("pg_controldata", root), "pg_control last modified:")
+
+    def is_kept_log(self, path):
+        """The real pg_rewind keeps segments of the target between the common checkpoint and the fork."""
+        folder, name = os.path.split(path)
+        checkpoint = re.search(rb"START WAL LOCATION: \S+ \(file (\w+)\)", self.real["backup_label"])[1].decode()
+        fork = "%08X%08X%08X" % (1, *self.fork())
+        return (folder == "pg_wal" and is_segment(name) and checkpoint <= name <= fork and path not in self.new
+                and path in self.real and path not in self.ours and self.real[path] == self.old[path])
+
+    def fork(self):
+        """The number of the segment that the fork lies in, by the source's history; segments are of 1 MB."""
+        high, low = re.match(rb"1\t(\w+)/(\w+)", self.new["pg_wal/00000002.history"]).groups()
+        return int(high, 16), int(low, 16) >> 20
+
+    def only_touched(self, path):
+        """Each block that differs is the source's in ours and the target's in the real one: the target's log touched it in
+        a way that the real one doesn't see."""
+        sides = [blocks(side.get(path) or b"") for side in (self.real, self.ours, self.old, self.new)]
+        if not MAIN_FORK.fullmatch(path) or len(sides[0]) != len(sides[1]):
+            return False
+        differ = [at for at, (one, other) in enumerate(zip(*sides[:2])) if one != other]
+        self.touched += len(differ)
+        return all(sides[0][at:at + 1] == sides[2][at:at + 1] and sides[1][at:at + 1] == sides[3][at:at + 1]
+                   for at in differ)
+
+    def is_same(self, path):
+        if path not in self.real or path not in self.ours:
+            return self.is_kept_log(path)
+        real, ours = self.real[path], self.ours[path]
+        if path == "backup_label":
+            return label_lines(real) == label_lines(ours)
+        if path == "global/pg_control":
+            return self.control(self.roots[0]) == self.control(self.roots[1])
+        return real == ours or self.only_touched(path)
+
+    def differences(self):
+        paths = sorted(set(self.real) | set(self.ours))
+        return ", ".join(path for path in paths if not self.is_same(path))
+
+
+def report(run, *words):
+    ended = run("pg_rewind", *words)
+    return ended.returncode, ended.stdout, ended.stderr
+
+
+def rewind(checks, old, new):
+    """Leaves rewound16, in the program's format, and rewound, in the server's. Whether it was done."""
+    machine, target, source = checks.machine, checks.machine.path("rewound16"), new + "16"
+    words = ["-D", target, "--source-pgdata", source]
+    real = shutil.copytree(old, machine.path("rewound.real"))
+    shutil.copytree(old + "16", target)
+    before, source_before = tree(target), tree(source)
+    wanted = report(machine.real, "-n", "-D", real, "--source-pgdata", new)
+    checks.expect("pg_rewind -n reports what the real one does, and changes nothing",
+                  unequal(wanted, report(checks.ours, "-n", *words)), before != tree(target) and "the target has changed")
+    wanted = report(machine.real, "--no-sync", "-D", real, "--source-pgdata", new)
+    seen = report(checks.ours, *words)
+    checks.expect("pg_rewind reports what the real one does", unequal(wanted, seen),
+                  "" if wanted[2].endswith("Done!\n") else "nothing was to be done")
+    checks.expect("pg_rewind leaves the source", source_before != tree(source) and "it has changed")
+    checks.expect("a rewound cluster isn't rewound again",
+                  checks.answers(1, "", "pg_rewind: error: NotClean %s 5\n" % target, "pg_rewind", *words))
+    convert(16, machine.version, target, machine.path("rewound"))
+    pair = Rewound(machine, real, machine.path("rewound"), old, new)
+    checks.expect("pg_rewind leaves the tree of the real one, but for what docs/COMMANDS.md says", pair.differences())
+    print("  (%d blocks were copied that the real one leaves)" % pair.touched, flush=True)
+    shutil.rmtree(real)
+    return seen[0] == 0
+
+
+def refusals(checks, target, source):
+    """What each command that changes or compares clusters says of a target with a mark, by the command."""
+    line = "%s: error: Unfinished " + os.path.join(target, MARK) + "\n"
+    for words in (["pg_rewind", "-D", target, "--source-pgdata", source], ["pg_rewind", "-D", source, "--source-pgdata", target],
+                  ["pg_resetwal", "-f", "-D", target], ["pg_walreplay", target], ["pg_walcompare", target, source]):
+        if checks.is_built(words[0]):
+            yield words[0], checks.answers(1, "", line % words[0], *words)
+
+
+def stops(checks, old, new):
+    """Runs that are killed at a call that changes files: the first behind that which makes the mark, three on the way, and the
+    removal of the mark."""
+    machine, target, source = checks.machine, checks.machine.path("stopped16"), new + "16"
+    words = [checks.program, "pg_rewind", "-D", target, "--source-pgdata", source]
+    shutil.copytree(old + "16", target)
+    seen = server_stops.run(words, machine.env)
+    if not seen:
+        checks.skip("a rewind that is killed", "calls can't be traced here")
+        return
+    last = len(seen) - seen[::-1].index("unlink")
+    source_before = tree(source)
+    for at in [2, last // 4, last // 2, last * 3 // 4, last]:
+        shutil.rmtree(target)
+        shutil.copytree(old + "16", target)
+        server_stops.run(words, machine.env, at)
+        left = tree(target)
+        checks.expect("a rewind that is killed at its change %d of %d leaves a target that is refused" % (at, len(seen)),
+                      MARK not in left and "there is no mark", *[wrong for _, wrong in refusals(checks, target, source)],
+                      (left != tree(target) or source_before != tree(source)) and "a refusal has changed something")
+    for command in ("pg_walreplay", "pg_walcompare"):
+        if not checks.is_built(command):
+            checks.skip("%s refuses a rewind that was killed" % command, "it answers NotBuilt")
+    shutil.rmtree(target)
+    shutil.copytree(old + "16", target)
+    checks.ours(*words[1:])
+    convert(16, machine.version, target, machine.path("stopped"))
+    shutil.rmtree(target)
+    again = Rewound(machine, machine.path("rewound"), machine.path("stopped"), old, new)
+    checks.expect("and a new copy is rewound to the same tree", again.differences(), again.touched and "other blocks were copied")
+
+
+def compared(path, trees):
+    """Whether replay has to leave this path as the server does."""
+    relation = re.fullmatch(r"((?:global|base/\d+)/\d+)(_vm|_init)?(\.\d+)?", path)
+    if relation:
+        unlogged = not relation[2] and any(relation[1] + "_init" in side for side in trees)
+        return not unlogged
+    return path.startswith(("pg_xact/", "pg_multixact/")) or path.endswith("pg_filenode.map")
+
+
+def masked(path, data):
+    """What replay is compared by: of a map's page all but its header."""
+    if data is None or not MAIN_FORK.fullmatch(re.sub("_(init|vm)", "", path)):
+        return data
+    if "_vm" in path:
+        return [page[24:] for page in blocks(data)]
+    return [server_masks.mask(page, block) for block, page in enumerate(blocks(data))]
+
+
+def replay(checks, server, end):
+    """The log that came with the rewound cluster, replayed by the program and, up to this position, by a server, which is
+    stopped by now."""
+    target = shutil.copytree(checks.machine.path("rewound16"), checks.machine.path("replayed16"))
+    ended = checks.ours("pg_walreplay", target)
+    line = re.fullmatch(r"pg_walreplay: replayed (\d+) records to (\S+) on timeline 2\n", ended.stdout)
+    trees = tree(target), tree(server.data)
+    differ = [path for path in sorted(set(trees[0]) | set(trees[1])) if compared(path, trees)
+              and masked(path, trees[0].get(path)) != masked(path, trees[1].get(path))]
+    checks.expect("pg_walreplay replays the log of a rewound cluster", ended.stderr,
+                  unequal(end, line[2]) if line else "it says %r" % ended.stdout)
+    checks.expect("pg_walreplay leaves the relations and the status that a server leaves", ", ".join(differ))
+
+
+def checked_by_amcheck(checks, server):
+    machine = checks.machine
+    control = os.path.join(machine.done("pg_config", "--sharedir").strip(), "extension", "amcheck.control")
+    if not os.path.exists(control) or not os.path.exists(os.path.join(machine.programs, "pg_amcheck")):
+        checks.skip("pg_amcheck", "it isn't on this machine")
+        return
+    ended = machine.real("pg_amcheck", "-h", server.socket, "-U", "postgres", "--all", "--install-missing", "--heapallindexed")
+    checks.expect("pg_amcheck finds nothing", ended.returncode and "status %d" % ended.returncode, ended.stdout, ended.stderr)
+
+
+def servers(checks, old, new):
+    """The rewound cluster under a server, as docs/COMMANDS.md tells: alone, then behind the source, then promoted. Returns a
+    cluster whose server was stopped hard behind a checkpoint, and what it held."""
+    machine = checks.machine
+    target = Server(machine, "rewound")
+    checkpoint = re.search(r"Latest checkpoint location: *(\S+)", machine.done("pg_controldata", new.data))[1]
+    for name in OWN_SETTINGS:
+        shutil.copy(os.path.join(old.data, name), target.data)
+    target.settings("archive_mode = off")
+    open(os.path.join(target.data, "standby.signal"), "w").close()
+    target.start()
+    target.wait_for("pg_last_wal_replay_lsn() > '%s'" % checkpoint)
+    end = target.ask("select pg_last_wal_replay_lsn()")
+    target.stop()
+    checks.expect("a server starts on a rewound cluster, and reaches the end of its log")
+    if checks.is_built("pg_walreplay"):
+        replay(checks, target, end)
+    else:
+        checks.skip("pg_walreplay beside a server", "it answers NotBuilt")
+
+    target.settings("primary_conninfo = 'host=%s user=postgres'" % new.socket)
+    new.start()
+    target.start()
+    new.wait_for("exists (select from pg_stat_replication where state = 'streaming')")
+    new.ask("create table later as select g as id from generate_series(1, 100) g", "shop")
+    target.wait_for("pg_last_wal_replay_lsn() >= '%s'" % new.ask("select pg_current_wal_insert_lsn()"))
+    dump = new.dump()
+    checks.expect("it follows the source, and holds what the source holds", unequal_lines(dump, target.dump()),
+                  "" if len(dump) > 10000 else "%d lines" % len(dump))
+    new.stop()
+    target.promote()
+    checked_by_amcheck(checks, target)
+    dump = target.dump()
+    target.ask("checkpoint")
+    target.stop("immediate")
+    return target.data, dump
