@@ -6,6 +6,7 @@ class Checks:
     def __init__(self, machine, program):
         self.machine, self.program = machine, program
         self.passed = self.failed = self.skipped = 0
+        self.built = {}
 
     def expect(self, name, *wrong):
         """The check of this name has passed where nothing is wrong."""
@@ -25,7 +26,10 @@ class Checks:
         return self.machine.run(self.program, *words)
 
     def is_built(self, command):
-        return "NotBuilt" not in self.ours(command, self.machine.path("nothing")).stderr
+        """Whether the program has this command, which else answers NotBuilt."""
+        if command not in self.built:
+            self.built[command] = "NotBuilt" not in self.ours(command, self.machine.path("nothing")).stderr
+        return self.built[command]
 
     def answers(self, status, out, err, *words):
         """What is wrong with a run of the program, if anything."""

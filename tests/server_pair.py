@@ -12,7 +12,8 @@ autovacuum = off
 fsync = off
 shared_buffers = 16MB
 checkpoint_timeout = 1h
-wal_keep_size = 1GB
+wal_keep_size = 16MB
+min_wal_size = 2MB
 wal_retrieve_retry_interval = 100ms
 archive_mode = on
 archive_command = 'cp "%p" "{archive}/%f"'
@@ -120,6 +121,7 @@ def make_pair(machine):
     old.start()
     old.script("server_btrees.sql", "template1")
     old.ask("reindex system template1")
+    old.ask("drop database postgres")
     for database in ("shop", "only_new_keeps", "only_old_keeps"):
         old.ask("create database %s strategy = wal_log" % database)
     for database in ("shop", "only_new_keeps"):

@@ -114,44 +114,42 @@ def rewind(checks, old, new):
 
 
 def refusals(checks, target, source):
-    """What each command that changes or compares clusters says of a target with a mark, by the command."""
+    """What is wrong with what each command that changes or compares clusters says of a target with a mark."""
     line = "%s: error: Unfinished " + os.path.join(target, MARK) + "\n"
     for words in (["pg_rewind", "-D", target, "--source-pgdata", source], ["pg_rewind", "-D", source, "--source-pgdata", target],
                   ["pg_resetwal", "-f", "-D", target], ["pg_walreplay", target], ["pg_walcompare", target, source]):
         if checks.is_built(words[0]):
-            yield words[0], checks.answers(1, "", line % words[0], *words)
+            yield checks.answers(1, "", line % words[0], *words)
 
 
 def stops(checks, old, new):
-    """Runs that are killed at a call that changes files: the first behind that which makes the mark, three on the way, and the
-    removal of the mark."""
+    """Runs that are killed where the mark is still empty, at a copy, at a cut, at a removal, and where all is done but written
+    out to the disk."""
     machine, target, source = checks.machine, checks.machine.path("stopped16"), new + "16"
     words = [checks.program, "pg_rewind", "-D", target, "--source-pgdata", source]
-    shutil.copytree(old + "16", target)
-    seen = server_stops.run(words, machine.env)
-    if not seen:
-        checks.skip("a rewind that is killed", "calls can't be traced here")
-        return
-    last = len(seen) - seen[::-1].index("unlink")
     source_before = tree(source)
-    for at in [2, last // 4, last // 2, last * 3 // 4, last]:
-        shutil.rmtree(target)
+    for kind, number in (("write", 1), ("write", 300), ("cut", 100), ("remove", 50), ("sync", 3)):
         shutil.copytree(old + "16", target)
-        server_stops.run(words, machine.env, at)
+        killed = server_stops.run_until(kind, number, words, machine.env)
+        if killed is None:
+            checks.skip("a rewind that is killed", "calls can't be traced here")
+            return
         left = tree(target)
-        checks.expect("a rewind that is killed at its change %d of %d leaves a target that is refused" % (at, len(seen)),
-                      MARK not in left and "there is no mark", *[wrong for _, wrong in refusals(checks, target, source)],
-                      (left != tree(target) or source_before != tree(source)) and "a refusal has changed something")
+        checks.expect("a rewind that is killed at its %s %d leaves a target that is refused" % (kind, number),
+                      not killed and "it came to its end", MARK not in left and "there is no mark",
+                      *refusals(checks, target, source), left != tree(target) and "a refusal has changed it")
+        shutil.rmtree(target)
     for command in ("pg_walreplay", "pg_walcompare"):
         if not checks.is_built(command):
             checks.skip("%s refuses a rewind that was killed" % command, "it answers NotBuilt")
-    shutil.rmtree(target)
     shutil.copytree(old + "16", target)
     checks.ours(*words[1:])
     convert(16, machine.version, target, machine.path("stopped"))
-    shutil.rmtree(target)
     again = Rewound(machine, machine.path("rewound"), machine.path("stopped"), old, new)
-    checks.expect("and a new copy is rewound to the same tree", again.differences(), again.touched and "other blocks were copied")
+    checks.expect("after them a new copy is rewound to the same tree", again.differences(),
+                  again.touched and "other blocks were copied", source_before != tree(source) and "the source has changed")
+    shutil.rmtree(target)
+    shutil.rmtree(machine.path("stopped"))
 
 
 def compared(path, trees):

@@ -7,10 +7,9 @@ import signal
 # include/uapi/linux/ptrace.h and arch/x86/entry/syscalls/syscall_64.tbl
 TRACEME, SYSCALL, SETOPTIONS, GET_SYSCALL_INFO = 0, 24, 0x4200, 0x420E
 TELL_SYSCALLS, KILL_WITH_US = 1, 0x100000
-OPENAT, WRITES = 257, {1: "write", 18: "pwrite64", 20: "writev", 326: "copy_file_range"}
-CHANGES = {74: "fsync", 75: "fdatasync", 76: "truncate", 77: "ftruncate", 82: "rename", 83: "mkdir", 84: "rmdir",
-           87: "unlink", 162: "sync", 258: "mkdirat", 263: "unlinkat", 306: "syncfs"}
-CREATE, TRUNCATE = 0o100, 0o1000
+OPENAT, CREATE, TRUNCATE = 257, 0o100, 0o1000
+KINDS = {"write": (1, 18, 20, 296, 326), "sync": (74, 75, 162, 306), "cut": (76, 77), "move": (82, 264, 316),
+         "remove": (84, 87, 263), "make": (83, 258)}
 
 
 class Info(ctypes.Structure):
@@ -20,39 +19,37 @@ class Info(ctypes.Structure):
 
 
 def change(info):
-    """The name of a call that changes files, or None. Standard output and standard error are no files."""
-    if info.op != 1:
+    """What kind of change a call makes to files, or None. Standard output and standard error are no files."""
+    if info.op != 1 or (info.number in KINDS["write"] and info.words[0] <= 2):
         return None
-    if info.number == OPENAT:
-        return "openat" if info.words[2] & (CREATE | TRUNCATE) else None
-    if info.number in WRITES:
-        return WRITES[info.number] if info.words[0] > 2 else None
-    return CHANGES.get(info.number)
+    if info.number == OPENAT and info.words[2] & (CREATE | TRUNCATE):
+        return "make"
+    return next((kind for kind, numbers in KINDS.items() if info.number in numbers), None)
 
 
-def run(words, env, at=None):
-    """The names of the changing calls of a run. With `at` the run is killed at the beginning of call number `at`, the
-    first being 1. None where calls can't be traced here."""
-    libc = ctypes.CDLL(None, use_errno=True)
-    libc.ptrace.argtypes = [ctypes.c_long, ctypes.c_long, ctypes.c_void_p, ctypes.c_void_p]
+def run_until(kind, number, words, env):
+    """Runs the program, and kills it at the beginning of that change of a kind, the first being 1. Whether it came to
+    that; None where calls can't be traced here."""
     if platform.system() != "Linux" or platform.machine() != "x86_64":
         return None
+    libc = ctypes.CDLL(None)
+    libc.ptrace.argtypes = [ctypes.c_long, ctypes.c_long, ctypes.c_void_p, ctypes.c_void_p]
     child = os.fork()
     if child == 0:
         os.dup2(os.open(os.devnull, os.O_RDWR), 2)
         if libc.ptrace(TRACEME, 0, None, None) == 0:
             os.execve(words[0], words, env)
         os._exit(127)
-    seen, info = [], Info()
+    seen, info, traced = 0, Info(), False
     _, status = os.waitpid(child, 0)
     if os.WIFSTOPPED(status):
         libc.ptrace(SETOPTIONS, child, None, TELL_SYSCALLS | KILL_WITH_US)
     while os.WIFSTOPPED(status):
         if os.WSTOPSIG(status) == signal.SIGTRAP | 0x80:
-            size = libc.ptrace(GET_SYSCALL_INFO, child, ctypes.sizeof(info), ctypes.addressof(info))
-            seen += [name for name in [change(info)] if size > 0 and name]
-            if len(seen) == at:
+            traced = libc.ptrace(GET_SYSCALL_INFO, child, ctypes.sizeof(info), ctypes.addressof(info)) > 0 or traced
+            seen += change(info) == kind
+            if seen == number:
                 os.kill(child, signal.SIGKILL)
         libc.ptrace(SYSCALL, child, None, None)
         _, status = os.waitpid(child, 0)
-    return seen or None
+    return seen == number if traced else None
