@@ -35,6 +35,9 @@ insert into scratch select :side * 1000 + g, 's' from generate_series(1, 40) g;
 
 -- what one side alone does
 \if :is_old
+  update ledger set line = 'old' where id % 40 = 0;
+  delete from ledger where id between 500 and 600;
+  insert into ledger select g, 'old' from generate_series(3000, 3500) g;
   delete from tail where at > 700; vacuum tail;
   truncate emptied;
   drop table only_old_drops;

@@ -13,7 +13,7 @@ class Checks:
         wrong = [text for text in wrong if text]
         if wrong:
             self.failed += 1
-            print("failed: %s: %s" % (name, "; ".join(map(str, wrong))[:2000]), flush=True)
+            print("failed: %s: %s" % (name, "; ".join(map(str, wrong))[:600]), flush=True)
         else:
             self.passed += 1
             print("passed: " + name, flush=True)

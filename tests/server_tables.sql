@@ -2,6 +2,7 @@
 set client_min_messages = warning;
 create table account (id int primary key, branch int, owner text, balance numeric) with (fillfactor = 75);
 create index account_branch on account (branch, owner);
+create table ledger (id int primary key, line text);         -- which the old primary alone changes behind the fork
 create table journal (at int, line text);
 create table tail (at int, line text);
 create table emptied (id int unique, line text);
@@ -15,6 +16,7 @@ create sequence ticket increment 5;
 create table event (id bigserial primary key, kind int default 1);
 \ir server_btrees.sql
 insert into account select g, g % 19, repeat(md5(g::text), 1 + g % 4), g from generate_series(1, 2000) g;
+insert into ledger select g, repeat('l', g % 90) from generate_series(1, 2000) g;
 insert into journal select g, repeat('j', g % 70) from generate_series(1, 3000) g;
 insert into tail select g, repeat('t', 120) from generate_series(1, 3000) g;
 insert into emptied select g, 'e' || g from generate_series(1, 800) g;
@@ -25,5 +27,5 @@ insert into locked select g, 'l' from generate_series(1, 200) g;
 insert into scratch select g, 's' from generate_series(1, 200) g;
 insert into event select from generate_series(1, 150);
 select count(nextval('ticket')) from generate_series(1, 40);
-vacuum (analyze) account, journal;
+vacuum (analyze) account, ledger, journal;
 select setval('ticket', 500), setval('event_id_seq', 150);
