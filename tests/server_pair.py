@@ -36,9 +36,9 @@ class Machine:
         """Runs one of PostgreSQL's own programs, however it ends."""
         return self.run(os.path.join(self.programs, name), *words)
 
-    def run(self, *words, **more):
+    def run(self, *words):
         return subprocess.run([str(word) for word in words], env=self.env, cwd=self.work, stdin=subprocess.DEVNULL,
-                              stdout=subprocess.PIPE, stderr=subprocess.PIPE, text=True, timeout=300, **more)
+                              stdout=subprocess.PIPE, stderr=subprocess.PIPE, text=True, timeout=120)
 
     def done(self, name, *words):
         """The output of one of PostgreSQL's own programs, which has to succeed."""

@@ -108,7 +108,6 @@ def rewind(checks, old, new):
     convert(16, machine.version, target, machine.path("rewound"))
     pair = Rewound(machine, real, machine.path("rewound"), old, new)
     checks.expect("pg_rewind leaves the tree of the real one, but for what docs/COMMANDS.md says", pair.differences())
-    print("  (%d blocks were copied that the real one leaves)" % pair.touched, flush=True)
     shutil.rmtree(real)
     return seen[0] == 0
 

@@ -36,10 +36,12 @@ def run_until(kind, number, words, env):
     libc.ptrace.argtypes = [ctypes.c_long, ctypes.c_long, ctypes.c_void_p, ctypes.c_void_p]
     child = os.fork()
     if child == 0:
-        os.dup2(os.open(os.devnull, os.O_RDWR), 2)
-        if libc.ptrace(TRACEME, 0, None, None) == 0:
-            os.execve(words[0], words, env)
-        os._exit(127)
+        try:
+            os.dup2(os.open(os.devnull, os.O_RDWR), 2)
+            if libc.ptrace(TRACEME, 0, None, None) == 0:
+                os.execve(words[0], words, env)
+        finally:
+            os._exit(127)
     seen, info, traced = 0, Info(), False
     _, status = os.waitpid(child, 0)
     if os.WIFSTOPPED(status):
