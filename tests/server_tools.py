@@ -46,19 +46,24 @@ def beside_pg_waldump(checks, name, cluster, timeline, *more):
                   "" if len(shown(ours.stdout)) > 1000 else "few records")
 
 
+def cleaned(machine, run, archive, kept):
+    """What a program says of a clean-up and of a dry run before it, and the names that it tells and that it removes."""
+    copy = shutil.copytree(archive, machine.path("copy"), copy_function=os.link)
+    dry, ended = run("pg_archivecleanup", "-n", copy, kept), run("pg_archivecleanup", copy, kept)
+    removed = set(os.listdir(archive)) - set(os.listdir(copy))
+    shutil.rmtree(copy)
+    return (dry.returncode, ended.returncode, ended.stdout, ended.stderr), {os.path.basename(line) for line in dry.stdout.split()}, removed
+
+
 def beside_pg_archivecleanup(checks, archive):
     names = sorted(os.listdir(archive))
-    of = {end: [name for name in names if name.endswith(end)] for end in (".backup", ".partial", "")}
     segments = [name for name in names if is_segment(name)]
-    for kept in (of[".backup"][0], of[".partial"][0], segments[len(segments) // 2], segments[0], segments[-1]):
-        left = {}
-        for who, run in (("real", checks.machine.real), ("ours", checks.ours)):
-            copy = shutil.copytree(archive, checks.machine.path("copy"), copy_function=os.link)
-            dry = run("pg_archivecleanup", "-n", copy, kept)
-            ended = run("pg_archivecleanup", copy, kept)
-            left[who] = dry.returncode, sorted(dry.stdout.split("\n")), ended.returncode, ended.stdout, sorted(os.listdir(copy))
-            shutil.rmtree(copy)
-        checks.expect("pg_archivecleanup up to %s" % kept, unequal(left["real"], left["ours"]))
+    odd = [next(name for name in names if name.endswith(end)) for end in (".backup", ".partial")]
+    for kept in (*odd, segments[0], segments[len(segments) // 2], segments[-1]):
+        real, ours = (cleaned(checks.machine, run, archive, kept) for run in (checks.machine.real, checks.ours))
+        checks.expect("pg_archivecleanup up to %s" % kept, unequal(real[0], ours[0]),
+                      *["%s not by both: %s" % (what, ", ".join(sorted(one ^ other)))
+                        for what, one, other in zip(("told", "removed"), real[1:], ours[1:]) if one != other])
 
 
 def without_log(machine, version, source, target):
