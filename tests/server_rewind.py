@@ -1,4 +1,5 @@
 """pg_rewind and pg_walreplay beside PostgreSQL's own pg_rewind and its servers."""
+import hashlib
 import os
 import re
 import shutil
@@ -15,21 +16,20 @@ OWN_SETTINGS = ("postgresql.conf", "postgresql.auto.conf", "pg_hba.conf", "pg_id
 
 
 def tree(root):
-    """What lies below a root: of each path the bytes of its file, or None for a folder."""
+    """What lies below a root: of each path the sum of its file's bytes, or None for a folder."""
     found = {}
     for folder, folders, files in os.walk(root):
         for name in folders + files:
             path = os.path.join(folder, name)
-            found[os.path.relpath(path, root)] = None if os.path.isdir(path) else read(path)
+            found[os.path.relpath(path, root)] = None if os.path.isdir(path) else hashlib.sha256(read(path)).digest()
     return found
 
 
-def blocks(data):
+def blocks(root, path):
+    """The blocks of a file, none where there is no such file."""
+    path = os.path.join(root, path)
+    data = read(path) if os.path.isfile(path) else b""
     return [data[at:at + BLOCK] for at in range(0, len(data), BLOCK)]
-
-
-def label_lines(data):
-    return [line for line in data.decode().split("\n") if not line.startswith("START TIME: ")]
 
 
 class Rewound:
@@ -37,9 +37,12 @@ class Rewound:
 
     def __init__(self, machine, real, ours, old, new):
         """Roots in one format: what the two left, and the clusters from which they made it."""
-        self.machine, self.roots = machine, (real, ours)
-        self.real, self.ours, self.old, self.new = map(tree, (real, ours, old, new))
+        self.machine, self.real, self.ours, self.old, self.new = machine, real, ours, old, new
         self.touched = 0
+
+    def label(self, root):
+        with open(os.path.join(root, "backup_label")) as label:
+            return [line for line in label if not line.startswith("START TIME: ")]
 
     def control(self, root):
         return control_lines(self.machine.done("pg_controldata", root), "pg_control last modified:")
@@ -47,40 +50,35 @@ class Rewound:
     def is_kept_log(self, path):
         """The real pg_rewind keeps segments of the target between the common checkpoint and the fork."""
         folder, name = os.path.split(path)
-        checkpoint = re.search(rb"START WAL LOCATION: \S+ \(file (\w+)\)", self.real["backup_label"])[1].decode()
-        fork = "%08X%08X%08X" % (1, *self.fork())
-        return (folder == "pg_wal" and is_segment(name) and checkpoint <= name <= fork and path not in self.new
-                and path in self.real and path not in self.ours and self.real[path] == self.old[path])
-
-    def fork(self):
-        """The number of the segment that the fork lies in, by the source's history; segments are of 1 MB."""
-        high, low = re.match(rb"1\t(\w+)/(\w+)", self.new["pg_wal/00000002.history"]).groups()
-        return int(high, 16), int(low, 16) >> 20
+        checkpoint = re.search(r"\(file (\w+)\)", "".join(self.label(self.real)))[1]
+        with open(os.path.join(self.new, "pg_wal", "00000002.history")) as history:
+            high, low = history.readline().split("\t")[1].split("/")
+        fork = "%08X%08X%08X" % (1, int(high, 16), int(low, 16) >> 20)
+        return folder == "pg_wal" and is_segment(name) and checkpoint <= name <= fork and not os.path.exists(
+            os.path.join(self.new, path)) and blocks(self.real, path) == blocks(self.old, path) != []
 
     def only_touched(self, path):
         """Each block that differs is the source's in ours and the target's in the real one: the target's log touched it in
         a way that the real one doesn't see."""
-        sides = [blocks(side.get(path) or b"") for side in (self.real, self.ours, self.old, self.new)]
-        if not MAIN_FORK.fullmatch(path) or len(sides[0]) != len(sides[1]):
-            return False
-        differ = [at for at, (one, other) in enumerate(zip(*sides[:2])) if one != other]
+        real, ours, old, new = (blocks(root, path) for root in (self.real, self.ours, self.old, self.new))
+        differ = [at for at, (one, other) in enumerate(zip(real, ours)) if one != other]
         self.touched += len(differ)
-        return all(sides[0][at:at + 1] == sides[2][at:at + 1] and sides[1][at:at + 1] == sides[3][at:at + 1]
-                   for at in differ)
+        return bool(MAIN_FORK.fullmatch(path)) and len(real) == len(ours) and all(
+            real[at:at + 1] == old[at:at + 1] and ours[at:at + 1] == new[at:at + 1] for at in differ)
 
     def is_same(self, path):
-        if path not in self.real or path not in self.ours:
-            return self.is_kept_log(path)
-        real, ours = self.real[path], self.ours[path]
         if path == "backup_label":
-            return label_lines(real) == label_lines(ours)
+            return self.label(self.real) == self.label(self.ours)
         if path == "global/pg_control":
-            return self.control(self.roots[0]) == self.control(self.roots[1])
-        return real == ours or self.only_touched(path)
+            return self.control(self.real) == self.control(self.ours)
+        return self.only_touched(path)
 
     def differences(self):
-        paths = sorted(set(self.real) | set(self.ours))
-        return ", ".join(path for path in paths if not self.is_same(path))
+        real, ours = tree(self.real), tree(self.ours)
+        return ", ".join(
+            [path for path in sorted(set(real) & set(ours)) if real[path] != ours[path] and not self.is_same(path)] +
+            [path + " is missing" for path in sorted(set(real) - set(ours)) if not self.is_kept_log(path)] +
+            [path + " is too much" for path in sorted(set(ours) - set(real))])
 
 
 def report(run, *words):
@@ -160,13 +158,13 @@ def compared(path, trees):
     return path.startswith(("pg_xact/", "pg_multixact/")) or path.endswith("pg_filenode.map")
 
 
-def masked(path, data):
+def masked(root, path):
     """What replay is compared by: of a map's page all but its header."""
-    if data is None or not MAIN_FORK.fullmatch(re.sub("_(init|vm)", "", path)):
-        return data
     if "_vm" in path:
-        return [page[24:] for page in blocks(data)]
-    return [server_masks.mask(page, block) for block, page in enumerate(blocks(data))]
+        return [page[24:] for page in blocks(root, path)]
+    if MAIN_FORK.fullmatch(path.replace("_init", "")):
+        return [server_masks.mask(page, block) for block, page in enumerate(blocks(root, path))]
+    return blocks(root, path)
 
 
 def replay(checks, server, end):
@@ -177,7 +175,7 @@ def replay(checks, server, end):
     line = re.fullmatch(r"pg_walreplay: replayed (\d+) records to (\S+) on timeline 2\n", ended.stdout)
     trees = tree(target), tree(server.data)
     differ = [path for path in sorted(set(trees[0]) | set(trees[1])) if compared(path, trees)
-              and masked(path, trees[0].get(path)) != masked(path, trees[1].get(path))]
+              and ((path in trees[0]) != (path in trees[1]) or masked(target, path) != masked(server.data, path))]
     checks.expect("pg_walreplay replays the log of a rewound cluster", ended.stderr,
                   unequal(end, line[2]) if line else "it says %r" % ended.stdout)
     checks.expect("pg_walreplay leaves the relations and the status that a server leaves", ", ".join(differ))
