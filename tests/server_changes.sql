@@ -15,7 +15,9 @@ rollback to a; insert into journal values (:side, 'second'); commit;
 begin; insert into journal select g, 'in vain' from generate_series(1, 150) g; rollback;
 begin; select count(*) from (select from locked where id <= 20 for key share) q; savepoint a;
 update locked set line = line || :side where id <= 15; commit;
-do $$ begin for i in 1..70 loop begin insert into journal values (i, 'subtransaction'); exception when unique_violation then null; end; end loop; end $$;
+do $$ begin for i in 1..70 loop
+  begin insert into journal values (i, 'subtransaction'); exception when unique_violation then null; end;
+end loop; end $$;
 insert into emptied values (1, 'there already') on conflict do nothing;
 insert into emptied values (:side * 1000, 'new') on conflict (id) do update set line = excluded.line;
 insert into emptied values (:side * 1000, 'newer') on conflict (id) do update set line = excluded.line;

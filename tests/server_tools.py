@@ -52,7 +52,8 @@ def cleaned(machine, run, archive, kept):
     dry, ended = run("pg_archivecleanup", "-n", copy, kept), run("pg_archivecleanup", copy, kept)
     removed = set(os.listdir(archive)) - set(os.listdir(copy))
     shutil.rmtree(copy)
-    return (dry.returncode, ended.returncode, ended.stdout, ended.stderr), {os.path.basename(line) for line in dry.stdout.split()}, removed
+    told = {os.path.basename(line) for line in dry.stdout.split()}
+    return (dry.returncode, ended.returncode, ended.stdout, ended.stderr), told, removed
 
 
 def beside_pg_archivecleanup(checks, archive):
