@@ -121,7 +121,7 @@ def make_pair(machine):
     old.start()
     old.script("server_btrees.sql", "template1")
     old.ask("reindex system template1")
-    old.ask("drop database postgres")
+    old.ask("drop database postgres")  # which nothing here needs
     for database in ("shop", "only_new_keeps", "only_old_keeps"):
         old.ask("create database %s strategy = wal_log" % database)
     for database in ("shop", "only_new_keeps"):
