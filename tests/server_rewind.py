@@ -1,0 +1,229 @@
+"""pg_rewind and pg_walreplay beside PostgreSQL's own pg_rewind and its servers."""
+import hashlib
+import os
+import re
+import shutil
+
+import server_masks
+import server_stops
+from server_checks import control_lines, unequal, unequal_lines
+from server_format import BLOCK, convert, is_segment, read
+from server_pair import Server
+
+MARK = "pg_rewind.unfinished"
+MAIN_FORK = re.compile(r"(global|base/\d+)/\d+(\.\d+)?")
+OWN_SETTINGS = ("postgresql.conf", "postgresql.auto.conf", "pg_hba.conf", "pg_ident.conf")
+
+
+def tree(root):
+    """What lies below a root: of each path the sum of its file's bytes, or None for a folder."""
+    found = {}
+    for folder, folders, files in os.walk(root):
+        for name in folders + files:
+            path = os.path.join(folder, name)
+            found[os.path.relpath(path, root)] = None if os.path.isdir(path) else hashlib.sha256(read(path)).digest()
+    return found
+
+
+def blocks(root, path):
+    """The blocks of a file, none where there is no such file."""
+    path = os.path.join(root, path)
+    data = read(path) if os.path.isfile(path) else b""
+    return [data[at:at + BLOCK] for at in range(0, len(data), BLOCK)]
+
+
+class Rewound:
+    """What two rewinds of one target left, and where that differs but by the time of the run."""
+
+    def __init__(self, machine, real, ours, old, new):
+        """Roots in one format: what the two left, and the clusters from which they made it."""
+        self.machine, self.real, self.ours, self.old, self.new = machine, real, ours, old, new
+        self.touched = 0
+
+    def label(self, root):
+        with open(os.path.join(root, "backup_label")) as label:
+            return [line for line in label if not line.startswith("START TIME: ")]
+
+    def control(self, root):
+        return control_lines(self.machine.done("pg_controldata", root), "pg_control last modified:")
+
+    def is_kept_log(self, path):
+        """The real pg_rewind keeps segments of the target between the common checkpoint and the fork."""
+        folder, name = os.path.split(path)
+        checkpoint = re.search(r"\(file (\w+)\)", "".join(self.label(self.real)))[1]
+        with open(os.path.join(self.new, "pg_wal", "00000002.history")) as history:
+            high, low = history.readline().split("\t")[1].split("/")
+        fork = "%08X%08X%08X" % (1, int(high, 16), int(low, 16) >> 20)
+        return folder == "pg_wal" and is_segment(name) and checkpoint <= name <= fork and not os.path.exists(
+            os.path.join(self.new, path)) and blocks(self.real, path) == blocks(self.old, path) != []
+
+    def only_touched(self, path):
+        """Each block that differs is the source's in ours and the target's in the real one: the target's log touched it in
+        a way that the real one doesn't see."""
+        real, ours, old, new = (blocks(root, path) for root in (self.real, self.ours, self.old, self.new))
+        differ = [at for at, (one, other) in enumerate(zip(real, ours)) if one != other]
+        self.touched += len(differ)
+        return bool(MAIN_FORK.fullmatch(path)) and len(real) == len(ours) and all(
+            real[at:at + 1] == old[at:at + 1] and ours[at:at + 1] == new[at:at + 1] for at in differ)
+
+    def is_same(self, path):
+        if path == "backup_label":
+            return self.label(self.real) == self.label(self.ours)
+        if path == "global/pg_control":
+            return self.control(self.real) == self.control(self.ours)
+        return self.only_touched(path)
+
+    def differences(self):
+        real, ours = tree(self.real), tree(self.ours)
+        return ", ".join(
+            [path for path in sorted(set(real) & set(ours)) if real[path] != ours[path] and not self.is_same(path)] +
+            [path + " is missing" for path in sorted(set(real) - set(ours)) if not self.is_kept_log(path)] +
+            [path + " is too much" for path in sorted(set(ours) - set(real))])
+
+
+def report(run, *words):
+    ended = run("pg_rewind", *words)
+    return ended.returncode, ended.stdout, ended.stderr
+
+
+def rewind(checks, old, new):
+    """Leaves rewound16, in the program's format, and rewound, in the server's. Whether it was done."""
+    machine, target, source = checks.machine, checks.machine.path("rewound16"), new + "16"
+    words = ["-D", target, "--source-pgdata", source]
+    real = shutil.copytree(old, machine.path("rewound.real"))
+    shutil.copytree(old + "16", target)
+    before, source_before = tree(target), tree(source)
+    wanted = report(machine.real, "-n", "-D", real, "--source-pgdata", new)
+    checks.expect("pg_rewind -n reports what the real one does, and changes nothing",
+                  unequal(wanted, report(checks.ours, "-n", *words)), before != tree(target) and "the target has changed")
+    wanted = report(machine.real, "--no-sync", "-D", real, "--source-pgdata", new)
+    seen = report(checks.ours, *words)
+    checks.expect("pg_rewind reports what the real one does", unequal(wanted, seen),
+                  "" if wanted[2].endswith("Done!\n") else "nothing was to be done")
+    checks.expect("pg_rewind leaves the source", source_before != tree(source) and "it has changed")
+    checks.expect("a rewound cluster isn't rewound again",
+                  checks.answers(1, "", "pg_rewind: error: NotClean %s 5\n" % target, "pg_rewind", *words))
+    convert(16, machine.version, target, machine.path("rewound"))
+    pair = Rewound(machine, real, machine.path("rewound"), old, new)
+    checks.expect("pg_rewind leaves the tree of the real one, but for what docs/COMMANDS.md says", pair.differences())
+    shutil.rmtree(real)
+    return seen[0] == 0
+
+
+def refusals(checks, target, source):
+    """What is wrong with what each command that changes or compares clusters says of a target with a mark."""
+    line = "%s: error: Unfinished " + os.path.join(target, MARK) + "\n"
+    for words in (["pg_rewind", "-D", target, "--source-pgdata", source], ["pg_rewind", "-D", source, "--source-pgdata", target],
+                  ["pg_resetwal", "-f", "-D", target], ["pg_walreplay", target], ["pg_walcompare", target, source]):
+        if checks.is_built(words[0]):
+            yield checks.answers(1, "", line % words[0], *words)
+
+
+def stops(checks, old, new):
+    """Runs that are killed where the mark is still empty, at a copy, at a cut, at a removal, and where all is done but written
+    out to the disk."""
+    machine, target, source = checks.machine, checks.machine.path("stopped16"), new + "16"
+    words = [checks.program, "pg_rewind", "-D", target, "--source-pgdata", source]
+    source_before = tree(source)
+    for kind, number in (("write", 1), ("write", 300), ("cut", 100), ("remove", 50), ("sync", 3)):
+        shutil.copytree(old + "16", target)
+        killed = server_stops.run_until(kind, number, words, machine.env)
+        if killed is None:
+            checks.skip("a rewind that is killed", "calls can't be traced here")
+            return
+        left = tree(target)
+        checks.expect("a rewind that is killed at its %s %d leaves a target that is refused" % (kind, number),
+                      not killed and "it came to its end", MARK not in left and "there is no mark",
+                      *refusals(checks, target, source), left != tree(target) and "a refusal has changed it")
+        shutil.rmtree(target)
+    for command in ("pg_walreplay", "pg_walcompare"):
+        if not checks.is_built(command):
+            checks.skip("%s refuses a rewind that was killed" % command, "it answers NotBuilt")
+    shutil.copytree(old + "16", target)
+    checks.ours(*words[1:])
+    convert(16, machine.version, target, machine.path("stopped"))
+    again = Rewound(machine, machine.path("rewound"), machine.path("stopped"), old, new)
+    checks.expect("after them a new copy is rewound to the same tree", again.differences(),
+                  again.touched and "other blocks were copied", source_before != tree(source) and "the source has changed")
+    shutil.rmtree(target)
+    shutil.rmtree(machine.path("stopped"))
+
+
+def compared(path, trees):
+    """Whether replay has to leave this path as the server does."""
+    relation = re.fullmatch(r"((?:global|base/\d+)/\d+)(_vm|_init)?(\.\d+)?", path)
+    if relation:
+        unlogged = not relation[2] and any(relation[1] + "_init" in side for side in trees)
+        return not unlogged
+    return path.startswith(("pg_xact/", "pg_multixact/")) or path.endswith("pg_filenode.map")
+
+
+def masked(root, path):
+    """What replay is compared by: of a map's page all but its header."""
+    if "_vm" in path:
+        return [page[24:] for page in blocks(root, path)]
+    if MAIN_FORK.fullmatch(path.replace("_init", "")):
+        return [server_masks.mask(page, block) for block, page in enumerate(blocks(root, path))]
+    return blocks(root, path)
+
+
+def replay(checks, server, end):
+    """The log that came with the rewound cluster, replayed by the program and, up to this position, by a server, which is
+    stopped by now."""
+    target = shutil.copytree(checks.machine.path("rewound16"), checks.machine.path("replayed16"))
+    ended = checks.ours("pg_walreplay", target)
+    line = re.fullmatch(r"pg_walreplay: replayed (\d+) records to (\S+) on timeline 2\n", ended.stdout)
+    trees = tree(target), tree(server.data)
+    differ = [path for path in sorted(set(trees[0]) | set(trees[1])) if compared(path, trees)
+              and ((path in trees[0]) != (path in trees[1]) or masked(target, path) != masked(server.data, path))]
+    checks.expect("pg_walreplay replays the log of a rewound cluster", ended.stderr,
+                  unequal(end, line[2]) if line else "it says %r" % ended.stdout)
+    checks.expect("pg_walreplay leaves the relations and the status that a server leaves", ", ".join(differ))
+
+
+def checked_by_amcheck(checks, server):
+    machine = checks.machine
+    control = os.path.join(machine.done("pg_config", "--sharedir").strip(), "extension", "amcheck.control")
+    if not os.path.exists(control) or not os.path.exists(os.path.join(machine.programs, "pg_amcheck")):
+        checks.skip("pg_amcheck", "it isn't on this machine")
+        return
+    ended = machine.real("pg_amcheck", "-h", server.socket, "-U", "postgres", "--all", "--install-missing", "--heapallindexed")
+    checks.expect("pg_amcheck finds nothing", ended.returncode and "status %d" % ended.returncode, ended.stdout, ended.stderr)
+
+
+def servers(checks, old, new):
+    """The rewound cluster under a server, as docs/COMMANDS.md tells: alone, then behind the source, then promoted. Returns a
+    cluster whose server was stopped hard behind a checkpoint, and what it held."""
+    machine = checks.machine
+    target = Server(machine, "rewound")
+    checkpoint = re.search(r"Latest checkpoint location: *(\S+)", machine.done("pg_controldata", new.data))[1]
+    for name in OWN_SETTINGS:
+        shutil.copy(os.path.join(old.data, name), target.data)
+    target.settings("archive_mode = off")
+    open(os.path.join(target.data, "standby.signal"), "w").close()
+    target.start()
+    target.wait_for("pg_last_wal_replay_lsn() > '%s'" % checkpoint)
+    end = target.ask("select pg_last_wal_replay_lsn()")
+    target.stop()
+    checks.expect("a server starts on a rewound cluster, and reaches the end of its log")
+    if checks.is_built("pg_walreplay"):
+        replay(checks, target, end)
+    else:
+        checks.skip("pg_walreplay beside a server", "it answers NotBuilt")
+
+    target.settings("primary_conninfo = 'host=%s user=postgres'" % new.socket)
+    new.start()
+    target.start()
+    new.wait_for("exists (select from pg_stat_replication where state = 'streaming')")
+    new.ask("create table later as select g as id from generate_series(1, 100) g", "shop")
+    target.wait_for("pg_last_wal_replay_lsn() >= '%s'" % new.ask("select pg_current_wal_insert_lsn()"))
+    dump = new.dump()
+    checks.expect("it follows the source, and holds what the source holds", unequal_lines(dump, target.dump()),
+                  "" if len(dump) > 10000 else "%d lines" % len(dump))
+    new.stop()
+    target.promote()
+    checked_by_amcheck(checks, target)
+    dump = target.dump()
+    target.ask("checkpoint")
+    target.stop("immediate")
+    return target.data, dump
