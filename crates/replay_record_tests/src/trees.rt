@@ -1,6 +1,6 @@
 //! What a cluster has before a record, and what stands in it then.
-use crate::texts::{bytes_of, cut_at, number};
-use cluster_tree::{Kind, MemoryTree, Path, Tree};
+use crate::texts::{byte, bytes_of, cut_at, number};
+use cluster_tree::{Kind, MemoryTree, Path, Tree, TreeFault};
 use page_layout::Page;
 use std::alloc::Global;
 use std::test::Fail;
@@ -9,13 +9,18 @@ use wal_base::Lsn;
 /// How many bytes a block has.
 const BLOCK: usize = 8192;
 
+/// Makes a folder that isn't there.
+fn put_folder(tree: &mut MemoryTree, folder: &Path) -> Result<(), TreeFault> {
+    if tree.kind(folder)? == Kind::Absent {
+        tree.make_folder(folder)?;
+    }
+    Ok(())
+}
+
 /// Makes the folders on the way to a path.
 fn put_way(alloc: Global, tree: &mut MemoryTree, path: &Path) -> Result<(), Fail> {
-    for count in 1..path.len() {
-        let folder = path.front(alloc, count)?;
-        if tree.kind(&folder)? == Kind::Absent {
-            tree.make_folder(&folder)?;
-        }
+    for parts in 1..path.len() {
+        put_folder(tree, &path.front(alloc, parts)?)?;
     }
     Ok(())
 }
@@ -30,6 +35,12 @@ fn add(tree: &mut MemoryTree, path: &Path, bytes: &[u8]) -> Result<(), Fail> {
     Ok(())
 }
 
+/// So many of one byte.
+fn filled(alloc: Global, words: &str) -> Result<Vec<u8>, Fail> {
+    let (count, filling) = cut_at(words, " ");
+    Ok(vec![in alloc; byte(filling)?; number(count)? as usize]?)
+}
+
 /// An empty page with an LSN.
 fn page_at(alloc: Global, lsn: u32) -> Result<Page, Fail> {
     let mut page = Page::zero(alloc)?;
@@ -38,18 +49,21 @@ fn page_at(alloc: Global, lsn: u32) -> Result<Page, Fail> {
     Ok(page)
 }
 
-/// One entry: a file's next block, which is zeros or a page, or a link; or nothing.
+/// One entry: a folder, a file of one byte so many times, a file's next block, which is zeros or a page, or a link;
+/// or nothing.
 fn put(alloc: Global, tree: &mut MemoryTree, entry: &str) -> Result<(), Fail> {
     if entry.is_empty() {
         return Ok(());
     }
     let (verb, behind) = cut_at(entry, " ");
-    let (text, lsn) = cut_at(behind, " ");
+    let (text, words) = cut_at(behind, " ");
     let path = Path::parse(alloc, text)?;
     put_way(alloc, tree, &path)?;
     match verb {
+        "folder" => Ok(put_folder(tree, &path)?),
+        "file" => add(tree, &path, &filled(alloc, words)?),
         "zeros" => add(tree, &path, Page::zero(alloc)?.bytes()),
-        "page" => add(tree, &path, page_at(alloc, number(lsn)?)?.bytes()),
+        "page" => add(tree, &path, page_at(alloc, number(words)?)?.bytes()),
         _ => Ok(tree.add_link(&path)?),
     }
 }
@@ -90,14 +104,26 @@ fn has_runs(alloc: Global, tree: &mut MemoryTree, path: &Path, words: &str) -> R
     Ok(found.as_str().trim() == expected)
 }
 
-/// Whether it is so: no entry, a file of so many blocks, or a block's bytes.
+/// Whether a file has these bytes from an offset on.
+fn has_bytes(alloc: Global, tree: &mut MemoryTree, path: &Path, words: &str) -> Result<bool, Fail> {
+    let (at, digits) = cut_at(words, " ");
+    let bytes = bytes_of(alloc, digits)?;
+    let mut into = vec![in alloc; 0; bytes.len()]?;
+    tree.read_at(path, u64::from(number(at)?), &mut into)?;
+    Ok(into.as_slice() == bytes.as_slice())
+}
+
+/// Whether it is so: no entry, a folder, a size in bytes or in blocks, bytes from an offset on, or those of a block.
 pub fn is_so(alloc: Global, tree: &mut MemoryTree, fact: &str) -> Result<bool, Fail> {
     let (verb, behind) = cut_at(fact, " ");
     let (text, words) = cut_at(behind, " ");
     let path = Path::parse(alloc, text)?;
     match verb {
         "none" => Ok(tree.kind(&path) == Ok(Kind::Absent)),
+        "folder" => Ok(tree.kind(&path) == Ok(Kind::Folder)),
+        "size" => Ok(tree.size(&path) == Ok(u64::from(number(words)?))),
         "blocks" => Ok(tree.size(&path) == Ok(u64::from(number(words)?) * BLOCK as u64)),
+        "at" => has_bytes(alloc, tree, &path, words),
         _ => has_runs(alloc, tree, &path, words),
     }
 }
