@@ -1,5 +1,5 @@
 //! Runs the rows of a text. README.md has their form.
-ghost use Rattle.std.specs.Prelude.{◌<◌, ◌≤◌};
+ghost use Rattle.std.specs.Prelude.{IfOk};
 ghost use Rattle.storage_replay.specs.Files.{AreFit};
 
 use crate::logs::cursor_over;
@@ -27,7 +27,9 @@ pub enum Call {
 }
 
 /// The files of the cluster that is the tree.
-fn files(alloc: Global, call: Call) -> Result<Files, Fail> {
+fn files(alloc: Global, call: Call) -> Result<Files, Fail>
+    ensures { IfOk result AreFit }
+{
     let root = Path::parse(alloc, ".")?;
     if root.len() > 61 {
         return Err("too deep".into());
