@@ -1,6 +1,5 @@
 -- None of the changes of a replay's own is refused.
-use Rattle.std.proofs.Common.{◌≡◌, ◌≢◌, ℕ, Bool, true, false, cond, nat_lt, List, [], ◌∷◌, ◌++◌, length, Option, None, Some, is_some, refl, sym, ap, ◌∙◌, subst, arith, rules, true≢false, append_assoc, codes}
-use Rattle.std.proofs.lemmas.List.{take-append, length-append}
+use Rattle.std.proofs.Common.{◌≡◌, ◌≢◌, ℕ, Bool, true, false, ◌&&◌, cond, nat_lt, List, [], ◌∷◌, ◌++◌, length, Option, None, Some, is_some, refl, sym, ap, ◌∙◌, subst, arith, rules, true≢false, append_assoc, codes}
 use Rattle.std.specs.FinMap.{get, insert, remove}
 use Rattle.cluster_tree.specs.PathValue.{PathValue, below}
 use Rattle.cluster_tree.specs.Contents.{Contents, Entry, FolderEntry, FileEntry, LinkEntry, IsTree, entry_at, is_file, is_folder, or_root, parent}
@@ -65,7 +64,7 @@ folder_there : (o : Option Entry) → is_folder o ≡ true → is_some o ≡ tru
 folder_there None e = absurd (true≢false (sym e))
 folder_there (Some entry) e = refl
 
-second_true : (a b : Bool) → cond a b false ≡ true → b ≡ true
+second_true : (a b : Bool) → (a && b) ≡ true → b ≡ true
 second_true true b e = e
 second_true false b e = absurd (true≢false (sym e))
 

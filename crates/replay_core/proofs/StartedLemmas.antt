@@ -1,5 +1,5 @@
 -- What is known of a cluster that passed every check, before the mark and behind it.
-use Rattle.std.proofs.Common.{◌≡◌, ◌≢◌, ◌⊎◌, Bool, true, false, cond, List, [], ◌∷◌, codes, Option, None, Some, is_some, option_map, Result, Ok, Err, IfSome, refl, sym, ap, ◌∙◌, subst, true≢false}
+use Rattle.std.proofs.Common.{◌≡◌, ◌≢◌, ◌⊎◌, ℕ, Bool, true, false, cond, List, [], ◌∷◌, codes, Option, None, Some, is_some, option_map, Result, Ok, Err, IfSome, refl, sym, ap, ◌∙◌, subst, true≢false}
 use Rattle.std.specs.FinMap.{insert}
 use Rattle.backup_label.specs.Reading.{label_of}
 use Rattle.backup_label.specs.declared.reading.LabelPlaces.{LabelPlaces}
@@ -19,9 +19,10 @@ use Rattle.clusters.specs.declared.fault.ClusterFault.{ClusterFault}
 use Rattle.control_file.specs.Reading.{timeline_of}
 use Rattle.control_file.specs.declared.control.Control.{Control}
 use Rattle.replay_profile.specs.Profile.{first_outside}
-use Rattle.wal_base.specs.Segment.{bytes_of}
+use Rattle.wal_base.specs.Segment.{bytes_of, name_of}
 use Rattle.wal_pages.specs.declared.log_path.LogPath.{LogPath}
 use Rattle.wal_pages.specs.Folder.{file_in}
+use Rattle.wal_pages.specs.LogBytes.{segment_of}
 use Rattle.wal_records.specs.Cursor.{Knows}
 use Rattle.wal_records.specs.Further.{Pages, pages_of}
 use Rattle.wal_records.specs.Laws.{SameLog}
@@ -183,7 +184,9 @@ pub record Under (c c1 : Contents) (root : PathValue) (v : Checked) : Type 0 whe
 
 same_files : (c : Contents) (root : PathValue) (log : LogPath) → log.folder ≡ wal_folder root → SameLog log c (insert c (mark_of root) (FileEntry mark_text))
 same_files c root log is number =
-    ap file_in (sym (entry-put_other c (mark_of root) (below log.folder (_ ∷ [])) (FileEntry mark_text) (λ e. log-mark root _ (ap (λ f. below f (_ ∷ [])) (sym is) ∙ e))))
+    let name : List ℕ = name_of (segment_of log number) in
+    let other : below log.folder (name ∷ []) ≢ mark_of root = λ e. log-mark root name (ap (λ f. below f (name ∷ [])) (sym is) ∙ e) in
+    ap file_in (sym (entry-put_other c (mark_of root) (below log.folder (name ∷ [])) (FileEntry mark_text) other))
 
 under_mark : (c : Contents) (root : PathValue) (v : Checked) → IsChecked c root v → v.cursor.log.folder ≡ wal_folder root → Under c (insert c (mark_of root) (FileEntry mark_text)) root v
 under_mark c root v checked folder =
