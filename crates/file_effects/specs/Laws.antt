@@ -1,6 +1,6 @@
 -- The paths that each call on files may change are of the part of a cluster that replay changes. Own: "Edits of files say
 -- where they go".
-use Rattle.std.specs.Prelude.{◌≡◌, ℕ, true, false, Option}
+use Rattle.std.specs.Prelude.{◌≡◌, ℕ, true, false, List, Option}
 use Rattle.block_refs.specs.declared.names.RelName.{RelName}
 use Rattle.cluster_tree.specs.Apart.{is_held}
 use Rattle.cluster_tree.specs.Contents.{entry_at}
@@ -15,7 +15,7 @@ use Rattle.slru_replay.specs.declared.area.Area.{Area}
 use Rattle.storage_databases.specs.Databases.{database_folder, version_file}
 use Rattle.storage_databases.specs.RelationMap.{is_of_map}
 use Rattle.storage_replay.specs.Files.{is_of_relation}
-use Rattle.file_effects.specs.Own.{is_replayed}
+use Rattle.file_effects.specs.Own.{control_file_of, is_apart, is_at, is_replayed}
 
 -- a relation's, whatever its tablespace is
 abbrev pub RelationIsReplayed : Type 0
@@ -36,6 +36,16 @@ DatabaseIsReplayed = (root : PathValue) (database : ℕ) (path : PathValue) → 
 
 abbrev pub MapIsReplayed : Type 0
 MapIsReplayed = (root : PathValue) (update : Option RelMapUpdate) (path : PathValue) → is_of_map root update path ≡ true → is_replayed root path ≡ true
+
+-- not so the root itself, the control file, and what stands at or below other entries of the root, as pg_wal
+abbrev pub RootIsNotReplayed : Type 0
+RootIsNotReplayed = (root : PathValue) → is_replayed root root ≡ false
+
+abbrev pub ControlIsNotReplayed : Type 0
+ControlIsNotReplayed = (root : PathValue) → is_replayed root (control_file_of root) ≡ false
+
+abbrev pub OthersAreNotReplayed : Type 0
+OthersAreNotReplayed = (root : PathValue) (name : List ℕ) (path : PathValue) → is_apart name ≡ true → is_at root name path ≡ true → is_replayed root path ≡ false
 
 -- after calls there, whatever they answered, every other path holds what it held
 abbrev pub ElsewhereStays : Type 0

@@ -7,7 +7,6 @@ use Rattle.block_refs.specs.declared.block_ref.BlockRef.{BlockRef}
 use Rattle.block_refs.specs.declared.names.BlockName.{BlockName}
 use Rattle.block_refs.specs.declared.names.Fork.TheVariants.{Main}
 use Rattle.cluster_tree.specs.Causes.{given, unless}
-use Rattle.cluster_tree.specs.Contents.{Contents}
 use Rattle.cluster_tree.specs.PathValue.{PathValue}
 use Rattle.page_layout.specs.declared.refusal.RedoWhy.TheVariants.{Layout}
 use Rattle.block_replay.specs.Blocks.{blocks_after}

@@ -1,5 +1,5 @@
 -- What replay works on. Own: "The world of a replay".
-use Rattle.std.specs.Prelude.{ℕ, List, Option}
+use Rattle.std.specs.Prelude.{List}
 use Rattle.block_refs.specs.declared.names.BlockName.{BlockName}
 use Rattle.cluster_tree.specs.Contents.{Contents}
 use Rattle.control_file.specs.declared.control.Control.{Control}

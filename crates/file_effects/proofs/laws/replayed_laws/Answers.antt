@@ -1,5 +1,6 @@
 use Rattle.file_edits.proofs.LawLemmas.{own-elsewhere}
 use Rattle.file_effects.specs.Own.{is_replayed}
+use Rattle.file_effects.proofs.ApartLemmas.{control-not-replayed, others-not-replayed, root-not-replayed}
 use Rattle.file_effects.proofs.OwnLemmas.{area-replayed, database-replayed, map-replayed, multis-replayed, relation-replayed, version-replayed}
 use Rattle.file_effects.proofs.laws.replayed_laws.Goals as goal
 
@@ -20,6 +21,15 @@ returns-clause-database c = database-replayed
 
 pub returns-clause-map : goal.returns-clause-map
 returns-clause-map c = map-replayed
+
+pub returns-clause-root : goal.returns-clause-root
+returns-clause-root c = root-not-replayed
+
+pub returns-clause-control : goal.returns-clause-control
+returns-clause-control c = control-not-replayed
+
+pub returns-clause-others : goal.returns-clause-others
+returns-clause-others c = others-not-replayed
 
 pub returns-clause-elsewhere : goal.returns-clause-elsewhere
 returns-clause-elsewhere c root = own-elsewhere (is_replayed root)
