@@ -1,10 +1,11 @@
 -- The paths that a replay has of its own: which are others, and that records change none of them.
-use Rattle.std.proofs.Common.{◌≡◌, ◌≢◌, false, true, List, [], ◌∷◌, ◌++◌, ℕ, length, bytes_eq, codes, refl, sym, ap, ◌∙◌, subst, arith, true≢false, append_assoc, length-append}
+use Rattle.std.proofs.Common.{◌≡◌, ◌≢◌, false, List, [], ◌∷◌, ◌++◌, ℕ, length, bytes_eq, codes, refl, sym, ap, ◌∙◌, arith, true≢false, append_assoc, length-append}
 use Rattle.std.proofs.lemmas.List.{append_cancel_left}
 use Rattle.std.proofs.lemmas.Slice.Eq.{bytes_eq-Decides}
 use Rattle.cluster_tree.specs.PathValue.{PathValue, below}
 use Rattle.clusters.specs.Roots.{path_in, wal_folder}
 use Rattle.file_effects.specs.Own.{is_replayed}
+use Rattle.file_effects.proofs.ApartLemmas.{control-not-replayed, label-not-replayed, mark-not-replayed}
 use Rattle.replay_core.specs.Replayed.{control_path, label_path, mark_of}
 
 -- entries of a root with other names
@@ -39,11 +40,11 @@ log-mark root name = λ e.
 
 -- ---- records change none of them
 
-pub mark-own : (root : PathValue) → is_replayed root (mark_of root) ≡ false
-mark-own root = ?
+pub mark-kept : (root : PathValue) → is_replayed root (mark_of root) ≡ false
+mark-kept root = mark-not-replayed root
 
-pub label-own : (root : PathValue) → is_replayed root (label_path root) ≡ false
-label-own root = ?
+pub label-kept : (root : PathValue) → is_replayed root (label_path root) ≡ false
+label-kept root = label-not-replayed root
 
-pub control-own : (root : PathValue) → is_replayed root (control_path root) ≡ false
-control-own root = ?
+pub control-kept : (root : PathValue) → is_replayed root (control_path root) ≡ false
+control-kept root = ap (is_replayed root) (control_path-is root) ∙ control-not-replayed root

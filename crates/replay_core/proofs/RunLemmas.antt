@@ -4,8 +4,8 @@ use Rattle.std.specs.Prelude.{is_ok}
 use Rattle.block_refs.specs.declared.names.BlockName.{BlockName}
 use Rattle.block_replay.specs.World.{least_name}
 use Rattle.cluster_tree.specs.Causes.{given, unless}
-use Rattle.cluster_tree.specs.Change.{Removes, Writes, all_changed, first_refusal}
-use Rattle.cluster_tree.specs.Contents.{Contents}
+use Rattle.cluster_tree.specs.Change.{Change, Removes, Writes, all_changed, first_refusal}
+use Rattle.cluster_tree.specs.Contents.{Contents, is_file}
 use Rattle.cluster_tree.specs.Frame.{Came, Reads}
 use Rattle.cluster_tree.specs.PathValue.{PathValue}
 use Rattle.cluster_tree.specs.Run.{Run, State, Still, state_by}
@@ -38,6 +38,7 @@ use Rattle.replay_core.specs.Steps.{BreaksOff}
 use Rattle.replay_core.specs.Went.{Answers, IsAfter, IsCause, RanRecords, Went, Unchanged}
 use Rattle.replay_core.specs.declared.outcome.Replayed.{Replayed}
 use Rattle.replay_core.specs.declared.paths.Paths.{Paths}
+use Rattle.replay_core.proofs.PathLemmas.{control-kept, label-kept, mark-kept}
 use Rattle.replay_core.proofs.StandLemmas.{closing-unrefused}
 
 -- ---- faults
@@ -92,6 +93,14 @@ ran-records tree root a b came own =
       elsewhere = λ path not. own-elsewhere (is_replayed root) (state_by tree.contents tree.calls a) (state_by tree.contents tree.calls b) path (came.run (state_by tree.contents tree.calls a) Still) on not;
     }
 
+-- what is changed at the end still stands behind them
+pub still-stand : (root : PathValue) (old new : State) → RanRecords root old new → Stand old.contents root → Stand new.contents root
+still-stand root old new ran stand = record {
+  mark = ap is_file (ran.elsewhere (mark_of root) (mark-kept root)) ∙ stand.mark;
+  control = ap is_file (ran.elsewhere (control_path root) (control-kept root)) ∙ stand.control;
+  label = ap is_file (ran.elsewhere (label_path root) (label-kept root)) ∙ stand.label;
+}
+
 -- the meaning, where all were replayed
 pub into-closed : (root : PathValue) (s : Start) (w v : World) (per_file tli n e : ℕ) → per_file ≡ s.control.relseg → tli ≡ timeline_of s.control → records_after root per_file s.records w ≡ Ok v
     → n ≡ length s.records → e ≡ end_of s → replayed_into root s w ≡ closed_or root tli n e v
@@ -113,6 +122,11 @@ cause-into root s w per_file e per (inl free) = inl free
 cause-into root s w per_file e per (inr is) =
     inr (ap (λ p. given (recorded (records_after root p s.records w)) (closed_or root (timeline_of s.control) (length s.records) (end_of s))) (sym per)
     ∙ ap (λ (r : Result World ReplayFault). given r (closed_or root (timeline_of s.control) (length s.records) (end_of s))) is)
+
+-- ---- equal changes
+
+pub performs-same : {F : Type 0} (tree : Ghosts F) (xs ys : List Change) (a b : F) (r : Result (Unit {0}) PerformFault) → xs ≡ ys → Performs tree xs a b r → Performs tree ys a b r
+performs-same tree xs ys a b r is one = subst (λ l. Performs tree l a b r) is one
 
 -- ---- the changes at the end
 
@@ -175,3 +189,8 @@ done-of meant other d (Err e) same answers = tt
 pub refused-of : (meant other : Result After ReplayFault) (d : Contents) (r : Result Replayed ReplayFault) → other ≡ meant → Answers other d r → IfErr r (IsCause meant)
 refused-of meant other d (Ok told) same answers = tt
 refused-of meant other d (Err e) same answers = subst (λ m. IsCause m e) same answers
+
+-- no name is the least one
+pub none-least : (o : Option BlockName) → ((name : BlockName) → o ≡ Some name → ⊥) → o ≡ None
+none-least None never = refl
+none-least (Some name) never = absurd (never name refl)
