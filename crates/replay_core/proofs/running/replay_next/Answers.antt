@@ -1,0 +1,2 @@
+use Rattle.replay_core.proofs.RunLemmas.{one_more}
+use Rattle.replay_core.proofs.running.replay_next.Goals as goal
