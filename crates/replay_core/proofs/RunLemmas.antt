@@ -1,32 +1,23 @@
 -- The second reading of a log, step by step.
-use Rattle.std.proofs.Common.{◌≡◌, ◌≢◌, ◌⊎◌, ◌+◌, ◌≤◌, ◌<◌, ◌^◌, ℕ, Bool, true, false, cond, List, [], ◌∷◌, length, Option, Some, None, IsSomeAnd, Result, Ok, Err, MatchResult, refl, sym, ap, subst, ◌∙◌, arith, inl, inr, ⊎_elim}
+use Rattle.std.proofs.Common.{◌≡◌, ◌⊎◌, ◌+◌, ℕ, Bool, true, false, cond, List, [], ◌∷◌, length, None, Result, Ok, Err, refl, sym, ap, ◌∙◌, arith, inl, inr}
 use Rattle.block_refs.specs.Outcomes.{record_parts}
 use Rattle.block_refs.specs.Parts.{PartsView}
-use Rattle.block_refs.specs.declared.fault.PartsFault.{PartsFault}
-use Rattle.cluster_tree.specs.Causes.{MeetsInto, given}
+use Rattle.cluster_tree.specs.Causes.{given}
 use Rattle.cluster_tree.specs.PathValue.{PathValue}
 use Rattle.cluster_tree.specs.declared.file_fault.FileFault.{FileFault}
-use Rattle.cluster_tree.specs.declared.file_fault.FileFault.TheVariants as file
 use Rattle.block_replay.specs.Faults.{IsFreeFault}
 use Rattle.block_replay.specs.declared.faults.RecordFault.{RecordFault}
 use Rattle.block_replay.specs.declared.faults.RecordFault.TheVariants.{RedoFailed, File}
 use Rattle.file_edits.specs.Answers.{IsFree as IsFreeFile}
 use Rattle.replay_profile.specs.Profile.{first_of, first_outside, is_in_profile, judged, judged_by, outside, parts_or_none}
 use Rattle.replay_profile.specs.declared.fault.ProfileFault.{ProfileFault}
-use Rattle.wal_records.specs.Cursor.{CursorView, GoesOn, Moves}
 use Rattle.wal_records.specs.Log.{end_after}
 use Rattle.wal_records.specs.Reading.{LogRecord}
-use Rattle.wal_records.specs.declared.cursor.Step.{Step}
-use Rattle.wal_records.specs.declared.cursor.Step.TheVariants as steps
-use Rattle.replay_start.specs.declared.fault.ReplayFault.{ReplayFault}
-use Rattle.replay_start.specs.declared.fault.ReplayFault.TheVariants as fault
 use Rattle.replay_world.specs.Records.{record_after, records_after}
 use Rattle.replay_world.specs.World.{World}
 use Rattle.replay_core.specs.Faults.{IsFree, of_file, of_record, recorded}
-use Rattle.replay_core.specs.Steps.{AreReplayed, BreaksOff, IsFurther, MovesOn, Replays, ReplaysAll, ReplaysNext}
+use Rattle.replay_core.specs.Steps.{AreReplayed, BreaksOff, Replays}
 use Rattle.replay_core.specs.declared.running.Count.{Count}
-use Rattle.replay_core.specs.declared.running.Turn.{Turn}
-use Rattle.replay_core.specs.declared.running.Turn.TheVariants.{Done, More}
 
 -- A record that is taken has parts, and is in the profile.
 
@@ -37,13 +28,13 @@ taken_by : (rec : LogRecord) (parts p : PartsView) (b : Bool) → is_in_profile 
 taken_by rec parts p true is e = let same : p ≡ parts = cc in (same, ap (is_in_profile rec) (sym same) ∙ is)
 taken_by rec parts p false is e = absurd cc
 
-pub taken_parts : (rec : LogRecord) (parts : PartsView) → judged rec ≡ Ok parts → (parts_or_none (record_parts rec) ≡ parts) × (is_in_profile rec parts ≡ true)
+taken_parts : (rec : LogRecord) (parts : PartsView) → judged rec ≡ Ok parts → (parts_or_none (record_parts rec) ≡ parts) × (is_in_profile rec parts ≡ true)
 taken_parts rec parts e =
     elim (record_parts rec) as (λ r. judged_by rec r ≡ Ok parts → (parts_or_none r ≡ parts) × (is_in_profile rec parts ≡ true))
     [ Ok p ↦ λ is. taken_by rec parts p (is_in_profile rec p) refl is | Err f ↦ λ is. absurd cc ] e
 
 -- the first of records that are all taken, and the rest
-pub first_taken : (rec : LogRecord) (old rest : List LogRecord) → old ≡ rec ∷ rest → first_outside old ≡ None → ((f : ProfileFault) → judged rec ≡ Err f → ⊥) × (first_outside rest ≡ None)
+first_taken : (rec : LogRecord) (old rest : List LogRecord) → old ≡ rec ∷ rest → first_outside old ≡ None → ((f : ProfileFault) → judged rec ≡ Err f → ⊥) × (first_outside rest ≡ None)
 first_taken rec old rest is e = by (judged rec) (ap first_outside (sym is) ∙ e)
   where
     by : (j : Result PartsView ProfileFault) → first_of j (first_outside rest) ≡ None → ((f : ProfileFault) → j ≡ Err f → ⊥) × (first_outside rest ≡ None)
@@ -52,12 +43,12 @@ first_taken rec old rest is e = by (judged rec) (ap first_outside (sym is) ∙ e
 
 -- What a record leaves of the rest.
 
-pub goes_on : (root : PathValue) (per_file : ℕ) (rec : LogRecord) (rest : List LogRecord) (w : World)
+goes_on : (root : PathValue) (per_file : ℕ) (rec : LogRecord) (rest : List LogRecord) (w : World)
     → records_after root per_file (rec ∷ rest) w ≡ given (record_after root per_file rec (parts_or_none (record_parts rec)) w) (records_after root per_file rest)
 unfolding records_after
 goes_on root per_file rec rest w = refl
 
-pub nothing_left : (root : PathValue) (per_file : ℕ) (w : World) → records_after root per_file [] w ≡ Ok w
+nothing_left : (root : PathValue) (per_file : ℕ) (w : World) → records_after root per_file [] w ≡ Ok w
 unfolding records_after
 nothing_left root per_file w = refl
 
@@ -98,85 +89,3 @@ module _ (root : PathValue) (per_file : ℕ) (rec : LogRecord) (parts : PartsVie
   pub one_refused : (f : RecordFault) → old ≡ rec ∷ rest → judged rec ≡ Ok parts → IsFreeFault f ⊎ (record_after root per_file rec parts w ≡ Err f) → BreaksOff root per_file old w (of_record f)
   one_refused f is taken (inl free) = inl (free_record f free)
   one_refused f is taken (inr refused) = inr (ap recorded (meant_of root per_file rec parts old rest w is taken ∙ ap (λ r. given r (records_after root per_file rest)) refused))
-
--- Faults that are told apart.
-
-pub of_read : (f : RecordFault) → of_record f ≡ fault.ReadFault → f ≡ File file.ReadFault
-of_read (RedoFailed start name why) e = absurd cc
-of_read (File file.ReadFault) e = refl
-of_read (File file.WriteFault) e = absurd cc
-of_read (File (file.Link q)) e = absurd cc
-of_read (File (file.NotFolder q)) e = absurd cc
-of_read (File (file.IsFolder q)) e = absurd cc
-of_read (File (file.NameNotText q)) e = absurd cc
-of_read (File (file.TooDeep q)) e = absurd cc
-of_read (File (file.Changed q)) e = absurd cc
-of_read (File file.OutOfMemory) e = absurd cc
-
-pub of_write : (f : RecordFault) → of_record f ≡ fault.WriteFault → f ≡ File file.WriteFault
-of_write (RedoFailed start name why) e = absurd cc
-of_write (File file.ReadFault) e = absurd cc
-of_write (File file.WriteFault) e = refl
-of_write (File (file.Link q)) e = absurd cc
-of_write (File (file.NotFolder q)) e = absurd cc
-of_write (File (file.IsFolder q)) e = absurd cc
-of_write (File (file.NameNotText q)) e = absurd cc
-of_write (File (file.TooDeep q)) e = absurd cc
-of_write (File (file.Changed q)) e = absurd cc
-of_write (File file.OutOfMemory) e = absurd cc
-
-pub of_changed : (f : RecordFault) (p : PathValue) → of_record f ≡ fault.Changed p → f ≡ File (file.Changed p)
-of_changed (RedoFailed start name why) p e = absurd cc
-of_changed (File file.ReadFault) p e = absurd cc
-of_changed (File file.WriteFault) p e = absurd cc
-of_changed (File (file.Link q)) p e = absurd cc
-of_changed (File (file.NotFolder q)) p e = absurd cc
-of_changed (File (file.IsFolder q)) p e = absurd cc
-of_changed (File (file.NameNotText q)) p e = absurd cc
-of_changed (File (file.TooDeep q)) p e = absurd cc
-of_changed (File (file.Changed q)) p e = let same : q ≡ p = cc in ap (λ x. File (file.Changed x)) same
-of_changed (File file.OutOfMemory) p e = absurd cc
-
--- Steps of the loop.
-
-pub replays_none : (root : PathValue) (per_file : ℕ) (records : List LogRecord) (w : World) (count : Count) → first_outside records ≡ None → Replays root per_file records records w w count count
-replays_none root per_file records w count all = record { leaves = refl; taken = all; records = refl; end = refl }
-
-module _ (root : PathValue) (per_file : ℕ) (first old new : List LogRecord) (w v u : World) (a b c : Count) (one : Replays root per_file first old w v a b) where
-  pub replays_more : Replays root per_file old new v u b c → Replays root per_file first new w u a c
-  replays_more two = record {
-    leaves = one.leaves ∙ two.leaves;
-    taken = two.taken;
-    records = one.records ∙ two.records;
-    end = one.end ∙ two.end;
-  }
-
-  pub replays_last : AreReplayed root per_file old v u b c → AreReplayed root per_file first w u a c
-  replays_last two = record {
-    leaves = one.leaves ∙ two.leaves;
-    records = one.records ∙ two.records;
-    end = one.end ∙ two.end;
-  }
-
-  pub replays_broken : (e : ReplayFault) → BreaksOff root per_file old v e → BreaksOff root per_file first w e
-  replays_broken e (inl free) = inl free
-  replays_broken e (inr is) = inr (ap recorded one.leaves ∙ is)
-
-  pub more_in : (turn : Turn) → turn ≡ More → ReplaysNext root per_file old new v u b c (Ok turn) → Replays root per_file first new w u a c
-  more_in turn is two = let P : Turn → Type 0 = λ k. ReplaysNext root per_file old new v u b c (Ok k) in replays_more (subst P is two)
-
-  pub last_in : (turn : Turn) → turn ≡ Done → ReplaysNext root per_file old new v u b c (Ok turn) → AreReplayed root per_file first w u a c
-  last_in turn is two = let P : Turn → Type 0 = λ k. ReplaysNext root per_file old new v u b c (Ok k) in replays_last (subst P is two)
-
-pub further_in : (old new : CursorView) (before after : Count) (turn : Turn) → turn ≡ More → MovesOn old new before after turn → IsFurther old new before after
-further_in old new before after turn is moved = let P : Turn → Type 0 = λ k. MovesOn old new before after k in subst P is moved
-
--- where the cursor is behind a record
-current_is : (o : Option LogRecord) (P : LogRecord → Type 0) (r : LogRecord) → o ≡ Some r → IsSomeAnd o P → P r
-current_is o P r is h = let Q : Option LogRecord → Type 0 = λ k. IsSomeAnd k P in subst Q is h
-
-pub record_goes : (old new : CursorView) (step : Step) (r : LogRecord) → step ≡ steps.Record → new.current ≡ Some r → Moves old new step → GoesOn old new r
-record_goes old new step r is current moved = let P : Step → Type 0 = λ k. Moves old new k in current_is new.current (GoesOn old new) r current (subst P is moved)
-
-pub record_moves : (old new : CursorView) (before after : Count) (r : LogRecord) → GoesOn old new r → after ≡ record { records = before.records + 1; end = record { 0 = r.end } } → IsFurther old new before after
-record_moves old new before after r goes count = record { opened = goes.opened; up = goes.up; within = goes.within; one = ap (λ (c : Count). c.records) count }

@@ -50,9 +50,9 @@ returns-clause-step g c = λ told.
     let step = record_step c.args.cursor.now cursor _ contents rec c.in-Record.is there (c.in_ok-next_unchanged.ensures.step told (c.requires.knows told) c.requires.opened) in
     let left = subst (λ (x : Contents). record_after files.root files.per_file rec c.judge_again.new.parts (world_of x c.args.world.now) ≡ Ok (world_of new c.replay_record.new.world)) c.in_ok-next_unchanged.ensures.reads.same (c.in-Ok.ensures.exact told) in
     let stays : to_come cursor contents ≡ to_come cursor new =
-        ap (to_come cursor) (sym c.in_ok-next_unchanged.ensures.reads.same)
-        ∙ to_come_stays files.root cursor (g.F.Tree.contents c.next_unchanged.new.tree) new (ap (λ (l : LogPath). l.folder) c.in_ok-next_unchanged.ensures.log ∙ c.requires.folder)
-        (elsewhere g.F.Tree files.root c.next_unchanged.new.tree c.replay_record.new.tree c.replay_record.ensures.frame (c.replay_record.ensures.own told)) in
+    ap (to_come cursor) (sym c.in_ok-next_unchanged.ensures.reads.same)
+    ∙ to_come_stays files.root cursor (g.F.Tree.contents c.next_unchanged.new.tree) new (ap (λ (l : LogPath). l.folder) c.in_ok-next_unchanged.ensures.log ∙ c.requires.folder)
+    (elsewhere g.F.Tree files.root c.next_unchanged.new.tree c.replay_record.new.tree c.replay_record.ensures.frame (c.replay_record.ensures.own told)) in
     let old = (to_come c.args.cursor.now contents).records in
     subst (λ (l : Log). Replays files.root files.per_file old l.records (world_of contents c.args.world.now) (world_of new c.replay_record.new.world) c.args.count.now c.count_on.result) stays
     (one_more files.root files.per_file rec c.judge_again.new.parts old (to_come cursor contents).records (world_of contents c.args.world.now) (world_of new c.replay_record.new.world) c.args.count.now c.count_on.result
