@@ -1,5 +1,5 @@
 -- What the steps of the second reading give.
-use Rattle.std.specs.Prelude.{◌≡◌, ◌⊎◌, ◌+◌, ◌<◌, ◌≤◌, ◌^◌, ℕ, List, [], length, None, Result, Ok, Err}
+use Rattle.std.specs.Prelude.{◌≡◌, ◌⊎◌, ◌+◌, ◌<◌, ◌≤◌, ◌^◌, ℕ, List, length, None, Result, Ok, Err}
 use Rattle.cluster_tree.specs.PathValue.{PathValue}
 use Rattle.replay_profile.specs.Profile.{first_outside}
 use Rattle.wal_records.specs.Cursor.{CursorView}

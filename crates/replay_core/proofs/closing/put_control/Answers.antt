@@ -1,7 +1,7 @@
 use Rattle.std.proofs.Common.{[], ◌∷◌, ap, Err}
 use Rattle.cluster_tree.specs.Change.{Writes}
 use Rattle.marked_runs.proofs.CarriedLemmas.{performs-broken, performs-done}
-use Rattle.replay_core.proofs.RunLemmas.{performs-same}
+use Rattle.replay_core.proofs.JoinLemmas.{performs-same}
 use Rattle.replay_core.proofs.closing.put_control.Goals as goal
 
 pub returns-in-Ok-clause-performs : goal.returns-in-Ok-clause-performs

@@ -5,7 +5,7 @@ use Rattle.replay_start.specs.declared.fault.ReplayFault.TheVariants as fault
 use Rattle.replay_world.specs.World.{world_of}
 use Rattle.replay_core.specs.Faults.{IsFree}
 use Rattle.replay_core.specs.Went.{Closing, Replaying}
-use Rattle.replay_core.proofs.RunLemmas.{changed-of, closed-ok, closing-ran, free-of, none-least}
+use Rattle.replay_core.proofs.JoinLemmas.{changed-of, closed-ok, closing-ran, free-of, none-least}
 use Rattle.replay_core.proofs.replaying.finish.Goals as goal
 
 pub returns-in-Some-clause-went : goal.returns-in-Some-clause-went
