@@ -35,7 +35,7 @@ use Rattle.replay_core.specs.Faults.{IsFree, of_perform, recorded}
 use Rattle.replay_core.specs.Replayed.{After, after_replay, beginning, closed, closed_or, closing, control_path, end_of, first_world, label_path, mark_of, mark_text, replayed_into}
 use Rattle.replay_core.specs.Stages.{ArePaths, Stand}
 use Rattle.replay_core.specs.Steps.{BreaksOff}
-use Rattle.replay_core.specs.Went.{Answers, IsAfter, IsCause, RanRecords, Went, Unchanged}
+use Rattle.replay_core.specs.Went.{Answers, IsAfter, IsCause, RanRecords, Went, WentOn, Unchanged}
 use Rattle.replay_core.specs.declared.outcome.Replayed.{Replayed}
 use Rattle.replay_core.specs.declared.paths.Paths.{Paths}
 use Rattle.replay_core.proofs.PathLemmas.{control-kept, label-kept, mark-kept}
@@ -162,9 +162,9 @@ pub begun-ran : {F : Type 0} (tree : Ghosts F) (root mark : PathValue) (a b : F)
 begun-ran tree root mark a b r is told none carries = subst (λ m. Carries tree (begun m mark_text) a b r) is carries told none
 
 -- the world behind them is the one that is meant
-pub first-meant : (root other : PathValue) (s start : Start) (c d : Contents) (w : World) → other ≡ root → s ≡ start → w.files ≡ all_changed c (beginning root) → w.control ≡ start.control → w.skipped ≡ []
+pub first-meant : (root other : PathValue) (s start : Start) (c : Contents) (w : World) → other ≡ root → s ≡ start → w.files ≡ all_changed c (beginning root) → w.control ≡ start.control → w.skipped ≡ []
     → replayed_into other s w ≡ replayed_into root start (first_world c root start)
-first-meant root other s start c d w same is files control skipped =
+first-meant root other s start c w same is files control skipped =
     ap (λ p. replayed_into p s w) same ∙ ap (λ x. replayed_into root x w) is
     ∙ ap (λ f. replayed_into root start (record w { files = f })) files
     ∙ ap (λ k. replayed_into root start (record { files = all_changed c (beginning root); control = k; skipped = w.skipped })) control
@@ -194,3 +194,11 @@ refused-of meant other d (Err e) same answers = subst (λ m. IsCause m e) same a
 pub none-least : (o : Option BlockName) → ((name : BlockName) → o ≡ Some name → ⊥) → o ≡ None
 none-least None never = refl
 none-least (Some name) never = absurd (never name refl)
+
+-- ---- how far it went, by its answer
+
+pub went-broken : (root : PathValue) (old new : State) (r : Result Replayed ReplayFault) (e : ReplayFault) → r ≡ Err e → WentOn root old new false → WentOn root old new (is_ok r)
+went-broken root old new r e is went = subst (λ (x : Result Replayed ReplayFault). WentOn root old new (is_ok x)) (sym is) went
+
+pub went-nowhere : (root : PathValue) (old new : State) (r : Result Replayed ReplayFault) (e : ReplayFault) → r ≡ Err e → new.calls ≡ old.calls → new.contents ≡ old.contents → Went root old new (is_ok r)
+went-nowhere root old new r e is calls same = subst (λ (x : Result Replayed ReplayFault). Went root old new (is_ok x)) (sym is) (Unchanged calls same)

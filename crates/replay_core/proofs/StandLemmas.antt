@@ -1,5 +1,8 @@
 -- None of the changes of a replay's own is refused.
-use Rattle.std.proofs.Common.{◌≡◌, ◌≢◌, ℕ, Bool, true, false, ◌&&◌, cond, nat_lt, List, [], ◌∷◌, ◌++◌, length, Option, None, Some, is_some, refl, sym, ap, ◌∙◌, subst, arith, rules, true≢false, append_assoc, codes}
+use Rattle.std.proofs.Common.{◌≡◌, ◌≢◌, ◌+◌, ◌<◌, ◌≤◌, ◌^◌, ◌%◌, ◌==◌, ℕ, Bool, true, false, ◌&&◌, cond, nat_le, nat_lt, List, [], ◌∷◌, ◌++◌, length, Option, None, Some, is_some, refl, sym, ap, ◌∙◌, subst, arith, rules, true≢false, append_assoc, codes}
+use Rattle.std.proofs.lemmas.Bool.{and_parts}
+use Rattle.std.proofs.lemmas.Bool.Decides.{Decides-eqb, nat_tests}
+use Rattle.std.specs.Prelude.{if◌then◌else◌}
 use Rattle.std.specs.FinMap.{get, insert, remove}
 use Rattle.cluster_tree.specs.PathValue.{PathValue, below}
 use Rattle.cluster_tree.specs.Contents.{Contents, Entry, FolderEntry, FileEntry, LinkEntry, IsTree, entry_at, is_file, is_folder, or_root, parent}
@@ -10,9 +13,14 @@ use Rattle.cluster_tree.specs.declared.tree.TreeFault.TheVariants as fault
 use Rattle.cluster_tree.proofs.ContentsLemmas.{entry-put, entry-put_other, entry-removed_other, write_refusal-new, written-new}
 use Rattle.cluster_tree.proofs.FolderLemmas.{lies_in-below}
 use Rattle.cluster_tree.proofs.OrderLemmas.{path_eq-same}
+use Rattle.control_file.specs.Admission.{IsControl}
+use Rattle.control_file.specs.Rows.{head_rows, checkpoint_rows, recovery_rows, setting_rows, build_rows, rows_of}
 use Rattle.control_file.specs.Writing.{control_bytes}
 use Rattle.control_file.specs.declared.control.Control.{Control}
 use Rattle.marked_runs.specs.Runs.{ended}
+use Rattle.storage_replay.specs.Files.{AreFit}
+use Rattle.wal_pages.specs.Header.{header_size}
+use Rattle.wal_records.specs.Place.{place_at}
 use Rattle.replay_core.specs.Replayed.{beginning, closing, control_path, label_path, mark_of, mark_text}
 use Rattle.replay_core.specs.Stages.{Stand}
 use Rattle.replay_core.proofs.PathLemmas.{control-label, control-mark, control_path-is, label-mark}
@@ -111,3 +119,37 @@ begun-stand c root control label = record {
   control = ap is_file (entry-put_other c (mark_of root) (control_path root) (FileEntry mark_text) (control-mark root)) ∙ control;
   label = ap is_file (entry-put_other c (mark_of root) (label_path root) (FileEntry mark_text) (label-mark root)) ∙ label;
 }
+
+-- ---- what a replay begins with
+
+some_of : (n : ℕ) → nat_le 1 n ≡ true → 0 < n
+some_of n e = grind (arith, nat_tests, e)
+
+most_of : (n : ℕ) → nat_le n 131072 ≡ true → n ≤ 131072
+most_of n e = grind (arith, nat_tests, e)
+
+-- the rules of a control file bound how many blocks a file holds
+pub fit-files : (root other : PathValue) (control : Control) → other ≡ root → length root.parts ≤ 61 → IsControl control → AreFit (record { root = other; per_file = control.relseg })
+unfolding rows_of head_rows checkpoint_rows recovery_rows setting_rows build_rows
+fit-files root other control same room is =
+    let two = and_parts (nat_le 1 control.relseg) (nat_le control.relseg 131072) is.shape.1.1.1.1.1.1.1.1.1.1.1.1.1.1.1.1.1.1.1.1.1.1.1.1.1.1.1.1.1.1.1.1.1.1.1.1.1.1.1.0 in
+    record {
+      room = subst (λ (p : PathValue). length p.parts ≤ 61) (sym same) room;
+      some = some_of control.relseg two.0;
+      most = most_of control.relseg two.1;
+    }
+
+header_small : (b : Bool) → (if b then 40 else 24) ≤ 40
+header_small true = omega arith
+header_small false = omega arith
+
+page_low : (at h : ℕ) → at % 8192 ≡ 0 → h ≤ 40 → at < 2 ^ 64 → at + h < 2 ^ 64
+page_low at h page small low = grind (arith, page, small, low)
+
+-- a place in a page is a number of 64 bits
+pub place-low : (size at : ℕ) → at < 2 ^ 64 → place_at size at < 2 ^ 64
+place-low size at low =
+    elim (at % 8192 == 0) as (λ (b : Bool). (at % 8192 == 0) ≡ b → (if b then at + header_size size at else at) < 2 ^ 64) [
+      | true ↦ λ is. page_low at (header_size size at) ((Decides-eqb (at % 8192) 0).0 is) (header_small (at % size == 0)) low
+      | false ↦ λ is. low
+    ] refl

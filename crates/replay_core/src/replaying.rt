@@ -1,6 +1,7 @@
 // The public call that replays.
-ghost use Rattle.std.specs.Prelude.{◌≡◌, ◌≢◌, ◌≤◌, [], length, Err, IfErr, IfOk, IsErrOf, IsTrue, is_ok};
+ghost use Rattle.std.specs.Prelude.{◌≡◌, ◌≢◌, ◌≤◌, ◌<◌, ◌^◌, [], length, Err, IfErr, IfOk, IsErrOf, IsTrue, is_ok};
 ghost use Rattle.cluster_tree.specs.Causes.{Rose};
+ghost use Rattle.cluster_tree.specs.Contents.{Contents};
 ghost use Rattle.cluster_tree.specs.Frame.{Came};
 ghost use Rattle.cluster_tree.specs.PathValue.{PathValue};
 ghost use Rattle.cluster_tree.specs.Run.{State, state_by};
@@ -9,6 +10,11 @@ ghost use Rattle.control_file.specs.Admission.{IsControl};
 ghost use Rattle.file_edits.specs.Own.{OnOwn};
 ghost use Rattle.file_effects.specs.Own.{is_replayed};
 ghost use Rattle.storage_replay.specs.Files.{AreFit};
+ghost use Rattle.wal_base.specs.Segment.{bytes_of};
+ghost use Rattle.wal_records.specs.Cursor.{Knows, going_on_at, to_come};
+ghost use Rattle.wal_records.specs.Further.{pages_of};
+ghost use Rattle.wal_records.specs.Log.{log_of};
+ghost use Rattle.wal_records.specs.Place.{place_at};
 ghost use Rattle.replay_start.specs.Checked.{start_of};
 ghost use Rattle.replay_start.specs.declared.fault.ReplayFault.{ReplayFault};
 ghost use Rattle.replay_world.specs.World.{world_of};
@@ -31,6 +37,20 @@ use replay_control::control_left;
 use replay_start::{Checked, ReplayFault, check};
 use replay_world::{Files, Replaying, Skipped};
 use std::alloc::Global;
+use wal_base::Lsn;
+use wal_records::RecordCursor;
+
+// Puts a cursor before the first record from a position on.
+fn go_back(cursor: &mut RecordCursor, at: u64)
+    ensures value { cursor.new
+        ≡ going_on_at cursor.old (place_at (bytes_of cursor.old.log.size) at) }
+    ensures within { cursor.new.place < 2 ^ 64 }
+    ensures starts { (contents : Contents) → to_come cursor.new contents
+        ≡ log_of (pages_of cursor.old.log contents) (bytes_of cursor.old.log.size) at }
+    ensures knows { (contents : Contents) → Knows cursor.old contents → Knows cursor.new contents }
+{
+    cursor.go_to(Lsn(at));
+}
 
 // Replays the whole log under the mark, and tells what was replayed.
 fn replay_log<F: Tree>(
@@ -60,7 +80,7 @@ fn replay_log<F: Tree>(
     ensures changed { IsTrue F.tells → (p : PathValue) → result ≢ Err (ReplayFault.Changed p) }
 {
     let cursor = &mut checked.cursor;
-    cursor.go_to(checked.label.start);
+    go_back(cursor, checked.label.start.0);
     let mut count = Count {
         records: 0,
         end: checked.label.start,
