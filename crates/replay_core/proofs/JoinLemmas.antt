@@ -1,19 +1,18 @@
 -- How the steps of a replay join.
-use Rattle.std.proofs.Common.{◌≡◌, ◌≢◌, ◌⊎◌, inl, inr, ℕ, Bool, true, false, IsTrue, IfErr, IfOk, List, [], ◌∷◌, length, Option, None, Some, option_map, Result, Ok, Err, refl, sym, ap, ◌∙◌, subst}
+use Rattle.std.proofs.Common.{◌≡◌, ◌≢◌, inl, inr, ℕ, false, IsTrue, IfErr, IfOk, List, [], ◌∷◌, Option, None, Some, option_map, Result, Ok, Err, refl, sym, ap, ◌∙◌, subst}
 use Rattle.std.specs.Prelude.{is_ok}
 use Rattle.block_refs.specs.declared.names.BlockName.{BlockName}
 use Rattle.block_replay.specs.World.{least_name}
 use Rattle.cluster_tree.specs.Causes.{given, unless}
 use Rattle.cluster_tree.specs.Change.{Change, Removes, Writes, all_changed, first_refusal}
 use Rattle.cluster_tree.specs.Contents.{Contents, is_file}
-use Rattle.cluster_tree.specs.Frame.{Came, Reads}
+use Rattle.cluster_tree.specs.Frame.{Came}
 use Rattle.cluster_tree.specs.PathValue.{PathValue}
-use Rattle.cluster_tree.specs.Run.{Run, State, Still, state_by}
+use Rattle.cluster_tree.specs.Run.{State, Still, state_by}
 use Rattle.cluster_tree.specs.declared.tree.Tree.{Ghosts}
-use Rattle.control_file.specs.Reading.{timeline_of}
 use Rattle.control_file.specs.Writing.{control_bytes}
 use Rattle.control_file.specs.declared.control.Control.{Control}
-use Rattle.file_edits.specs.Own.{GoesOn, OnOwn, Same}
+use Rattle.file_edits.specs.Own.{OnOwn, Same}
 use Rattle.file_edits.proofs.LawLemmas.{own-elsewhere}
 use Rattle.file_effects.specs.Own.{is_replayed}
 use Rattle.marked_runs.specs.Carried.{Carried, Carries}
@@ -23,18 +22,14 @@ use Rattle.marked_runs.specs.declared.faults.PerformFault.{PerformFault}
 use Rattle.marked_runs.specs.declared.faults.PerformFault.TheVariants as perform
 use Rattle.marked_runs.specs.declared.faults.StepFault.{StepFault}
 use Rattle.marked_runs.specs.declared.faults.StepFault.TheVariants as step
-use Rattle.wal_records.specs.Reading.{LogRecord}
 use Rattle.replay_control.specs.Following.{control_left}
 use Rattle.replay_start.specs.Checked.{Start, start_of}
-use Rattle.replay_start.specs.Faults.{IsFree as IsFreeCheck}
 use Rattle.replay_start.specs.declared.fault.ReplayFault.{ReplayFault}
 use Rattle.replay_start.specs.declared.fault.ReplayFault.TheVariants as fault
-use Rattle.replay_world.specs.Records.{records_after}
 use Rattle.replay_world.specs.World.{World}
-use Rattle.replay_core.specs.Faults.{IsFree, of_perform, recorded}
-use Rattle.replay_core.specs.Replayed.{After, after_replay, beginning, closed, closed_or, closing, control_path, end_of, first_world, label_path, mark_of, mark_text, replayed_into}
+use Rattle.replay_core.specs.Faults.{IsFree, of_perform}
+use Rattle.replay_core.specs.Replayed.{After, after_replay, beginning, closed, closed_or, closing, control_path, first_world, label_path, mark_of, mark_text, replayed_into}
 use Rattle.replay_core.specs.Stages.{ArePaths, Stand}
-use Rattle.replay_core.specs.Steps.{BreaksOff}
 use Rattle.replay_core.specs.Went.{Answers, IsAfter, IsCause, RanRecords, Went, WentOn, Unchanged}
 use Rattle.replay_core.specs.declared.outcome.Replayed.{Replayed}
 use Rattle.replay_core.specs.declared.paths.Paths.{Paths}
@@ -48,16 +43,6 @@ changed-of perform.ReadFault p h = absurd (cc h)
 changed-of perform.WriteFault p h = absurd (cc h)
 changed-of (perform.Changed q) p h = cc h
 
-pub write-of : (f : PerformFault) → of_perform f ≡ fault.WriteFault → f ≡ perform.WriteFault
-write-of perform.ReadFault h = absurd (cc h)
-write-of perform.WriteFault h = refl
-write-of (perform.Changed q) h = absurd (cc h)
-
-pub read-of : (f : PerformFault) → of_perform f ≡ fault.ReadFault → f ≡ perform.ReadFault
-read-of perform.ReadFault h = refl
-read-of perform.WriteFault h = absurd (cc h)
-read-of (perform.Changed q) h = absurd (cc h)
-
 pub free-of : (f : PerformFault) → f ≢ perform.ReadFault → ((p : PathValue) → f ≢ perform.Changed p) → IsFree (of_perform f)
 free-of perform.ReadFault read changed = absurd (read refl)
 free-of perform.WriteFault read changed = inr (inl refl)
@@ -69,18 +54,10 @@ about-read step.ReadFault q h = refl
 about-read step.WriteFault q h = absurd (cc h)
 about-read step.Contradicted q h = absurd (cc h)
 
-pub about-write : (f : StepFault) (q : PathValue) → about f q ≡ perform.WriteFault → f ≡ step.WriteFault
-about-write step.ReadFault q h = absurd (cc h)
-about-write step.WriteFault q h = refl
-about-write step.Contradicted q h = absurd (cc h)
-
 pub about-changed : (f : StepFault) (q p : PathValue) → about f q ≡ perform.Changed p → f ≡ step.Contradicted
 about-changed step.ReadFault q p h = absurd (cc h)
 about-changed step.WriteFault q p h = absurd (cc h)
 about-changed step.Contradicted q p h = refl
-
-pub free-memory : (e : ReplayFault) → e ≡ fault.OutOfMemory → IsFree e
-free-memory e is = inr (inr (inl is))
 
 -- ---- the records
 
@@ -100,28 +77,6 @@ still-stand root old new ran stand = record {
   control = ap is_file (ran.elsewhere (control_path root) (control-kept root)) ∙ stand.control;
   label = ap is_file (ran.elsewhere (label_path root) (label-kept root)) ∙ stand.label;
 }
-
--- the meaning, where all were replayed
-pub into-closed : (root : PathValue) (s : Start) (w v : World) (per_file tli n e : ℕ) → per_file ≡ s.control.relseg → tli ≡ timeline_of s.control → records_after root per_file s.records w ≡ Ok v
-    → n ≡ length s.records → e ≡ end_of s → replayed_into root s w ≡ closed_or root tli n e v
-into-closed root s w v per_file tli n e per time leaves count end =
-    ap (λ p. given (recorded (records_after root p s.records w)) (closed_or root (timeline_of s.control) (length s.records) (end_of s))) (sym per)
-    ∙ ap (λ (r : Result World _). given (recorded r) (closed_or root (timeline_of s.control) (length s.records) (end_of s))) leaves
-    ∙ ap (λ t. closed_or root t (length s.records) (end_of s) v) (sym time)
-    ∙ ap (λ k. closed_or root tli k (end_of s) v) (sym count)
-    ∙ ap (λ x. closed_or root tli n x v) (sym end)
-
-pub answers-into : (root other : PathValue) (s : Start) (w v : World) (per_file tli n e : ℕ) (d : Contents) (r : Result Replayed ReplayFault) → other ≡ root → per_file ≡ s.control.relseg → tli ≡ timeline_of s.control
-    → (records_after root per_file s.records w ≡ Ok v) × (n ≡ length s.records) × (e ≡ end_of s) → Answers (closed_or other tli n e v) d r → Answers (replayed_into root s w) d r
-answers-into root other s w v per_file tli n e d r same per time (leaves, count, end) answers =
-    subst (λ m. Answers m d r) (ap (λ p. closed_or p tli n e v) same ∙ sym (into-closed root s w v per_file tli n e per time leaves count end)) answers
-
--- and where they weren't
-pub cause-into : (root : PathValue) (s : Start) (w : World) (per_file : ℕ) (e : ReplayFault) → per_file ≡ s.control.relseg → BreaksOff root per_file s.records w e → IsCause (replayed_into root s w) e
-cause-into root s w per_file e per (inl free) = inl free
-cause-into root s w per_file e per (inr is) =
-    inr (ap (λ p. given (recorded (records_after root p s.records w)) (closed_or root (timeline_of s.control) (length s.records) (end_of s))) (sym per)
-    ∙ ap (λ (r : Result World ReplayFault). given r (closed_or root (timeline_of s.control) (length s.records) (end_of s))) is)
 
 -- ---- equal changes
 
@@ -152,9 +107,6 @@ closed-ok root tli n e w told d none files records end time = record {
   tli = time;
 }
 
-pub closed-missing : (root : PathValue) (tli n e : ℕ) (w : World) (name : BlockName) → least_name w.skipped ≡ Some name → IsCause (closed_or root tli n e w) (fault.MissingPage name)
-closed-missing root tli n e w name is = inr (ap (λ o. unless (option_map fault.MissingPage o) (Ok (closed root tli n e w))) is)
-
 -- ---- the changes at the beginning
 
 pub begun-ran : {F : Type 0} (tree : Ghosts F) (root mark : PathValue) (a b : F) (r : Result (Unit {0}) StepFault) → mark ≡ mark_of root → IsTrue tree.tells → first_refusal (tree.contents a) (beginning root) ≡ None
@@ -175,12 +127,6 @@ first-meant root other s start c w same is files control skipped =
 pub after-of : (c : Contents) (root : PathValue) (s : Start) → start_of c root ≡ Ok s → after_replay c root ≡ replayed_into root s (first_world c root s)
 unfolding after_replay
 after-of c root s is = ap (λ r. given r (λ s. replayed_into root s (first_world c root s))) is
-
-pub refused-check : (c : Contents) (root : PathValue) (e : ReplayFault) → IsFreeCheck e ⊎ (start_of c root ≡ Err e) → IsCause (after_replay c root) e
-unfolding after_replay
-refused-check c root e (inl (inl read)) = inl (inl read)
-refused-check c root e (inl (inr memory)) = inl (free-memory e memory)
-refused-check c root e (inr is) = inr (ap (λ r. given r (λ s. replayed_into root s (first_world c root s))) is)
 
 pub done-of : (meant other : Result After ReplayFault) (d : Contents) (r : Result Replayed ReplayFault) → other ≡ meant → Answers other d r → IfOk r (λ told. IsAfter meant told d)
 done-of meant other d (Ok told) same answers = subst (λ m. IsAfter m told d) same answers

@@ -6,7 +6,7 @@ use Rattle.std.specs.Prelude.{if◌then◌else◌}
 use Rattle.std.specs.FinMap.{get, insert, remove}
 use Rattle.cluster_tree.specs.PathValue.{PathValue, below}
 use Rattle.cluster_tree.specs.Contents.{Contents, Entry, FolderEntry, FileEntry, LinkEntry, IsTree, entry_at, is_file, is_folder, or_root, parent}
-use Rattle.cluster_tree.specs.Change.{Change, Removes, Syncs, all_changed, first_refusal, or_next}
+use Rattle.cluster_tree.specs.Change.{Removes, all_changed, first_refusal, or_next}
 use Rattle.cluster_tree.specs.Folders.{removal_refusal}
 use Rattle.cluster_tree.specs.Tree.{file_of, make_refusal, refusal_in, refusal_past, write_refusal, written}
 use Rattle.cluster_tree.specs.declared.tree.TreeFault.TheVariants as fault

@@ -1,7 +1,6 @@
 -- What is known of a cluster that passed every check, before the mark and behind it.
-use Rattle.std.proofs.Common.{◌≡◌, ◌≢◌, ◌⊎◌, ℕ, Bool, true, false, cond, List, [], ◌∷◌, codes, Option, None, Some, is_some, option_map, Result, Ok, Err, IfSome, refl, sym, ap, ◌∙◌, subst, true≢false}
+use Rattle.std.proofs.Common.{◌≡◌, ◌≢◌, ℕ, Bool, true, false, cond, List, [], ◌∷◌, Option, None, Some, is_some, option_map, Result, Ok, Err, IfSome, refl, sym, ap, ◌∙◌, subst, true≢false}
 use Rattle.std.specs.FinMap.{insert}
-use Rattle.backup_label.specs.Reading.{label_of}
 use Rattle.backup_label.specs.declared.reading.LabelPlaces.{LabelPlaces}
 use Rattle.cluster_tree.specs.Causes.{first_of, given, unless}
 use Rattle.cluster_tree.specs.Change.{all_changed, first_refusal}
@@ -29,11 +28,10 @@ use Rattle.wal_records.specs.Laws.{SameLog}
 use Rattle.wal_records.specs.Log.{end_after, log_of}
 use Rattle.wal_records.specs.Reading.{LogRecord}
 use Rattle.wal_records.proofs.FilesLemmas.{same_log}
-use Rattle.replay_start.specs.Checked.{IsStart, Start, checksums_on, from_control, from_label, in_log, label_at, label_in, log_with, no_hints, start_of, with_records}
+use Rattle.replay_start.specs.Checked.{IsStart, Start, checksums_on, from_control, from_label, in_log, label_at, label_in, log_with, no_hints, start_of}
 use Rattle.replay_start.specs.Faults.{of_cluster, of_profile, told_by}
-use Rattle.replay_start.specs.Scanned.{ends_too_soon, is_labelled, log_refusal, unlabelled}
+use Rattle.replay_start.specs.Scanned.{log_refusal}
 use Rattle.replay_start.specs.declared.checked.Checked.{Checked}
-use Rattle.replay_start.specs.declared.fault.ReplayFault.{ReplayFault}
 use Rattle.replay_core.specs.Replayed.{beginning, control_path, label_path, mark_of, mark_text}
 use Rattle.replay_core.specs.Stages.{HasLog, IsChecked, Stand, records_in, start_in}
 use Rattle.replay_core.proofs.PathLemmas.{log-mark}
