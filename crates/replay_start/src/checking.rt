@@ -30,12 +30,7 @@ use wal_records::RecordCursor;
 
 // What the end of a log and its checkpoint have to be.
 #[tactic(auto, using(cluster_tree::proofs::PointLemmas::points))]
-fn check_seen(
-    alloc: Global,
-    root: &Path,
-    control: &Control,
-    seen: Seen,
-) -> Result<(), ReplayFault>
+fn check_seen(alloc: Global, root: &Path, control: &Control, seen: Seen) -> Result<(), ReplayFault>
     ensures answer { Passes IsFree (first_of (ends_too_soon control.now.minRecoveryPoint seen.end.0
         ∷ unlabelled root.now seen.found ∷ [])) result }
     ensures read_fault { result ≢ Err ReplayFault.ReadFault }
