@@ -19,26 +19,22 @@ use Rattle.replay_core.specs.Faults.{IsFree, of_file, of_record, recorded}
 use Rattle.replay_core.specs.Steps.{AreReplayed, BreaksOff, Replays}
 use Rattle.replay_core.specs.declared.running.Count.{Count}
 
--- A record that is taken has parts, and is in the profile.
+-- A record that is taken has these parts, and the rest is taken.
 
-abbrev taken_as : LogRecord → PartsView → Bool → Result PartsView ProfileFault
-taken_as rec p b = cond b (Ok p) (Err (outside rec))
+taken_by : (rec : LogRecord) (parts p : PartsView) (b : Bool) → cond b (Ok p) (Err (outside rec)) ≡ Ok parts → p ≡ parts
+taken_by rec parts p true e = cc
+taken_by rec parts p false e = absurd cc
 
-taken_by : (rec : LogRecord) (parts p : PartsView) (b : Bool) → is_in_profile rec p ≡ b → taken_as rec p b ≡ Ok parts → (p ≡ parts) × (is_in_profile rec parts ≡ true)
-taken_by rec parts p true is e = let same : p ≡ parts = cc in (same, ap (is_in_profile rec) (sym same) ∙ is)
-taken_by rec parts p false is e = absurd cc
+parts_taken : (rec : LogRecord) (parts : PartsView) → judged rec ≡ Ok parts → parts_or_none (record_parts rec) ≡ parts
+parts_taken rec parts e =
+    elim (record_parts rec) as (λ r. judged_by rec r ≡ Ok parts → parts_or_none r ≡ parts)
+    [ Ok p ↦ λ is. taken_by rec parts p (is_in_profile rec p) is | Err f ↦ λ is. absurd cc ] e
 
-taken_parts : (rec : LogRecord) (parts : PartsView) → judged rec ≡ Ok parts → (parts_or_none (record_parts rec) ≡ parts) × (is_in_profile rec parts ≡ true)
-taken_parts rec parts e =
-    elim (record_parts rec) as (λ r. judged_by rec r ≡ Ok parts → (parts_or_none r ≡ parts) × (is_in_profile rec parts ≡ true))
-    [ Ok p ↦ λ is. taken_by rec parts p (is_in_profile rec p) refl is | Err f ↦ λ is. absurd cc ] e
-
--- the first of records that are all taken, and the rest
-first_taken : (rec : LogRecord) (old rest : List LogRecord) → old ≡ rec ∷ rest → first_outside old ≡ None → ((f : ProfileFault) → judged rec ≡ Err f → ⊥) × (first_outside rest ≡ None)
-first_taken rec old rest is e = by (judged rec) (ap first_outside (sym is) ∙ e)
+rest_taken : (rec : LogRecord) (rest : List LogRecord) → first_outside (rec ∷ rest) ≡ None → first_outside rest ≡ None
+rest_taken rec rest e = by (judged rec) e
   where
-    by : (j : Result PartsView ProfileFault) → first_of j (first_outside rest) ≡ None → ((f : ProfileFault) → j ≡ Err f → ⊥) × (first_outside rest ≡ None)
-    by (Ok parts) h = (λ f no. absurd cc, h)
+    by : (j : Result PartsView ProfileFault) → first_of j (first_outside rest) ≡ None → first_outside rest ≡ None
+    by (Ok parts) h = h
     by (Err f) h = absurd cc
 
 -- What a record leaves of the rest.
@@ -56,13 +52,13 @@ module _ (root : PathValue) (per_file : ℕ) (rec : LogRecord) (parts : PartsVie
   meant_of : old ≡ rec ∷ rest → judged rec ≡ Ok parts → records_after root per_file old w ≡ given (record_after root per_file rec parts w) (records_after root per_file rest)
   meant_of is taken =
       ap (λ rs. records_after root per_file rs w) is ∙ goes_on root per_file rec rest w
-      ∙ ap (λ p. given (record_after root per_file rec p w) (records_after root per_file rest)) (taken_parts rec parts taken).0
+      ∙ ap (λ p. given (record_after root per_file rec p w) (records_after root per_file rest)) (parts_taken rec parts taken)
 
   pub one_more : (v : World) (before after : Count) → old ≡ rec ∷ rest → first_outside old ≡ None → judged rec ≡ Ok parts → record_after root per_file rec parts w ≡ Ok v
       → after ≡ record { records = before.records + 1; end = record { 0 = rec.end } } → Replays root per_file old rest w v before after
   one_more v before after is all taken left count = record {
     leaves = meant_of is taken ∙ ap (λ r. given r (records_after root per_file rest)) left;
-    taken = (first_taken rec old rest is all).1;
+    taken = rest_taken rec rest (ap first_outside (sym is) ∙ all);
     records = omega (arith, ap length is, ap (λ (c : Count). c.records) count);
     end = ap (end_after before.end.0) is ∙ ap (λ (c : Count). end_after c.end.0 rest) (sym count);
   }
