@@ -1,5 +1,5 @@
 -- The faults of records and of changes, as those of a replay. Own: "Answers and their causes".
-use Rattle.std.specs.Prelude.{◌≡◌, ◌⊎◌, [], ◌∷◌, Result, Ok, Err}
+use Rattle.std.specs.Prelude.{[], ◌∷◌, Result, Ok, Err}
 use Rattle.cluster_tree.specs.Causes.{IsAmong}
 use Rattle.cluster_tree.specs.declared.file_fault.FileFault.{FileFault}
 use Rattle.cluster_tree.specs.declared.file_fault.FileFault.TheVariants as file

@@ -1,4 +1,5 @@
 pub mod Faults
 pub mod Replayed
 pub mod Steps
+pub mod Stages
 pub mod Went

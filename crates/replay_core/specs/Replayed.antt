@@ -1,5 +1,5 @@
 -- What a replay leaves: PostgreSQL 16, src/backend/access/transam/xlogrecovery.c, PerformWalRecovery; xlogutils.c, XLogCheckInvalidPages. Own: "A replay, in order".
-use Rattle.std.specs.Prelude.{ℕ, List, [], ◌∷◌, ◌++◌, length, codes, Option, option_map, Result, Ok}
+use Rattle.std.specs.Prelude.{ℕ, List, [], ◌∷◌, length, codes, Option, option_map, Result, Ok}
 use Rattle.block_refs.specs.declared.names.BlockName.{BlockName}
 use Rattle.cluster_tree.specs.Causes.{given, unless}
 use Rattle.cluster_tree.specs.Change.{Change, Removes, Writes, all_changed}
@@ -57,30 +57,27 @@ missing_page skipped = option_map fault.MissingPage (least_name skipped)
 abbrev pub end_of : Start → ℕ
 end_of s = end_after s.label.start.0 s.records
 
--- the control file that is written
-abbrev pub last_control : Start → World → Control
-last_control s w = control_left (timeline_of s.control) (end_of s) w.control
-
-abbrev pub closed : PathValue → Start → World → After
-closed root s w = record {
-  files = all_changed w.files (closing root (last_control s w));
-  records = length s.records;
-  end = end_of s;
-  tli = timeline_of s.control;
+-- what is left and told behind records of this count, which end here and left this world
+abbrev pub closed : PathValue → (tli count end : ℕ) → World → After
+closed root tli count end w = record {
+  files = all_changed w.files (closing root (control_left tli end w.control));
+  records = count;
+  end = end;
+  tli = tli;
 }
 
-abbrev pub closed_or : PathValue → Start → World → Result After ReplayFault
-closed_or root s w = unless (missing_page w.skipped) (Ok (closed root s w))
+abbrev pub closed_or : PathValue → (tli count end : ℕ) → World → Result After ReplayFault
+closed_or root tli count end w = unless (missing_page w.skipped) (Ok (closed root tli count end w))
+
+-- all records are replayed into a world, and then it is closed
+abbrev pub replayed_into : PathValue → Start → World → Result After ReplayFault
+replayed_into root s w =
+    given (recorded (records_after root s.control.relseg s.records w)) (closed_or root (timeline_of s.control) (length s.records) (end_of s))
 
 -- the cluster under the mark, before the first record
 abbrev pub first_world : Contents → PathValue → Start → World
 first_world c root s = record { files = all_changed c (beginning root); control = s.control; skipped = [] }
 
--- all records are replayed
-abbrev pub replayed_from : Contents → PathValue → Start → Result After ReplayFault
-replayed_from c root s =
-    given (recorded (records_after root s.control.relseg s.records (first_world c root s))) (closed_or root s)
-
 -- what a replay leaves of a cluster, or why it ends: every check comes before its first change
 unfoldable pub after_replay : Contents → PathValue → Result After ReplayFault
-after_replay c root = given (start_of c root) (replayed_from c root)
+after_replay c root = given (start_of c root) (λ s. replayed_into root s (first_world c root s))

@@ -1,5 +1,5 @@
 -- What the steps of the second reading give.
-use Rattle.std.specs.Prelude.{◌≡◌, ◌⊎◌, ◌+◌, ◌<◌, ◌≤◌, ◌^◌, ℕ, List, [], length, None, Result, Ok, Err}
+use Rattle.std.specs.Prelude.{◌≡◌, ◌⊎◌, ◌+◌, ◌<◌, ◌≤◌, ◌^◌, ℕ, List, length, None, Result, Ok, Err}
 use Rattle.cluster_tree.specs.PathValue.{PathValue}
 use Rattle.replay_profile.specs.Profile.{first_outside}
 use Rattle.wal_records.specs.Cursor.{CursorView}
@@ -21,10 +21,10 @@ pub record Replays (root : PathValue) (per_file : ℕ) (old new : List LogRecord
   pub end : end_after before.end.0 old ≡ end_after after.end.0 new
 
 -- all were replayed
-pub record AreReplayed (root : PathValue) (per_file : ℕ) (records : List LogRecord) (w v : World) (before after : Count) : Type 0 where
-  pub leaves : records_after root per_file records w ≡ Ok v
-  pub records : before.records + length records ≡ after.records
-  pub end : end_after before.end.0 records ≡ after.end.0
+pub record AreReplayed (root : PathValue) (per_file : ℕ) (log : List LogRecord) (w v : World) (before after : Count) : Type 0 where
+  pub leaves : records_after root per_file log w ≡ Ok v
+  pub records : before.records + length log ≡ after.records
+  pub end : end_after before.end.0 log ≡ after.end.0
 
 abbrev pub BreaksOff : PathValue → ℕ → List LogRecord → World → ReplayFault → Type 0
 BreaksOff root per_file records w e = IsFree e ⊎ (recorded (records_after root per_file records w) ≡ Err e)

@@ -26,6 +26,16 @@ pub(crate) fn begin_mark<F: Tree>(tree: &mut F, mark: &Path) -> Result<(), StepF
     begin(tree, mark, b"pg_walreplay 1\n")
 }
 
+// The bytes of a control file.
+fn control_bytes(control: &Control) -> [u8; 8192]
+    requires { IsControl control.now }
+    ensures { result ≡ control_bytes control.now }
+{
+    let mut bytes = [0; 8192];
+    write_control(control, &mut bytes);
+    bytes
+}
+
 // Writes over the control file.
 fn put_control<F: Tree>(tree: &mut F, path: Path, control: &Control) -> Result<(), PerformFault>
     requires { IsControl control.now }
@@ -36,8 +46,7 @@ fn put_control<F: Tree>(tree: &mut F, path: Path, control: &Control) -> Result<(
     ensures write_fault { IsErrOf result PerformFault.WriteFault →
         Rose (F.failed_changes tree.old) (F.failed_changes tree.new) }
 {
-    let mut bytes = [0u8; 8192];
-    write_control(control, &mut bytes);
+    let bytes = control_bytes(control);
     match overwrite(tree, &path, 0, &bytes) {
         Ok(()) => Ok(()),
         Err(fault) => Err(about(fault, path)),

@@ -1,7 +1,7 @@
 // The paths that a replay needs, made before its first change.
 ghost use Rattle.std.specs.Prelude.{◌≡◌, ◌≤◌, length, IfErr, IfOk};
-ghost use Rattle.clusters.specs.Roots.{wal_folder};
-ghost use Rattle.replay_core.specs.Replayed.{control_path, label_path, mark_of};
+ghost use Rattle.replay_core.specs.Replayed.{control_path};
+ghost use Rattle.replay_core.specs.Stages.{ArePaths};
 
 use cluster_tree::Path;
 use clusters::path_in;
@@ -21,10 +21,7 @@ impl Paths {
     /// Those below a root. Answers `OutOfMemory` only for want of memory.
     pub(crate) fn of(alloc: Global, root: &Path) -> Result<Paths, ReplayFault>
         requires { length root.now.parts ≤ 61 }
-        ensures mark { IfOk result (λ paths. paths.mark ≡ mark_of root.now) }
-        ensures control { IfOk result (λ paths. paths.control ≡ control_path root.now) }
-        ensures label { IfOk result (λ paths. paths.label ≡ label_path root.now) }
-        ensures log { IfOk result (λ paths. paths.log ≡ wal_folder root.now) }
+        ensures paths { IfOk result (ArePaths root.now) }
         ensures memory { IfErr result (λ e. e ≡ ReplayFault.OutOfMemory) }
     {
         Ok(Paths {

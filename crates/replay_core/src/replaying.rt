@@ -1,27 +1,27 @@
 // The public call that replays.
-ghost use Rattle.std.specs.Prelude.{◌≡◌, ◌≢◌, ◌⊎◌, ◌≤◌, [], length, Err, IfErr, IfOk, IsErrOf, IsTrue, Ok, is_ok};
+ghost use Rattle.std.specs.Prelude.{◌≡◌, ◌≢◌, ◌≤◌, ◌<◌, ◌^◌, [], length, Err, IfErr, IfOk, IsErrOf, IsTrue, is_ok};
 ghost use Rattle.cluster_tree.specs.Causes.{Rose};
 ghost use Rattle.cluster_tree.specs.Contents.{Contents};
 ghost use Rattle.cluster_tree.specs.Frame.{Came};
 ghost use Rattle.cluster_tree.specs.PathValue.{PathValue};
-ghost use Rattle.cluster_tree.specs.Run.{state_by};
+ghost use Rattle.cluster_tree.specs.Run.{State, state_by};
 ghost use Rattle.clusters.specs.Roots.{wal_folder};
 ghost use Rattle.control_file.specs.Admission.{IsControl};
 ghost use Rattle.file_edits.specs.Own.{OnOwn};
 ghost use Rattle.file_effects.specs.Own.{is_replayed};
 ghost use Rattle.storage_replay.specs.Files.{AreFit};
-ghost use Rattle.replay_profile.specs.Profile.{first_outside};
 ghost use Rattle.wal_base.specs.Segment.{bytes_of};
-ghost use Rattle.wal_records.specs.Cursor.{Knows};
+ghost use Rattle.wal_records.specs.Cursor.{Knows, going_on_at, to_come};
 ghost use Rattle.wal_records.specs.Further.{pages_of};
-ghost use Rattle.wal_records.specs.Log.{end_after, log_of};
-ghost use Rattle.replay_start.specs.Checked.{IsStart, Start, start_of};
-ghost use Rattle.replay_world.specs.Records.{records_after};
-ghost use Rattle.replay_world.specs.World.{World, world_of};
-ghost use Rattle.replay_core.specs.Faults.{IsFree};
-ghost use Rattle.replay_core.specs.Replayed.{after_replay, closed_or, first_world, replayed_from};
+ghost use Rattle.wal_records.specs.Log.{log_of};
+ghost use Rattle.wal_records.specs.Place.{place_at};
+ghost use Rattle.replay_start.specs.Checked.{start_of};
+ghost use Rattle.replay_start.specs.declared.fault.ReplayFault.{ReplayFault};
+ghost use Rattle.replay_world.specs.World.{world_of};
+ghost use Rattle.replay_core.specs.Replayed.{after_replay, closed_or, first_world, replayed_into};
+ghost use Rattle.replay_core.specs.Stages.{ArePaths, HasLog, IsChecked, Stand, records_in, start_in};
 ghost use Rattle.replay_core.specs.Steps.{IsReplayedLog};
-ghost use Rattle.replay_core.specs.Went.{IsAfter, IsCause, Ran, RanRecords, Went};
+ghost use Rattle.replay_core.specs.Went.{Answers, IsAfter, IsCause, RanRecords, Went, WentOn};
 
 use crate::closing::{begin_mark, close};
 use crate::faults::of_perform;
@@ -30,12 +30,27 @@ use crate::paths::Paths;
 use crate::running::{Count, Room, replay_all};
 use block_refs::Parts;
 use cluster_tree::{Path, Tree};
+use control_file::Control;
 use marked_runs::about;
 use page_layout::Page;
 use replay_control::control_left;
 use replay_start::{Checked, ReplayFault, check};
 use replay_world::{Files, Replaying, Skipped};
 use std::alloc::Global;
+use wal_base::Lsn;
+use wal_records::RecordCursor;
+
+// Puts a cursor before the first record from a position on.
+fn go_back(cursor: &mut RecordCursor, at: u64)
+    ensures value { cursor.new
+        ≡ going_on_at cursor.old (place_at (bytes_of cursor.old.log.size) at) }
+    ensures within { cursor.new.place < 2 ^ 64 }
+    ensures starts { (contents : Contents) → to_come cursor.new contents
+        ≡ log_of (pages_of cursor.old.log contents) (bytes_of cursor.old.log.size) at }
+    ensures knows { (contents : Contents) → Knows cursor.old contents → Knows cursor.new contents }
+{
+    cursor.go_to(Lsn(at));
+}
 
 // Replays the whole log under the mark, and tells what was replayed.
 fn replay_log<F: Tree>(
@@ -49,16 +64,9 @@ fn replay_log<F: Tree>(
     requires fit { AreFit world.old.files }
     requires folder { checked.old.cursor.log.folder ≡ wal_folder world.old.files.root }
     requires control { IsControl world.old.control }
-    requires knows { IsTrue F.tells → Knows checked.old.cursor (F.contents tree.old) }
-    requires taken { IsTrue F.tells → first_outside (log_of
-        (pages_of checked.old.cursor.log (F.contents tree.old))
-        (bytes_of checked.old.cursor.log.size) checked.old.label.start.0).records ≡ None }
-    requires ends { IsTrue F.tells → checked.old.end.0 ≡ end_after checked.old.label.start.0 (log_of
-        (pages_of checked.old.cursor.log (F.contents tree.old))
-        (bytes_of checked.old.cursor.log.size) checked.old.label.start.0).records }
+    requires log { IsTrue F.tells → HasLog checked.old (F.contents tree.old) }
     ensures all { IsTrue F.tells → IsReplayedLog world.old.files.root world.old.files.per_file
-        checked.old.label.start.0 (log_of (pages_of checked.old.cursor.log (F.contents tree.old))
-        (bytes_of checked.old.cursor.log.size) checked.old.label.start.0).records
+        checked.old.label.start.0 (records_in checked.old (F.contents tree.old))
         (world_of (F.contents tree.old) world.old) (world_of (F.contents tree.new) world.new) result }
     ensures files { world.new.files ≡ world.old.files }
     ensures control { IsControl world.new.control }
@@ -72,7 +80,7 @@ fn replay_log<F: Tree>(
     ensures changed { IsTrue F.tells → (p : PathValue) → result ≢ Err (ReplayFault.Changed p) }
 {
     let cursor = &mut checked.cursor;
-    cursor.go_to(checked.label.start);
+    go_back(cursor, checked.label.start.0);
     let mut count = Count {
         records: 0,
         end: checked.label.start,
@@ -93,6 +101,18 @@ fn finish<F: Tree>(
     count: Count,
 ) -> Result<Replayed, ReplayFault>
     requires control { IsControl world.control }
+    requires paths { ArePaths world.files.root paths }
+    requires stand { IsTrue F.tells → Stand (F.contents tree.old) world.files.root }
+    ensures exact { IsTrue F.tells → Answers (closed_or world.files.root tli count.records count.end.0
+        (world_of (F.contents tree.old) world)) (F.contents tree.new) result }
+    ensures went { IsTrue F.tells → (marked : State) →
+        RanRecords world.files.root marked (state_by F.contents F.calls tree.old) →
+        WentOn world.files.root marked (state_by F.contents F.calls tree.new) (is_ok result) }
+    ensures frame { Came F.Tree tree.old tree.new }
+    ensures read_fault { result ≢ Err ReplayFault.ReadFault }
+    ensures write_fault { IsErrOf result ReplayFault.WriteFault →
+        Rose (F.failed_changes tree.old) (F.failed_changes tree.new) }
+    ensures changed { IsTrue F.tells → (p : PathValue) → result ≢ Err (ReplayFault.Changed p) }
 {
     if let Some(name) = world.skipped.least() {
         return Err(ReplayFault::MissingPage(name));
@@ -113,14 +133,62 @@ fn replay_marked<F: Tree>(
     mut world: Replaying,
     mut room: Room,
 ) -> Result<Replayed, ReplayFault>
-    requires control { IsControl checked.control }
+    requires fit { AreFit world.files }
+    requires per_file { world.files.per_file ≡ checked.control.relseg }
+    requires folder { checked.cursor.log.folder ≡ wal_folder world.files.root }
+    requires control { IsControl world.control }
+    requires paths { ArePaths world.files.root paths }
+    requires log { IsTrue F.tells → HasLog checked (F.contents tree.old) }
+    requires stand { IsTrue F.tells → Stand (F.contents tree.old) world.files.root }
+    ensures exact { IsTrue F.tells → Answers (replayed_into world.files.root
+        (start_in checked (F.contents tree.old)) (world_of (F.contents tree.old) world))
+        (F.contents tree.new) result }
+    ensures went { IsTrue F.tells → WentOn world.files.root
+        (state_by F.contents F.calls tree.old) (state_by F.contents F.calls tree.new) (is_ok result) }
+    ensures frame { Came F.Tree tree.old tree.new }
+    ensures read_fault { IsErrOf result ReplayFault.ReadFault →
+        Rose (F.failed_reads tree.old) (F.failed_reads tree.new) }
+    ensures write_fault { IsErrOf result ReplayFault.WriteFault →
+        Rose (F.failed_changes tree.old) (F.failed_changes tree.new) }
+    ensures changed { IsTrue F.tells → (p : PathValue) → result ≢ Err (ReplayFault.Changed p) }
 {
     let tli = checked.control.timeline();
     let count = replay_log(alloc, tree, &paths.log, &mut checked, &mut world, &mut room)?;
     finish(tree, paths, world, tli, count)
 }
 
-// Carries out a replay that was checked.
+// What a replay keeps beside the files, before the first record.
+fn world_at(alloc: Global, root: &Path, control: Control) -> Result<Replaying, ReplayFault>
+    requires room { length root.now.parts ≤ 61 }
+    requires control { IsControl control }
+    ensures root { IfOk result (λ world. world.files.root ≡ root.now) }
+    ensures per_file { IfOk result (λ world. world.files.per_file ≡ control.relseg) }
+    ensures fit { IfOk result (λ world. AreFit world.files) }
+    ensures control { IfOk result (λ world. world.control ≡ control) }
+    ensures skipped { IfOk result (λ world. world.skipped ≡ []) }
+    ensures memory { IfErr result (λ e. e ≡ ReplayFault.OutOfMemory) }
+{
+    Ok(Replaying {
+        files: Files {
+            root: root.copy(alloc)?,
+            per_file: control.relseg,
+        },
+        control,
+        skipped: Skipped::new(alloc),
+    })
+}
+
+// Room for one record.
+fn room(alloc: Global) -> Result<Room, ReplayFault>
+    ensures memory { IfErr result (λ e. e ≡ ReplayFault.OutOfMemory) }
+{
+    Ok(Room {
+        parts: Parts::new(),
+        page: Page::zero(alloc)?,
+    })
+}
+
+// Carries out a replay that was checked: the memory that it needs of its own is taken before the mark.
 fn replay_checked<F: Tree>(
     alloc: Global,
     tree: &mut F,
@@ -129,21 +197,24 @@ fn replay_checked<F: Tree>(
 ) -> Result<Replayed, ReplayFault>
     requires room { length root.now.parts ≤ 61 }
     requires control { IsControl checked.control }
+    requires folder { checked.cursor.log.folder ≡ wal_folder root.now }
+    requires checked { IsTrue F.tells → IsChecked (F.contents tree.old) root.now checked }
+    ensures exact { IsTrue F.tells → Answers (replayed_into root.now
+        (start_in checked (F.contents tree.old))
+        (first_world (F.contents tree.old) root.now (start_in checked (F.contents tree.old))))
+        (F.contents tree.new) result }
+    ensures went { IsTrue F.tells → Went root.now (state_by F.contents F.calls tree.old)
+        (state_by F.contents F.calls tree.new) (is_ok result) }
+    ensures frame { Came F.Tree tree.old tree.new }
+    ensures read_fault { IsErrOf result ReplayFault.ReadFault →
+        Rose (F.failed_reads tree.old) (F.failed_reads tree.new) }
+    ensures write_fault { IsErrOf result ReplayFault.WriteFault →
+        Rose (F.failed_changes tree.old) (F.failed_changes tree.new) }
+    ensures changed { IsTrue F.tells → (p : PathValue) → result ≢ Err (ReplayFault.Changed p) }
 {
     let paths = Paths::of(alloc, root)?;
-    let page = Page::zero(alloc)?;
-    let world = Replaying {
-        files: Files {
-            root: root.copy(alloc)?,
-            per_file: checked.control.relseg,
-        },
-        control: checked.control,
-        skipped: Skipped::new(alloc),
-    };
-    let room = Room {
-        parts: Parts::new(),
-        page,
-    };
+    let world = world_at(alloc, root, checked.control)?;
+    let room = room(alloc)?;
     match begin_mark(tree, &paths.mark) {
         Ok(()) => replay_marked(alloc, tree, paths, checked, world, room),
         Err(fault) => Err(of_perform(about(fault, paths.mark))),
@@ -159,6 +230,7 @@ fn replay_checked<F: Tree>(
 /// entry that the record needs; and behind the last record `MissingPage` of the least block that was
 /// changed and wasn't there. From its first change on the mark stays, whatever the answer, but for a
 /// failure while it is made or removed. `Changed` never where the tree tells.
+#[tactic(auto, unfolding(crate::specs::Replayed::after_replay))]
 pub fn replay<F: Tree>(alloc: Global, tree: &mut F, root: &Path) -> Result<Replayed, ReplayFault>
     requires room { length root.now.parts ≤ 61 }
     // what is left is what is meant, and so is what is told of it

@@ -5,6 +5,7 @@ ghost use Rattle.cluster_tree.specs.Frame.{Reads};
 ghost use Rattle.cluster_tree.specs.PathValue.{PathValue};
 ghost use Rattle.control_file.specs.Admission.{IsControl};
 ghost use Rattle.clusters.specs.Marks.{unfinished};
+ghost use Rattle.clusters.specs.Roots.{wal_folder};
 ghost use Rattle.wal_base.specs.Segment.{bytes_of};
 ghost use Rattle.wal_records.specs.Cursor.{Knows};
 ghost use Rattle.wal_records.specs.Further.{pages_of};
@@ -29,12 +30,7 @@ use wal_records::RecordCursor;
 
 // What the end of a log and its checkpoint have to be.
 #[tactic(auto, using(cluster_tree::proofs::PointLemmas::points))]
-fn check_seen(
-    alloc: Global,
-    root: &Path,
-    control: &Control,
-    seen: Seen,
-) -> Result<(), ReplayFault>
+fn check_seen(alloc: Global, root: &Path, control: &Control, seen: Seen) -> Result<(), ReplayFault>
     ensures answer { Passes IsFree (first_of (ends_too_soon control.now.minRecoveryPoint seen.end.0
         ∷ unlabelled root.now seen.found ∷ [])) result }
     ensures read_fault { result ≢ Err ReplayFault.ReadFault }
@@ -102,6 +98,7 @@ fn check_label<F: Tree>(
     ensures knows { IsTrue F.tells →
         IfOk result (λ checked. Knows checked.cursor (F.contents tree.new)) }
     ensures control { IfOk result (λ checked. checked.control ≡ control) }
+    ensures folder { IfOk result (λ checked. checked.cursor.log.folder ≡ wal_folder root.now) }
     ensures reads { Reads F.Tree tree.old tree.new }
     ensures read_fault { IsErrOf result ReplayFault.ReadFault →
         Rose (F.failed_reads tree.old) (F.failed_reads tree.new) }
@@ -134,6 +131,7 @@ fn check_from<F: Tree>(
     ensures knows { IsTrue F.tells →
         IfOk result (λ checked. Knows checked.cursor (F.contents tree.new)) }
     ensures control { IfOk result (λ checked. checked.control ≡ control) }
+    ensures folder { IfOk result (λ checked. checked.cursor.log.folder ≡ wal_folder root.now) }
     ensures reads { Reads F.Tree tree.old tree.new }
     ensures read_fault { IsErrOf result ReplayFault.ReadFault →
         Rose (F.failed_reads tree.old) (F.failed_reads tree.new) }
@@ -162,6 +160,7 @@ pub fn check<F: Tree>(alloc: Global, tree: &mut F, root: &Path) -> Result<Checke
     ensures knows { IsTrue F.tells →
         IfOk result (λ checked. Knows checked.cursor (F.contents tree.new)) }
     ensures control { IfOk result (λ checked. IsControl checked.control) }
+    ensures folder { IfOk result (λ checked. checked.cursor.log.folder ≡ wal_folder root.now) }
     ensures unmarked { IsTrue F.tells →
         IfOk result (λ _. unfinished (F.contents tree.old) root.now ≡ None) }
     ensures reads { Reads F.Tree tree.old tree.new }

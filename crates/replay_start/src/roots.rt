@@ -8,6 +8,7 @@ ghost use Rattle.control_file.specs.Admission.{IsControl};
 ghost use Rattle.clusters.specs.Marks.{unfinished};
 ghost use Rattle.clusters.specs.RootControl.{control_at};
 ghost use Rattle.clusters.specs.RootHistory.{history_at};
+ghost use Rattle.clusters.specs.Roots.{wal_folder};
 ghost use Rattle.timeline_history.specs.Ancestor.{last_tli};
 ghost use Rattle.wal_records.specs.Cursor.{Knows};
 ghost use Rattle.replay_start.specs.Faults.{IsFree, of_cluster, told_by};
@@ -124,6 +125,7 @@ pub(crate) fn log_cursor(
     requires control { IsControl control.now }
     ensures log { IfOk result (λ cursor. log_with root.now control.now history.now
         ≡ Some cursor.log) }
+    ensures folder { IfOk result (λ cursor. cursor.log.folder ≡ wal_folder root.now) }
     ensures knows { IfOk result (λ cursor. (contents : Contents) → Knows cursor contents) }
     ensures memory { IfErr result (λ e. e ≡ ReplayFault.OutOfMemory) }
 {

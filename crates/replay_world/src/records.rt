@@ -93,7 +93,15 @@ pub fn replay_record<F: Tree>(
         result ≢ Err (RecordFault.File (FileFault.Changed p)) }
 {
     check_whole(rec, parts)?;
-    replay_blocks(alloc, tree, &world.files, &mut world.skipped, rec, parts, page)?;
+    replay_blocks(
+        alloc,
+        tree,
+        &world.files,
+        &mut world.skipped,
+        rec,
+        parts,
+        page,
+    )?;
     act_on_files(alloc, tree, &world.files, rec, parts)?;
     world.control = control_after(rec, parts, &world.control);
     world.skipped.forget(rec, parts);

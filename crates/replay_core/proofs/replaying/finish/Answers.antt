@@ -1,0 +1,44 @@
+use Rattle.std.proofs.Common.{◌≡◌, ◌∙◌, ap, inl, refl, sym, subst, Err}
+use Rattle.cluster_tree.specs.Run.{state_by}
+use Rattle.replay_control.specs.Following.{control_left}
+use Rattle.replay_start.specs.declared.fault.ReplayFault.TheVariants as fault
+use Rattle.replay_world.specs.World.{world_of}
+use Rattle.replay_core.specs.Faults.{IsFree}
+use Rattle.replay_core.specs.Went.{Closing, Replaying}
+use Rattle.replay_core.proofs.JoinLemmas.{changed-of, closed-ok, closing-ran, free-of, none-least}
+use Rattle.replay_core.proofs.replaying.finish.Goals as goal
+
+pub returns-in-Some-clause-went : goal.returns-in-Some-clause-went
+returns-in-Some-clause-went g c told marked ran = Replaying ran
+
+pub returns-in-Ok-clause-exact : goal.returns-in-Ok-clause-exact
+returns-in-Ok-clause-exact g c told =
+    let left = control_left c.args.tli c.args.count.end.0 c.args.world.control in
+    let ran = closing-ran g.F.Tree c.args.world.files.root c.args.paths left c.control_left.result _ _ _ c.requires.paths c.control_left.ensures.value told (c.requires.stand told) c.in-Ok.ensures.performs in
+    closed-ok c.args.world.files.root c.args.tli c.args.count.records c.args.count.end.0 (world_of (g.F.Tree.contents c.args.tree.now) c.args.world) _ _
+    (sym c.least.ensures ∙ none-least c.least.result c.in_default.not-Some) (ran.runs.after refl) refl refl refl
+
+pub returns-in-Ok-clause-went : goal.returns-in-Ok-clause-went
+returns-in-Ok-clause-went g c told marked records =
+    let left = control_left c.args.tli c.args.count.end.0 c.args.world.control in
+    let ran = closing-ran g.F.Tree c.args.world.files.root c.args.paths left c.control_left.result _ _ _ c.requires.paths c.control_left.ensures.value told (c.requires.stand told) c.in-Ok.ensures.performs in
+    Closing (state_by g.F.Tree.contents g.F.Tree.calls c.args.tree.now) left records ran.runs
+
+pub returns-clause-exact : goal.returns-clause-exact
+returns-clause-exact g c told =
+    let left = control_left c.args.tli c.args.count.end.0 c.args.world.control in
+    let ran = closing-ran g.F.Tree c.args.world.files.root c.args.paths left c.control_left.result _ _ _ c.requires.paths c.control_left.ensures.value told (c.requires.stand told) c.in-Err.ensures.performs in
+    inl (subst IsFree (sym c.of_perform.ensures) (free-of c.in-Err.fault (λ h. c.in-Err.ensures.read_fault (ap Err h)) (λ p h. ran.agreed p (ap Err h))))
+
+pub returns-clause-went : goal.returns-clause-went
+returns-clause-went g c told marked records =
+    let left = control_left c.args.tli c.args.count.end.0 c.args.world.control in
+    let ran = closing-ran g.F.Tree c.args.world.files.root c.args.paths left c.control_left.result _ _ _ c.requires.paths c.control_left.ensures.value told (c.requires.stand told) c.in-Err.ensures.performs in
+    Closing (state_by g.F.Tree.contents g.F.Tree.calls c.args.tree.now) left records ran.runs
+
+pub returns-clause-changed : goal.returns-clause-changed
+returns-clause-changed g c told p h =
+    let left = control_left c.args.tli c.args.count.end.0 c.args.world.control in
+    let ran = closing-ran g.F.Tree c.args.world.files.root c.args.paths left c.control_left.result _ _ _ c.requires.paths c.control_left.ensures.value told (c.requires.stand told) c.in-Err.ensures.performs in
+    let e : c.of_perform.result ≡ fault.Changed p = cc h in
+    ran.agreed p (ap Err (changed-of c.in-Err.fault p (sym c.of_perform.ensures ∙ e)))

@@ -1,0 +1,36 @@
+use Rattle.std.proofs.Common.{◌∙◌, ap, sym}
+use Rattle.std.proofs.lemmas.Result.{err_from_is_err_and}
+use Rattle.cluster_tree.specs.Run.{state_by}
+use Rattle.replay_core.specs.Replayed.{after_replay}
+use Rattle.replay_core.specs.Stages.{start_in}
+use Rattle.replay_core.proofs.JoinLemmas.{after-of, done-of, refused-of, went-nowhere}
+use Rattle.replay_core.proofs.StartedLemmas.{checked-by}
+use Rattle.replay_core.proofs.replaying.replay.Goals as goal
+
+pub returns-in_err-checked-clause-went : goal.returns-in_err-checked-clause-went
+returns-in_err-checked-clause-went g c told =
+    went-nowhere c.args.root.now (state_by g.F.Tree.contents g.F.Tree.calls c.args.tree.now) (state_by g.F.Tree.contents g.F.Tree.calls c.check.new.tree) c.from_residual.result _
+    (err_from_is_err_and c.from_residual.result c.from_residual.ensures.1).1 c.check.ensures.reads.uncalled c.check.ensures.reads.same
+
+pub replay_checked-requires-clause-checked : goal.replay_checked-requires-clause-checked
+replay_checked-requires-clause-checked g c told =
+    let before = g.F.Tree.contents c.args.tree.now in
+    let after = g.F.Tree.contents c.check.new.tree in
+    let checked = checked-by before after c.args.root.now c.in_ok-checked.checked c.check.ensures.reads.same (c.in_ok-checked.ensures.exact told) (c.in_ok-checked.ensures.knows told) in
+    checked
+
+pub returns-clause-done : goal.returns-clause-done
+returns-clause-done g c told =
+    let before = g.F.Tree.contents c.args.tree.now in
+    let after = g.F.Tree.contents c.check.new.tree in
+    let checked = checked-by before after c.args.root.now c.in_ok-checked.checked c.check.ensures.reads.same (c.in_ok-checked.ensures.exact told) (c.in_ok-checked.ensures.knows told) in
+    let meant = sym (after-of after c.args.root.now (start_in c.in_ok-checked.checked after) checked.start) ∙ ap (λ x. after_replay x c.args.root.now) c.check.ensures.reads.same in
+    done-of (after_replay before c.args.root.now) _ (g.F.Tree.contents c.replay_checked.new.tree) c.replay_checked.result meant (c.replay_checked.ensures.exact told)
+
+pub returns-clause-refused : goal.returns-clause-refused
+returns-clause-refused g c told =
+    let before = g.F.Tree.contents c.args.tree.now in
+    let after = g.F.Tree.contents c.check.new.tree in
+    let checked = checked-by before after c.args.root.now c.in_ok-checked.checked c.check.ensures.reads.same (c.in_ok-checked.ensures.exact told) (c.in_ok-checked.ensures.knows told) in
+    let meant = sym (after-of after c.args.root.now (start_in c.in_ok-checked.checked after) checked.start) ∙ ap (λ x. after_replay x c.args.root.now) c.check.ensures.reads.same in
+    refused-of (after_replay before c.args.root.now) _ (g.F.Tree.contents c.replay_checked.new.tree) c.replay_checked.result meant (c.replay_checked.ensures.exact told)

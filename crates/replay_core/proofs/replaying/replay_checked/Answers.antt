@@ -1,0 +1,89 @@
+use Rattle.std.proofs.Common.{◌≡◌, ◌∙◌, ap, inl, refl, subst, sym, Err}
+use Rattle.std.proofs.lemmas.Result.{err_from_is_err_and}
+use Rattle.std.specs.Prelude.{is_ok}
+use Rattle.cluster_tree.specs.Run.{state_by}
+use Rattle.replay_start.specs.declared.fault.ReplayFault.TheVariants as fault
+use Rattle.replay_world.specs.World.{world_of}
+use Rattle.replay_core.specs.Faults.{IsFree}
+use Rattle.replay_core.specs.Stages.{Stand, start_in}
+use Rattle.replay_core.specs.Went.{Answers, Begins, Marked, WentOn}
+use Rattle.replay_core.proofs.JoinLemmas.{about-changed, about-read, begun-ran, changed-of, first-meant, free-of, went-nowhere}
+use Rattle.replay_core.proofs.StartedLemmas.{mark-unrefused, under-mark}
+use Rattle.replay_core.proofs.replaying.replay_checked.Goals as goal
+
+pub returns-in_err-paths-clause-went : goal.returns-in_err-paths-clause-went
+returns-in_err-paths-clause-went g c told =
+    let now = state_by g.F.Tree.contents g.F.Tree.calls c.args.tree.now in
+    went-nowhere c.args.root.now now now c.from_residual.result _ (err_from_is_err_and c.from_residual.result c.from_residual.ensures.1).1 refl refl
+
+pub returns-in_err-world-clause-went : goal.returns-in_err-world-clause-went
+returns-in_err-world-clause-went g c told =
+    let now = state_by g.F.Tree.contents g.F.Tree.calls c.args.tree.now in
+    went-nowhere c.args.root.now now now c.from_residual-in_err-world.result _ (err_from_is_err_and c.from_residual-in_err-world.result c.from_residual-in_err-world.ensures.1).1 refl refl
+
+pub returns-in_err-room-clause-went : goal.returns-in_err-room-clause-went
+returns-in_err-room-clause-went g c told =
+    let now = state_by g.F.Tree.contents g.F.Tree.calls c.args.tree.now in
+    went-nowhere c.args.root.now now now c.from_residual-in_err-room.result _ (err_from_is_err_and c.from_residual-in_err-room.result c.from_residual-in_err-room.ensures.1).1 refl refl
+
+pub replay_marked-requires-clause-log : goal.replay_marked-requires-clause-log
+replay_marked-requires-clause-log g c told =
+    let before = g.F.Tree.contents c.args.tree.now in
+    let none = mark-unrefused before c.args.root.now c.args.checked (g.met.F.Tree.is_tree told c.args.tree.now) (c.requires.checked told) in
+    let ran = begun-ran g.F.Tree c.args.root.now c.in_ok-paths.paths.mark _ _ _ c.in_ok-paths.ensures.paths.mark told none c.in-Ok.ensures.carries in
+    let under = under-mark before (g.F.Tree.contents c.begin_mark.new.tree) c.args.root.now c.args.checked (c.requires.checked told) c.requires.folder (ran.runs.after refl) in
+    under.log
+
+pub replay_marked-requires-clause-stand : goal.replay_marked-requires-clause-stand
+replay_marked-requires-clause-stand g c told =
+    let before = g.F.Tree.contents c.args.tree.now in
+    let none = mark-unrefused before c.args.root.now c.args.checked (g.met.F.Tree.is_tree told c.args.tree.now) (c.requires.checked told) in
+    let ran = begun-ran g.F.Tree c.args.root.now c.in_ok-paths.paths.mark _ _ _ c.in_ok-paths.ensures.paths.mark told none c.in-Ok.ensures.carries in
+    let under = under-mark before (g.F.Tree.contents c.begin_mark.new.tree) c.args.root.now c.args.checked (c.requires.checked told) c.requires.folder (ran.runs.after refl) in
+    subst (λ p. Stand (g.F.Tree.contents c.begin_mark.new.tree) p) (sym c.in_ok-world.ensures.root) under.stand
+
+pub returns-in-Ok-clause-exact : goal.returns-in-Ok-clause-exact
+returns-in-Ok-clause-exact g c told =
+    let before = g.F.Tree.contents c.args.tree.now in
+    let none = mark-unrefused before c.args.root.now c.args.checked (g.met.F.Tree.is_tree told c.args.tree.now) (c.requires.checked told) in
+    let ran = begun-ran g.F.Tree c.args.root.now c.in_ok-paths.paths.mark _ _ _ c.in_ok-paths.ensures.paths.mark told none c.in-Ok.ensures.carries in
+    let under = under-mark before (g.F.Tree.contents c.begin_mark.new.tree) c.args.root.now c.args.checked (c.requires.checked told) c.requires.folder (ran.runs.after refl) in
+    let after = g.F.Tree.contents c.begin_mark.new.tree in
+    subst (λ m. Answers m (g.F.Tree.contents c.replay_marked.new.tree) c.replay_marked.result)
+    (first-meant c.args.root.now c.in_ok-world.world.files.root (start_in c.args.checked after) (start_in c.args.checked before) before (world_of after c.in_ok-world.world)
+    c.in_ok-world.ensures.root under.start (ran.runs.after refl) c.in_ok-world.ensures.control c.in_ok-world.ensures.skipped)
+    (c.replay_marked.ensures.exact told)
+
+pub returns-in-Ok-clause-went : goal.returns-in-Ok-clause-went
+returns-in-Ok-clause-went g c told =
+    let before = g.F.Tree.contents c.args.tree.now in
+    let none = mark-unrefused before c.args.root.now c.args.checked (g.met.F.Tree.is_tree told c.args.tree.now) (c.requires.checked told) in
+    let ran = begun-ran g.F.Tree c.args.root.now c.in_ok-paths.paths.mark _ _ _ c.in_ok-paths.ensures.paths.mark told none c.in-Ok.ensures.carries in
+    let marked = state_by g.F.Tree.contents g.F.Tree.calls c.begin_mark.new.tree in
+    let new = state_by g.F.Tree.contents g.F.Tree.calls c.replay_marked.new.tree in
+    Marked marked ran.runs (subst (λ p. WentOn p marked new (is_ok c.replay_marked.result)) c.in_ok-world.ensures.root (c.replay_marked.ensures.went told))
+
+pub returns-in-Err-clause-exact : goal.returns-in-Err-clause-exact
+returns-in-Err-clause-exact g c told =
+    let before = g.F.Tree.contents c.args.tree.now in
+    let none = mark-unrefused before c.args.root.now c.args.checked (g.met.F.Tree.is_tree told c.args.tree.now) (c.requires.checked told) in
+    let ran = begun-ran g.F.Tree c.args.root.now c.in_ok-paths.paths.mark _ _ _ c.in_ok-paths.ensures.paths.mark told none c.in-Err.ensures.carries in
+    let mark = c.in_ok-paths.paths.mark in
+    inl (subst IsFree (sym c.of_perform.ensures) (free-of c.about.result
+    (λ h. c.in-Err.ensures.read_fault (ap Err (about-read c.in-Err.fault mark (sym c.about.ensures ∙ h))))
+    (λ p h. ran.agreed (ap Err (about-changed c.in-Err.fault mark p (sym c.about.ensures ∙ h))))))
+
+pub returns-in-Err-clause-went : goal.returns-in-Err-clause-went
+returns-in-Err-clause-went g c told =
+    let before = g.F.Tree.contents c.args.tree.now in
+    let none = mark-unrefused before c.args.root.now c.args.checked (g.met.F.Tree.is_tree told c.args.tree.now) (c.requires.checked told) in
+    let ran = begun-ran g.F.Tree c.args.root.now c.in_ok-paths.paths.mark _ _ _ c.in_ok-paths.ensures.paths.mark told none c.in-Err.ensures.carries in
+    Begins ran.runs
+
+pub returns-in-Err-clause-changed : goal.returns-in-Err-clause-changed
+returns-in-Err-clause-changed g c told p h =
+    let before = g.F.Tree.contents c.args.tree.now in
+    let none = mark-unrefused before c.args.root.now c.args.checked (g.met.F.Tree.is_tree told c.args.tree.now) (c.requires.checked told) in
+    let ran = begun-ran g.F.Tree c.args.root.now c.in_ok-paths.paths.mark _ _ _ c.in_ok-paths.ensures.paths.mark told none c.in-Err.ensures.carries in
+    let e : c.of_perform.result ≡ fault.Changed p = cc h in
+    ran.agreed (ap Err (about-changed c.in-Err.fault c.in_ok-paths.paths.mark p (sym c.about.ensures ∙ changed-of c.about.result p (sym c.of_perform.ensures ∙ e))))

@@ -1,0 +1,32 @@
+use Rattle.std.proofs.Common.{ap, subst, sym}
+use Rattle.std.proofs.lemmas.Result.{err_from_is_err_and}
+use Rattle.std.specs.Prelude.{is_ok}
+use Rattle.cluster_tree.specs.Run.{state_by}
+use Rattle.storage_replay.specs.declared.files.Files.{Files}
+use Rattle.replay_core.specs.Stages.{Stand}
+use Rattle.replay_core.specs.Went.{RanRecords, Replaying, WentOn}
+use Rattle.replay_core.proofs.JoinLemmas.{ran-records, still-stand, went-broken}
+use Rattle.replay_core.proofs.replaying.replay_marked.Goals as goal
+
+pub returns-in_err-count-clause-went : goal.returns-in_err-count-clause-went
+returns-in_err-count-clause-went g c told =
+    let ran = ran-records g.F.Tree c.args.world.files.root c.args.tree.now c.replay_log.new.tree c.replay_log.ensures.frame (c.replay_log.ensures.own told) in
+    went-broken c.args.world.files.root (state_by g.F.Tree.contents g.F.Tree.calls c.args.tree.now) (state_by g.F.Tree.contents g.F.Tree.calls c.replay_log.new.tree) c.from_residual.result _
+    (err_from_is_err_and c.from_residual.result c.from_residual.ensures.1).1 (Replaying ran)
+
+pub finish-requires-clause-stand : goal.finish-requires-clause-stand
+finish-requires-clause-stand g c told =
+    let old = state_by g.F.Tree.contents g.F.Tree.calls c.args.tree.now in
+    let new = state_by g.F.Tree.contents g.F.Tree.calls c.replay_log.new.tree in
+    let ran = ran-records g.F.Tree c.args.world.files.root c.args.tree.now c.replay_log.new.tree c.replay_log.ensures.frame (c.replay_log.ensures.own told) in
+    subst (λ p. Stand (g.F.Tree.contents c.replay_log.new.tree) p) (sym (ap (λ (f : Files). f.root) c.replay_log.ensures.files))
+    (still-stand c.args.world.files.root old new ran (c.requires.stand told))
+
+pub returns-clause-went : goal.returns-clause-went
+returns-clause-went g c told =
+    let old = state_by g.F.Tree.contents g.F.Tree.calls c.args.tree.now in
+    let late = state_by g.F.Tree.contents g.F.Tree.calls c.replay_log.new.tree in
+    let new = state_by g.F.Tree.contents g.F.Tree.calls c.finish.new.tree in
+    let ran = ran-records g.F.Tree c.args.world.files.root c.args.tree.now c.replay_log.new.tree c.replay_log.ensures.frame (c.replay_log.ensures.own told) in
+    let same = ap (λ (f : Files). f.root) c.replay_log.ensures.files in
+    subst (λ p. WentOn p old new (is_ok c.finish.result)) same (c.finish.ensures.went told old (subst (λ p. RanRecords p old late) (sym same) ran))
