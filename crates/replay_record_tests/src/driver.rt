@@ -94,7 +94,11 @@ pub fn check<R: AllocGlobal + Abort>(rt: &R, call: Call, text: &str) -> Result<(
             let (rec, had) = cut_at(row, ": ");
             let (told, then) = cut_at(meant, ": ");
             let mut tree = tree_of(alloc, had)?;
-            assert_eq!(rt; answer(alloc, &mut tree, call, rec)?.as_str(), told, "{line}");
+            assert_eq!(rt;
+                answer(alloc, &mut tree, call, rec)?.as_str(),
+                told,
+                "{line}"
+            );
             for fact in then.split(", ") {
                 assert!(rt; is_so(alloc, &mut tree, fact)?, "{line} has not {fact}");
             }
