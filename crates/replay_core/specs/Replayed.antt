@@ -1,4 +1,5 @@
--- What a replay leaves: PostgreSQL 16, src/backend/access/transam/xlogrecovery.c, PerformWalRecovery; xlogutils.c, XLogCheckInvalidPages. Own: "A replay, in order".
+-- What a replay leaves: PostgreSQL 16, src/backend/access/transam/xlogrecovery.c, PerformWalRecovery; xlogutils.c, XLogCheckInvalidPages.
+-- Own: "A replay, in order".
 use Rattle.std.specs.Prelude.{ℕ, List, [], ◌∷◌, length, codes, Option, option_map, Result, Ok}
 use Rattle.block_refs.specs.declared.names.BlockName.{BlockName}
 use Rattle.cluster_tree.specs.Causes.{given, unless}

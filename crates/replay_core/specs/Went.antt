@@ -22,7 +22,8 @@ pub record RanRecords (root : PathValue) (old new : State) : Type 0 where
   pub own : GoesOn (is_replayed root) old.calls new.calls
   pub elsewhere : (path : PathValue) → is_replayed root path ≡ false → entry_at new.contents path ≡ entry_at old.contents path
 
--- Under the mark records were replayed, and no more; or the changes at the end were begun behind them, and all are done where the replay is.
+-- Under the mark calls were made for records, if any, and for nothing else; or the changes at the end were begun behind them, and all of these are done
+-- where the replay is.
 pub data WentOn (root : PathValue) (marked : State) : State → (done : Bool) → Type 0 where
   Replaying : {new : State} → RanRecords root marked new → WentOn root marked new false
   Closing : {new : State} {done : Bool} (late : State) (control : Control) → RanRecords root marked late → Ran (closing root control) late new done

@@ -229,7 +229,8 @@ fn replay_checked<F: Tree>(
 /// meets it `RedoFailed`, or `Link`, `NotFolder`, `KindsDiffer`, `NameNotText` and `TooDeep` for an
 /// entry that the record needs; and behind the last record `MissingPage` of the least block that was
 /// changed and wasn't there. From its first change on the mark stays, whatever the answer, but for a
-/// failure while it is made or removed. `Changed` never where the tree tells.
+/// failure while it is made or removed. `ReadFault`, `WriteFault` and `OutOfMemory` may come at any
+/// point, and `Changed` never where the tree tells.
 #[tactic(auto, unfolding(crate::specs::Replayed::after_replay))]
 pub fn replay<F: Tree>(alloc: Global, tree: &mut F, root: &Path) -> Result<Replayed, ReplayFault>
     requires room { length root.now.parts ≤ 61 }
