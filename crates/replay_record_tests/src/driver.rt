@@ -1,5 +1,6 @@
 //! Runs the rows of a text. README.md has their form.
 ghost use Rattle.std.specs.Prelude.{IfOk};
+ghost use Rattle.block_refs.specs.Parts.{ArePartsOf};
 ghost use Rattle.storage_replay.specs.Files.{AreFit};
 
 use crate::logs::cursor_over;
@@ -59,7 +60,9 @@ fn done(
     call: Call,
     rec: &Record,
     parts: &Parts,
-) -> Result<String, Fail> {
+) -> Result<String, Fail>
+    requires { ArePartsOf rec.now parts.now }
+{
     let at = files(alloc, call)?;
     let mut skipped = Skipped::new(alloc);
     if call == Call::Files {
