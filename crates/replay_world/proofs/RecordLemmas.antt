@@ -1,1 +1,0 @@
--- What a record leaves, from what its parts leave.
