@@ -14,5 +14,5 @@ pub use laws::{
     add_respects, edit_respects, empty_line_respects, heap_shown, heap_steps_keep, prune_respects,
     trims_alike, tuple_changes, unshown,
 };
-pub use operations::{refusing_respects, steps_are_an_operation};
+pub use operations::steps_are_an_operation;
 pub use views::{a_deletion_keeps_the_others, an_addition_keeps_the_others, pack_keeps_items};
