@@ -3,10 +3,11 @@ ghost use Rattle.std.specs.Prelude.{◌≡◌, ◌∷◌, []};
 ghost use Rattle.cluster_tree.specs.Tree.{Counts, RefusesOnly, file_faults, make_faults, range_faults, remove_faults};
 
 use crate::changed::Changed;
+use crate::kept::Kept;
 use crate::listing::list_at;
 use crate::opened::{Access, Opened};
 use crate::removing::remove_at;
-use crate::seen::{Seen, check_room, seen_at, size_at};
+use crate::seen::{Seen, check_room, seen_at};
 use cluster_tree::{Kind, Names, Path, Tree, TreeFault};
 use std::alloc::Global;
 use std::fs::{DirBuilder, File};
@@ -20,16 +21,17 @@ const FOLDER_MODE: u32 = 0o700;
 
 /// The machine's files. Paths that are not absolute begin in the current folder.
 ///
-/// It keeps the file that was used last open, reads and writes by position, and looks at each part
+/// It keeps the files that were used last open, reads and writes by position, and looks at each part
 /// of a path before it opens it, so that it follows no link that was there; a change between the
-/// look and the opening is outside what is claimed. It remembers what was changed since the last
-/// sync, which a sync makes durable, the entries of folders too. Want of memory counts as a failure,
-/// but for `list`.
+/// look and the opening is outside what is claimed. The file of the last read or write is used again
+/// without a look, and another that is open where it is at its path still. It remembers what was
+/// changed since the last sync, which a sync makes durable, the entries of folders too. Want of memory
+/// counts as a failure, but for `list`.
 #[derive(Drop)]
 pub struct DirTree<R> {
     rt: R,
     alloc: Global,
-    opened: Option<Opened>,
+    kept: Kept,
     changed: Changed,
     failed_reads: u64,
     failed_changes: u64,
@@ -52,7 +54,7 @@ impl<R: Files<File = File> + AllocGlobal + Clone + Drop> DirTree<R> {
         DirTree {
             rt,
             alloc,
-            opened: None,
+            kept: Kept::new(alloc),
             changed: Changed::new(alloc),
             failed_reads: 0,
             failed_changes: 0,
@@ -72,51 +74,31 @@ fn kind_at<R: Files>(rt: &R, alloc: Global, path: &Path) -> Result<Kind, TreeFau
     }
 }
 
-// Keeps the file at a path open for this access, if it isn't.
-fn keep<R: Files<File = File>>(
-    rt: &R,
-    alloc: Global,
-    kept: &mut Option<Opened>,
-    path: &Path,
-    access: Access,
-) -> Result<(), TreeFault>
-    ensures { RefusesOnly file_faults result }
-{
-    let serves = match kept {
-        Some(opened) => opened.serves(path, access),
-        None => false,
-    };
-    if !serves {
-        *kept = Some(Opened::new(rt, alloc, path, access)?);
-    }
-    Ok(())
-}
-
 // Fills `into` from the file that is kept open.
-fn read_kept(kept: &Option<Opened>, at: u64, into: &mut [u8]) -> Result<(), TreeFault>
+fn read_kept(kept: &Kept, at: u64, into: &mut [u8]) -> Result<(), TreeFault>
     ensures { RefusesOnly (TreeFault.PastEnd ∷ []) result }
 {
-    match kept {
+    match kept.last() {
         Some(opened) => opened.read(at, into),
         None => Err(TreeFault::Failed),
     }
 }
 
 // Writes to the file that is kept open.
-fn write_kept(kept: &Option<Opened>, at: u64, bytes: &[u8]) -> Result<(), TreeFault>
+fn write_kept(kept: &Kept, at: u64, bytes: &[u8]) -> Result<(), TreeFault>
     ensures { RefusesOnly (TreeFault.PastEnd ∷ []) result }
 {
-    match kept {
+    match kept.last() {
         Some(opened) => opened.write(at, bytes),
         None => Err(TreeFault::Failed),
     }
 }
 
 // Cuts the file that is kept open.
-fn cut_kept(kept: &Option<Opened>, size: u64) -> Result<(), TreeFault>
+fn cut_kept(kept: &Kept, size: u64) -> Result<(), TreeFault>
     ensures { RefusesOnly (TreeFault.PastEnd ∷ []) result }
 {
-    match kept {
+    match kept.last() {
         Some(opened) => opened.cut(size),
         None => Err(TreeFault::Failed),
     }
@@ -126,13 +108,13 @@ fn cut_kept(kept: &Option<Opened>, size: u64) -> Result<(), TreeFault>
 fn keep_changed<R: Files<File = File>>(
     rt: &R,
     alloc: Global,
-    kept: &mut Option<Opened>,
+    kept: &mut Kept,
     changed: &mut Changed,
     path: &Path,
 ) -> Result<(), TreeFault>
     ensures { RefusesOnly file_faults result }
 {
-    keep(rt, alloc, kept, path, Access::Write)?;
+    kept.open(rt, alloc, path, Access::Write)?;
     changed.note(alloc, path)
 }
 
@@ -178,7 +160,7 @@ fn folder_at<R: Files>(
 fn make<R: Files<File = File>>(
     rt: &R,
     alloc: Global,
-    kept: &mut Option<Opened>,
+    kept: &mut Kept,
     changed: &mut Changed,
     path: &Path,
 ) -> Result<(), TreeFault>
@@ -186,8 +168,8 @@ fn make<R: Files<File = File>>(
 {
     check_room(rt, alloc, path)?;
     changed.note_entry(alloc, path)?;
-    *kept = Some(Opened::make(rt, alloc, path)?);
-    Ok(())
+    kept.make_room()?;
+    kept.add(Opened::make(rt, alloc, path)?)
 }
 
 impl<R: Files<File = File> + AllocGlobal + Clone + Drop> Tree for DirTree<R> {
@@ -218,38 +200,38 @@ impl<R: Files<File = File> + AllocGlobal + Clone + Drop> Tree for DirTree<R> {
     }
 
     fn size(&mut self, path: &Path) -> Result<u64, TreeFault> {
-        let answer = size_at(&self.rt, self.alloc, path);
+        let answer = self.kept.size(&self.rt, self.alloc, path);
         counted(&mut self.failed_reads, answer)
     }
 
     fn read_at(&mut self, path: &Path, at: u64, into: &mut [u8]) -> Result<(), TreeFault> {
-        let answer = match keep(&self.rt, self.alloc, &mut self.opened, path, Access::Read) {
-            Ok(()) => read_kept(&self.opened, at, into),
+        let answer = match self.kept.open(&self.rt, self.alloc, path, Access::Read) {
+            Ok(()) => read_kept(&self.kept, at, into),
             Err(fault) => Err(fault),
         };
         counted(&mut self.failed_reads, answer)
     }
 
     fn write_at(&mut self, path: &Path, at: u64, bytes: &[u8]) -> Result<(), TreeFault> {
-        let kept = &mut self.opened;
+        let kept = &mut self.kept;
         let answer = match keep_changed(&self.rt, self.alloc, kept, &mut self.changed, path) {
-            Ok(()) => write_kept(&self.opened, at, bytes),
+            Ok(()) => write_kept(&self.kept, at, bytes),
             Err(fault) => Err(fault),
         };
         counted(&mut self.failed_changes, answer)
     }
 
     fn cut(&mut self, path: &Path, size: u64) -> Result<(), TreeFault> {
-        let kept = &mut self.opened;
+        let kept = &mut self.kept;
         let answer = match keep_changed(&self.rt, self.alloc, kept, &mut self.changed, path) {
-            Ok(()) => cut_kept(&self.opened, size),
+            Ok(()) => cut_kept(&self.kept, size),
             Err(fault) => Err(fault),
         };
         counted(&mut self.failed_changes, answer)
     }
 
     fn make_file(&mut self, path: &Path) -> Result<(), TreeFault> {
-        let kept = &mut self.opened;
+        let kept = &mut self.kept;
         let answer = make(&self.rt, self.alloc, kept, &mut self.changed, path);
         counted(&mut self.failed_changes, answer)
     }
@@ -260,7 +242,7 @@ impl<R: Files<File = File> + AllocGlobal + Clone + Drop> Tree for DirTree<R> {
     }
 
     fn remove(&mut self, path: &Path) -> Result<(), TreeFault> {
-        self.opened = None;
+        self.kept.close();
         let answer = remove_noted(&self.rt, self.alloc, &mut self.changed, path);
         counted(&mut self.failed_changes, answer)
     }

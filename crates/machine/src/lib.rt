@@ -3,6 +3,8 @@
 
 mod changed;
 mod dir_tree;
+mod entry;
+mod kept;
 mod listing;
 mod opened;
 mod removing;

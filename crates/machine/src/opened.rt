@@ -1,7 +1,8 @@
-// The file that was used last, which stays open.
+// An open file.
 ghost use Rattle.std.specs.Prelude.{◌≡◌, ◌∷◌, []};
 ghost use Rattle.cluster_tree.specs.Tree.{RefusesOnly, file_faults};
 
+use crate::entry::Entry;
 use crate::seen::size_at;
 use cluster_tree::{Path, TreeFault};
 use std::alloc::Global;
@@ -24,22 +25,63 @@ pub(crate) enum Access {
     Write,
 }
 
-/// An open file, with its path and what it was opened for.
+/// An open file, with its path, the path's text, what it was opened for, and which file it is.
 #[derive(Drop)]
 pub(crate) struct Opened {
     path: Path,
+    text: String,
     access: Access,
     file: File,
+    entry: Entry,
 }
 
+fn last_part(path: &Path) -> Option<&str> {
+    path.part(path.len().saturating_sub(1))
+}
+
+// The last parts are compared first: most paths differ there.
 fn same_path(a: &Path, b: &Path) -> bool {
-    a.holds(b) && b.holds(a)
+    a.len() == b.len() && last_part(a) == last_part(b) && a.holds(b)
 }
 
 impl Opened {
-    /// Whether it is this file, and may be used so.
-    pub(crate) fn serves(&self, path: &Path, access: Access) -> bool {
-        same_path(&self.path, path) && (self.access == Access::Write || access == Access::Read)
+    /// Whether it was opened at this path.
+    pub(crate) fn is_at(&self, path: &Path) -> bool {
+        same_path(&self.path, path)
+    }
+
+    /// Whether it may be used so.
+    pub(crate) fn serves(&self, access: Access) -> bool {
+        self.access == Access::Write || access == Access::Read
+    }
+
+    /// Its size, where it is at its path still. The system knows it by its numbers, which no other file
+    /// has while it is open; so where a link was put on the way, it leads to this very file.
+    pub(crate) fn size_there<R: Files>(&self, rt: &R) -> Option<u64> {
+        self.entry.size_at(rt, self.text.as_str())
+    }
+
+    // Memory is taken before the file is opened, which may make it.
+    fn by<R: Files<File = File>>(
+        rt: &R,
+        alloc: Global,
+        path: &Path,
+        access: Access,
+        options: &OpenOptions,
+    ) -> io::Result<Opened> {
+        let text = format!(in alloc; "{path}")?;
+        let Ok(path) = path.copy(alloc) else {
+            return Err(ErrorKind::OutOfMemory.into());
+        };
+        let file = options.open(rt, text.as_str())?;
+        let entry = Entry::of(&file)?;
+        Ok(Opened {
+            path,
+            text,
+            access,
+            file,
+            entry,
+        })
     }
 
     fn open<R: Files<File = File>>(
@@ -48,14 +90,9 @@ impl Opened {
         path: &Path,
         access: Access,
     ) -> io::Result<Opened> {
-        let text = format!(in alloc; "{path}")?;
         let mut options = OpenOptions::new();
         options.read(true).write(access == Access::Write);
-        let file = options.open(rt, text.as_str())?;
-        let Ok(path) = path.copy(alloc) else {
-            return Err(ErrorKind::OutOfMemory.into());
-        };
-        Ok(Opened { path, access, file })
+        Opened::by(rt, alloc, path, access, &options)
     }
 
     /// Opens the file at a path, of which each part was looked at before.
@@ -75,19 +112,10 @@ impl Opened {
     }
 
     fn create<R: Files<File = File>>(rt: &R, alloc: Global, path: &Path) -> io::Result<Opened> {
-        let text = format!(in alloc; "{path}")?;
-        let Ok(path) = path.copy(alloc) else {
-            return Err(ErrorKind::OutOfMemory.into());
-        };
         let mut options = OpenOptions::new();
         options.read(true).write(true).create_new(true);
         options.mode(FILE_MODE);
-        let file = options.open(rt, text.as_str())?;
-        Ok(Opened {
-            path,
-            access: Access::Write,
-            file,
-        })
+        Opened::by(rt, alloc, path, Access::Write, &options)
     }
 
     /// Makes an empty file where there was room for it.

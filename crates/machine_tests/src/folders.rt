@@ -2,6 +2,7 @@
 use crate::calls::check;
 use cluster_tree::Path;
 use machine::DirTree;
+use std::fs::OpenOptions;
 use std::os::unix::fs::{MetadataExt, symlink};
 use std::test::Fail;
 use std::{env, fs, process};
@@ -102,6 +103,80 @@ fn folders_of_the_machine_are_listed_and_emptied(rt: HostRuntime) -> Result<(), 
     check(&rt, alloc, &mut tree, &folder, FOLDERS)?;
     make_link(&rt, &text)?;
     check(&rt, alloc, &mut tree, &folder, EMPTIED)?;
+    fs::remove_dir_all(&rt, text.as_str())?;
+    Ok(())
+}
+
+// Four files, which all stay open.
+const MADE: &str = "\
+folder .|ok
+folder d|ok
+folder e|ok
+file d/a|ok
+write d/a 0 first|ok
+file e/a|ok
+write e/a 0 other!|ok
+file b|ok
+write b 0 second|ok
+file c|ok
+write c 0 third|ok
+read d/a 0|firs
+read c 0|thir";
+
+// Someone else has put b in the place of a, and cut c.
+const REPLACED: &str = "\
+size d/a|6
+read d/a 0|seco
+size c|2
+write c 2 ese|ok
+read d/a 2|cond
+kind b|it is Absent
+file b|ok
+read b 0|PastEnd
+read c 0|thes";
+
+// A link to the folder e stands in the place of d.
+const LINKED: &str = "\
+size d/a|Absent
+read d/a 0|Absent
+write d/a 0 x|Absent
+read e/a 0|othe";
+
+// Puts b in the place of d/a, and shortens c, as another program would.
+fn replace_files(rt: &HostRuntime, text: &str) -> Result<(), Fail> {
+    let from = format!(in rt.alloc(); "{text}/b")?;
+    let to = format!(in rt.alloc(); "{text}/d/a")?;
+    fs::rename(rt, from.as_str(), to.as_str())?;
+    let cut = format!(in rt.alloc(); "{text}/c")?;
+    OpenOptions::new()
+        .write(true)
+        .open(rt, cut.as_str())?
+        .set_len(2)?;
+    Ok(())
+}
+
+// Puts a link to e in the place of d.
+fn replace_folder(rt: &HostRuntime, text: &str) -> Result<(), Fail> {
+    let from = format!(in rt.alloc(); "{text}/d")?;
+    let to = format!(in rt.alloc(); "{text}/moved")?;
+    fs::rename(rt, from.as_str(), to.as_str())?;
+    let led = format!(in rt.alloc(); "{text}/e")?;
+    symlink(rt, led.as_str(), from.as_str())?;
+    Ok(())
+}
+
+// Files that stay open are not taken for what stands at their paths.
+#[test]
+fn what_others_put_in_the_place_of_open_files_is_seen(rt: HostRuntime) -> Result<(), Fail> {
+    let alloc = rt.alloc();
+    let text = fresh_folder(&rt, "replaced")?;
+    let folder = Path::parse(alloc, &text)?;
+    let mut tree = DirTree::new(rt, alloc);
+    check(&rt, alloc, &mut tree, &folder, MADE)?;
+    replace_files(&rt, &text)?;
+    check(&rt, alloc, &mut tree, &folder, REPLACED)?;
+    replace_folder(&rt, &text)?;
+    check(&rt, alloc, &mut tree, &folder, LINKED)?;
     fs::remove_dir_all(&rt, text.as_str())?;
     Ok(())
 }
