@@ -6,7 +6,7 @@ use Rattle.cluster_tree.specs.Contents.{Contents}
 use Rattle.rewind_survey.specs.declared.fault.RewindFault.{RewindFault}
 use Rattle.rewind_survey.specs.declared.outcome.Told.{Told}
 use Rattle.rewind_writes.specs.Plan.{plan_changes}
-use Rattle.rewind_core.specs.Fits.{Fits, FitsMeant, IsPlanFor}
+use Rattle.rewind_core.specs.Fits.{Fits, FitsMeant, IsMadeBetween, IsPlanFor}
 use Rattle.rewind_core.specs.Planned.{AtFork, Meant, Needing, Needs, OneTimeline, planned_of}
 use Rattle.rewind_core.specs.declared.outcome.Plan.{Plan}
 use Rattle.rewind_core.specs.declared.outcome.Planned.{Planned}
@@ -18,32 +18,35 @@ use Rattle.run_acts.specs.Causes.{IsFree}
 use Rattle.run_acts.specs.declared.cause.Cause.{Cause}
 use Rattle.cluster_causes.specs.Rewind.{rewind_cause}
 use Rattle.cmd_rewind.specs.Changes.{needed_changes}
-use Rattle.cmd_rewind.specs.Rewind.{IsRewind, found_answer, made_acts, meant_answer, needed_answer, rewind_answer, rewind_report}
+use Rattle.cmd_rewind.specs.Rewind.{AreOf, IsRewind, found_answer, made_acts, meant_answer, needed_answer, rewind_answer, rewind_report}
 use Rattle.cmd_rewind.specs.Tasks.{IsTaskFor, IsTaskOf, IsWet, planned_answer, task_acts}
 use Rattle.cmd_rewind.specs.declared.tasks.Task.{Task}
 use Rattle.cmd_rewind.specs.declared.tasks.Task.TheVariants as task
+use Rattle.cmd_rewind.proofs.BelowLemmas.{Aims, needed-of, plan-of, planned-aims}
 use Rattle.cmd_rewind.proofs.MeantLemmas.{Looked, planned-looks}
 
 -- a rewind that is told of or made
-made-form : (words : RewindWords) (c : Contents) (told : Told) (changes : List Change) (dry_run : Bool) → words.dry_run ≡ dry_run
+made-form : (words : RewindWords) (c : Contents) (told : Told) (changes : List Change) (dry_run : Bool) → words.dry_run ≡ dry_run → AreOf words.target changes
     → IsRewind words (if dry_run then does (rewind_report told) else does (made_acts told c changes))
-made-form words c told changes true is = inr (inr (inl (told, is, refl)))
-made-form words c told changes false is = inr (inr (inr (inl (told, c, changes, is, refl))))
+made-form words c told changes true is of = inr (inr (inl (told, is, refl)))
+made-form words c told changes false is of = inr (inr (inr (inl (told, c, changes, is, of, refl))))
 
-form_of : (words : RewindWords) (c : Contents) (found : Result Meant RewindFault) → Looked found → IsRewind words (found_answer words.dry_run c found)
-form_of words c (Ok OneTimeline) looks = inl refl
-form_of words c (Ok (AtFork fork)) looks = inr (inl (fork, refl))
-form_of words c (Ok (Needs n)) looks = made-form words c n.aim.told (needed_changes c n) words.dry_run refl
-form_of words c (Err fault) looks = inr (inr (inr (inr (rewind_cause fault, looks, refl))))
+form_of : (words : RewindWords) (c : Contents) (found : Result Meant RewindFault) → Looked found → Aims words.target found → IsRewind words (found_answer words.dry_run c found)
+form_of words c (Ok OneTimeline) looks aims = inl refl
+form_of words c (Ok (AtFork fork)) looks aims = inr (inl (fork, refl))
+form_of words c (Ok (Needs n)) looks aims = made-form words c n.aim.told (needed_changes c n) words.dry_run refl (subst (λ root. AreOf root (needed_changes c n)) aims (needed-of c n))
+form_of words c (Err fault) looks aims = inr (inr (inr (inr (rewind_cause fault, looks, refl))))
 
 pub answer-form : (c : Contents) (words : RewindWords) (now : ℤ) → IsRewind words (rewind_answer c words now)
-answer-form c words now = form_of words c (planned_of c words.target words.source now) (planned-looks c words.target words.source now)
+answer-form c words now =
+    form_of words c (planned_of c words.target words.source now) (planned-looks c words.target words.source now) (planned-aims c words.target words.source now)
 
 -- what was planned has a form too, whatever the tree told
-pub planned-form : (words : RewindWords) (c : Contents) (v : Planned) → IsRewind words (planned_answer words.dry_run c v)
-planned-form words c planned.SameTimeline = inl refl
-planned-form words c (planned.EndsAtFork fork) = inr (inl (fork, refl))
-planned-form words c (planned.Needed plan) = made-form words c plan.told (plan_changes c plan.writes) words.dry_run refl
+pub planned-form : (words : RewindWords) (c : Contents) (v : Planned) → IsMadeBetween words.target words.source v → IsRewind words (planned_answer words.dry_run c v)
+planned-form words c planned.SameTimeline made = inl refl
+planned-form words c (planned.EndsAtFork fork) made = inr (inl (fork, refl))
+planned-form words c (planned.Needed plan) made =
+    made-form words c plan.told (plan_changes c plan.writes) words.dry_run refl (subst (λ root. AreOf root (plan_changes c plan.writes)) made.target_is (plan-of c made.between made.pairs made.control made.label plan.writes made.writes))
 
 needed-looks : (dry_run : Bool) (c : Contents) (n : Needing) → Looks ((needed_answer dry_run c n).acts)
 needed-looks true c n = tt

@@ -1,3 +1,4 @@
 pub mod MeantLemmas
+pub mod BelowLemmas
 pub mod FormLemmas
 pub mod MakeLemmas

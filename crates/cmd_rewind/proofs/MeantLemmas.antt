@@ -1,5 +1,5 @@
 -- Each refusal of a rewind comes while the command looks.
-use Rattle.std.proofs.Common.{◌≡◌, ℕ, ℤ, ◌+◌, ◌%◌, Bool, true, false, List, [], ◌∷◌, length, map, inl, inr, refl, Option, None, Some, is_some, option_map, Result, Ok, Err}
+use Rattle.std.proofs.Common.{ℕ, ℤ, ◌+◌, ◌%◌, Bool, true, false, List, [], ◌∷◌, length, map, inl, inr, refl, Option, None, Some, is_some, option_map, Result, Ok, Err}
 use Rattle.std.specs.Prelude.{if◌then◌else◌, ◌||◌, ◌&&◌, ◌==◌, not, nat_le, nat_lt}
 use Rattle.cluster_tree.specs.Causes.{first_of, given, unless}
 use Rattle.cluster_tree.specs.Contents.{Contents, Entry, FileEntry, FolderEntry, LinkEntry, entry_at}

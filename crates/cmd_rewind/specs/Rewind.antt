@@ -4,6 +4,7 @@ use Rattle.std.specs.Fmt.{decimal}
 use Rattle.std.specs.List.{concat}
 use Rattle.cluster_tree.specs.Change.{Change, all_changed, call_of}
 use Rattle.cluster_tree.specs.Contents.{Contents}
+use Rattle.cluster_tree.specs.PathValue.{PathValue}
 use Rattle.wal_base.specs.Lsn.{lsn_text}
 use Rattle.timeline_history.specs.declared.ancestor.Divergence.{Divergence}
 use Rattle.rewind_survey.specs.declared.fault.RewindFault.{RewindFault}
@@ -11,7 +12,7 @@ use Rattle.rewind_survey.specs.declared.outcome.Told.{Told}
 use Rattle.rewind_core.specs.Fits.{IsRewound}
 use Rattle.rewind_core.specs.Planned.{AtFork, Meant, Needing, Needs, OneTimeline, planned_of}
 use Rattle.commands.specs.declared.rewind.RewindWords.{RewindWords}
-use Rattle.acts.specs.Acts.{Act, Do, Report}
+use Rattle.acts.specs.Acts.{Act, AreBelow, Do, Report}
 use Rattle.run_acts.specs.Answers.{Answer, refused, does}
 use Rattle.run_acts.specs.Causes.{IsOfLook}
 use Rattle.run_acts.specs.declared.cause.Cause.{Cause}
@@ -72,13 +73,18 @@ found_answer dry_run c (Err fault) = refused (rewind_cause fault)
 abbrev pub rewind_answer : Contents → RewindWords → ℤ → Answer
 rewind_answer c words now = found_answer words.dry_run c (planned_of c words.target words.source now)
 
--- over every tree: a report, of a rewind only in a dry run; or else a rewind that is made; or a refusal while it looks
+-- each of these changes is a sync, or of a path that the root holds
+abbrev pub AreOf : PathValue → List Change → Type 0
+AreOf root changes = AreBelow (root ∷ []) (map call_of changes)
+
+-- over every tree: a report, of a rewind only in a dry run; or else a rewind that is made, all of whose changes are of the target; or a refusal
+-- while it looks
 abbrev pub IsRewind : RewindWords → Answer → Type 0
 IsRewind words answer =
     (answer ≡ does same_report)
     ⊎ ((fork : Divergence) × (answer ≡ does (fork_report fork)))
     ⊎ ((told : Told) × IsTrue words.dry_run × (answer ≡ does (rewind_report told)))
-    ⊎ ((told : Told) × (c : Contents) × (changes : List Change) × (words.dry_run ≡ false) × (answer ≡ does (made_acts told c changes)))
+    ⊎ ((told : Told) × (c : Contents) × (changes : List Change) × (words.dry_run ≡ false) × AreOf words.target changes × (answer ≡ does (made_acts told c changes)))
     ⊎ ((e : Cause) × IsOfLook e × (answer ≡ refused e))
 
 -- a rewind that is needed and made leaves the rewound tree below the target's root, path by path

@@ -6,7 +6,7 @@ ghost use Rattle.cluster_tree.specs.Frame.{Came, Reads};
 ghost use Rattle.cluster_tree.specs.PathValue.{PathValue};
 ghost use Rattle.commands.specs.Fit.{AreFitRoots};
 ghost use Rattle.acts.specs.Acts.{Sunk, seen, sunk};
-ghost use Rattle.rewind_core.specs.Fits.{FitsMeant, IsFitPlanned};
+ghost use Rattle.rewind_core.specs.Fits.{FitsMeant, IsFitPlanned, IsMadeBetween};
 ghost use Rattle.rewind_core.specs.Planned.{planned_of};
 ghost use Rattle.run_acts.specs.Answers.{Blames, does, refused};
 ghost use Rattle.run_acts.specs.Causes.{IsFree, IsOfLook, cause_of, is_deep, is_of_files};
@@ -36,6 +36,7 @@ fn look<F: Tree>(
         (FitsMeant (F.contents tree.old)
         (planned_of (F.contents tree.old) words.now.target words.now.source now))
         (λ e. IsFree e ⊎ (rewind_answer (F.contents tree.old) words.now now ≡ refused e)) }
+    ensures made { IfOk result (IsMadeBetween words.now.target words.now.source) }
     ensures fit { IfOk result IsFitPlanned }
     ensures look { IfErr result IsOfLook }
     ensures only { IfErr result (λ e. IsTrue (is_of_files e) ⊎ IsTrue (is_deep e)) }

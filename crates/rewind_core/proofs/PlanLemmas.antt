@@ -19,10 +19,16 @@ use Rattle.rewind_survey.specs.Faults.{IsFree}
 use Rattle.rewind_survey.specs.declared.fault.RewindFault.{RewindFault}
 use Rattle.rewind_survey.specs.declared.fault.RewindFault.TheVariants as fault
 use Rattle.rewind_core.specs.Faults.{seen}
-use Rattle.rewind_core.specs.Fits.{IsPlanFor, PlansNeeded}
+use Rattle.rewind_core.specs.Fits.{IsPlanBetween, IsPlanFor, PlansNeeded}
 use Rattle.rewind_core.specs.Planned.{Aim, Needing, Needs, from_pairs, from_walks, pairs_refusal}
 use Rattle.rewind_core.specs.Rooted.{IsRooted}
 use Rattle.rewind_core.specs.declared.outcome.Plan.{Plan}
+
+-- a plan of these pairs is one between its roots
+pub made-between : (aim : Aim) (pairs : List Pair) (r : Result Plan RewindFault) → IfOk r (λ plan. IsPlanOf aim.between pairs aim.control aim.label plan.writes) → IfOk r (IsPlanBetween aim.between.target aim.between.source)
+made-between aim pairs (Ok plan) made =
+    record { between = aim.between; pairs = pairs; control = aim.control; label = aim.label; target_is = refl; source_is = refl; writes = made }
+made-between aim pairs (Err e) made = tt
 
 -- a fault that is handed on
 pub handed : {A : Type 0} (P : Result A RewindFault → Type 0) (r : Result A RewindFault) (e : RewindFault) → ((f : RewindFault) × (r ≡ Err f) × (f ≡ e)) → P (Err e) → P r

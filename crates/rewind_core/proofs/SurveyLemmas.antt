@@ -26,7 +26,7 @@ use Rattle.rewind_survey.specs.declared.outcome.Surveyed.TheVariants as surveyed
 use Rattle.rewind_survey.specs.declared.outcome.Told.{Told}
 use Rattle.timeline_history.specs.declared.ancestor.Divergence.{Divergence}
 use Rattle.rewind_core.specs.Fits.{FitsMeant, IsPlanFor, PlansNeeded}
-use Rattle.rewind_core.specs.Planned.{Aim, AtFork, Meant, Needing, Needs, OneTimeline, aim_of, from_parting, from_size, from_survey, from_walks, planned_of}
+use Rattle.rewind_core.specs.Planned.{Aim, AtFork, Needing, Needs, OneTimeline, aim_of, from_parting, from_size, from_survey, from_walks, planned_of}
 use Rattle.rewind_core.specs.Rooted.{IsRooted}
 use Rattle.rewind_core.specs.declared.outcome.Planned.TheVariants as planned
 use Rattle.rewind_core.specs.declared.outcome.Plan.{Plan}

@@ -3,11 +3,15 @@ use Rattle.std.specs.Prelude.{◌≡◌, ◌⊎◌, ℕ, Bool, List, None, Some,
 use Rattle.cluster_tree.specs.Contents.{Contents, entry_at}
 use Rattle.cluster_tree.specs.PathValue.{Holds, PathValue, below}
 use Rattle.cluster_tree.specs.Run.{State}
+use Rattle.backup_label.specs.declared.label.Label.{Label}
+use Rattle.control_file.specs.declared.control.Control.{Control}
+use Rattle.file_walk.specs.declared.pair.Pair.{Pair}
 use Rattle.marked_runs.specs.Runs.{Runs}
 use Rattle.rewound_tree.specs.Rewound.{rewound}
 use Rattle.rewind_writes.specs.Plan.{plan_changes}
 use Rattle.rewind_writes.specs.Steps.{AllAreFit}
 use Rattle.rewind_plan.specs.PlanOf.{IsPlanOf, rewinding}
+use Rattle.rewind_plan.specs.Planned.{Between}
 use Rattle.rewind_plan.specs.Sides.{Sides}
 use Rattle.rewind_survey.specs.Faults.{IsFree}
 use Rattle.rewind_survey.specs.declared.fault.RewindFault.{RewindFault}
@@ -24,6 +28,21 @@ pub record IsPlanFor (c : Contents) (n : Needing) (plan : Plan) : Type 0 where
   pub told : plan.told ≡ n.aim.told
   pub writes : IsPlanOf n.aim.between n.pairs n.aim.control n.aim.label plan.writes
   pub sides : Sides c n.aim.between n.pairs
+
+-- a plan of any pairs between these two roots
+pub record IsPlanBetween (target source : PathValue) (plan : Plan) : Type 0 where
+  pub between : Between
+  pub pairs : List Pair
+  pub control : Control
+  pub label : Label
+  pub target_is : between.target ≡ target
+  pub source_is : between.source ≡ source
+  pub writes : IsPlanOf between pairs control label plan.writes
+
+abbrev pub IsMadeBetween : (target source : PathValue) → Planned → Type 0
+IsMadeBetween target source planned.SameTimeline = Unit {0}
+IsMadeBetween target source (planned.EndsAtFork at) = Unit {0}
+IsMadeBetween target source (planned.Needed plan) = IsPlanBetween target source plan
 
 -- what was planned is what is to be done
 abbrev pub Fits : Contents → Meant → Planned → Type 0

@@ -10,7 +10,7 @@ ghost use Rattle.rewind_writes.specs.Steps.{AllAreFit};
 ghost use Rattle.rewind_plan.specs.PlanOf.{IsPlanOf};
 ghost use Rattle.rewind_survey.specs.Faults.{IsFree};
 ghost use Rattle.rewind_survey.specs.Survey.{HoldsParted, Parting};
-ghost use Rattle.rewind_core.specs.Fits.{IsFitPlanned, Plans, PlansNeeded};
+ghost use Rattle.rewind_core.specs.Fits.{IsFitPlanned, IsMadeBetween, IsPlanBetween, Plans, PlansNeeded};
 ghost use Rattle.rewind_core.specs.Planned.{from_parting, from_walks, pairs_refusal, planned_of};
 ghost use Rattle.rewind_core.specs.Rooted.{IsRooted, aim};
 
@@ -78,6 +78,8 @@ fn plan_walked<F: Tree>(
         IsRooted (F.contents tree.old) rewinding.now.clusters.source.now }
     ensures exact { IsTrue F.tells → PlansNeeded (F.contents tree.old)
         (from_walks (F.contents tree.old) (aim rewinding.now)) result }
+    ensures made { IfOk result (IsPlanBetween rewinding.now.clusters.target.now
+        rewinding.now.clusters.source.now) }
     ensures fit { IfOk result (λ plan. AllAreFit plan.writes.steps.items) }
     ensures reads { Reads F.Tree tree.old tree.new }
     ensures read_fault { IsErrOf result RewindFault.ReadFault →
@@ -108,6 +110,7 @@ fn plan_parted<F: Tree>(
     ensures exact { IsTrue F.tells → (part : Parting) → HoldsParted part parted →
         PlansNeeded (F.contents tree.old)
         (from_parting (F.contents tree.old) target.now source.now now part) result }
+    ensures made { IfOk result (IsPlanBetween target.now source.now) }
     ensures fit { IfOk result (λ plan. AllAreFit plan.writes.steps.items) }
     ensures reads { Reads F.Tree tree.old tree.new }
     ensures read_fault { IsErrOf result RewindFault.ReadFault →
@@ -160,6 +163,8 @@ pub fn plan<F: Tree>(
     // device, or want of memory
     ensures exact { IsTrue F.tells → Plans (F.contents tree.old)
         (planned_of (F.contents tree.old) target.now source.now now) result }
+    // over every tree a plan is one between these two roots
+    ensures made { IfOk result (IsMadeBetween target.now source.now) }
     ensures fit { IfOk result IsFitPlanned }
     ensures reads { Reads F.Tree tree.old tree.new }
     ensures read_fault { IsErrOf result RewindFault.ReadFault →

@@ -15,7 +15,7 @@ returns-in-Ok-clause-exact g c tells =
 
 pub returns-in-Ok-clause-form : goal.returns-in-Ok-clause-form
 returns-in-Ok-clause-form g c contents =
-    subst (IsRewind c.args.words.now) (sym (c.in-Ok.ensures.exact contents)) (planned-form c.args.words.now contents c.in_ok-planned.planned)
+    subst (IsRewind c.args.words.now) (sym (c.in-Ok.ensures.exact contents)) (planned-form c.args.words.now contents c.in_ok-planned.planned c.in_ok-planned.ensures.made)
 
 pub returns-in-Ok-clause-planned : goal.returns-in-Ok-clause-planned
 returns-in-Ok-clause-planned g c tells =

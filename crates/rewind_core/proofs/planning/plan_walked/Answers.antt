@@ -2,7 +2,7 @@ use Rattle.std.proofs.Common.{inl, inr, refl, ◌∙◌}
 use Rattle.std.proofs.lemmas.Result.{err_from_is_err_and}
 use Rattle.rewind_core.specs.Fits.{PlansNeeded}
 use Rattle.rewind_core.specs.Rooted.{aim}
-use Rattle.rewind_core.proofs.PlanLemmas.{handed, source-refused, target-refused, walked-plans}
+use Rattle.rewind_core.proofs.PlanLemmas.{handed, made-between, source-refused, target-refused, walked-plans}
 use Rattle.rewind_core.proofs.planning.plan_walked.Goals as goal
 
 pub returns-in_err-here-clause-exact : goal.returns-in_err-here-clause-exact
@@ -30,3 +30,6 @@ returns-clause-exact g c told =
     (g.met.F.Tree.is_tree told c.args.tree.now) c.requires.apart (c.requires.target told) (c.requires.source told)
     (c.in_ok-here.ensures.parts told) (c.in_ok-there.ensures.parts told) c.plan_pairs.result
     c.plan_pairs.ensures.refused c.plan_pairs.ensures.passed c.plan_pairs.ensures.told c.plan_pairs.ensures.made
+
+pub returns-clause-made : goal.returns-clause-made
+returns-clause-made g c = made-between (aim c.args.rewinding.now) _ c.plan_pairs.result c.plan_pairs.ensures.made
