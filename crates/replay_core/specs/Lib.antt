@@ -3,3 +3,4 @@ pub mod Replayed
 pub mod Steps
 pub mod Stages
 pub mod Went
+pub mod Within

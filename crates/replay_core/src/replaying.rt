@@ -1,5 +1,5 @@
 // The public call that replays.
-ghost use Rattle.std.specs.Prelude.{◌≡◌, ◌≢◌, ◌≤◌, ◌<◌, ◌^◌, [], length, Err, IfErr, IfOk, IsErrOf, IsTrue, is_ok};
+ghost use Rattle.std.specs.Prelude.{◌≡◌, ◌≢◌, ◌⊎◌, ◌≤◌, ◌<◌, ◌^◌, [], length, Err, Ok, IfErr, IfOk, IsErrOf, IsTrue, is_ok};
 ghost use Rattle.cluster_tree.specs.Causes.{Rose};
 ghost use Rattle.cluster_tree.specs.Contents.{Contents};
 ghost use Rattle.cluster_tree.specs.Frame.{Came};
@@ -15,12 +15,14 @@ ghost use Rattle.wal_records.specs.Cursor.{Knows, going_on_at, to_come};
 ghost use Rattle.wal_records.specs.Further.{pages_of};
 ghost use Rattle.wal_records.specs.Log.{log_of};
 ghost use Rattle.wal_records.specs.Place.{place_at};
-ghost use Rattle.replay_start.specs.Checked.{start_of};
+ghost use Rattle.replay_start.specs.Checked.{Start, start_of};
 ghost use Rattle.replay_start.specs.declared.fault.ReplayFault.{ReplayFault};
 ghost use Rattle.replay_world.specs.World.{world_of};
+ghost use Rattle.replay_core.specs.Faults.{IsFree};
 ghost use Rattle.replay_core.specs.Replayed.{after_replay, closed_or, first_world, replayed_into};
 ghost use Rattle.replay_core.specs.Stages.{ArePaths, HasLog, IsChecked, Stand, records_in, start_in};
 ghost use Rattle.replay_core.specs.Steps.{IsReplayedLog};
+ghost use Rattle.replay_core.specs.Within.{LeavesMark, LogStays, StaysWithin};
 ghost use Rattle.replay_core.specs.Went.{Answers, IsAfter, IsCause, RanRecords, Went, WentOn};
 
 use crate::closing::{begin_mark, close};
@@ -108,6 +110,8 @@ fn finish<F: Tree>(
     ensures went { IsTrue F.tells → (marked : State) →
         RanRecords world.files.root marked (state_by F.contents F.calls tree.old) →
         WentOn world.files.root marked (state_by F.contents F.calls tree.new) (is_ok result) }
+    ensures stands { IsTrue F.tells → IfErr result
+        (λ e. IsFree e ⊎ (F.contents tree.new ≡ F.contents tree.old)) }
     ensures frame { Came F.Tree tree.old tree.new }
     ensures read_fault { result ≢ Err ReplayFault.ReadFault }
     ensures write_fault { IsErrOf result ReplayFault.WriteFault →
@@ -145,6 +149,8 @@ fn replay_marked<F: Tree>(
         (F.contents tree.new) result }
     ensures went { IsTrue F.tells → WentOn world.files.root
         (state_by F.contents F.calls tree.old) (state_by F.contents F.calls tree.new) (is_ok result) }
+    ensures stands { IsTrue F.tells →
+        IfErr result (LeavesMark world.files.root (F.contents tree.new)) }
     ensures frame { Came F.Tree tree.old tree.new }
     ensures read_fault { IsErrOf result ReplayFault.ReadFault →
         Rose (F.failed_reads tree.old) (F.failed_reads tree.new) }
@@ -205,6 +211,7 @@ fn replay_checked<F: Tree>(
         (F.contents tree.new) result }
     ensures went { IsTrue F.tells → Went root.now (state_by F.contents F.calls tree.old)
         (state_by F.contents F.calls tree.new) (is_ok result) }
+    ensures stands { IsTrue F.tells → IfErr result (LeavesMark root.now (F.contents tree.new)) }
     ensures frame { Came F.Tree tree.old tree.new }
     ensures read_fault { IsErrOf result ReplayFault.ReadFault →
         Rose (F.failed_reads tree.old) (F.failed_reads tree.new) }
@@ -242,8 +249,18 @@ pub fn replay<F: Tree>(alloc: Global, tree: &mut F, root: &Path) -> Result<Repla
     // and this is how far it went
     ensures went { IsTrue F.tells → Went root.now (state_by F.contents F.calls tree.old)
         (state_by F.contents F.calls tree.new) (is_ok result) }
+    // what is below the root alone is changed, the log is not, nothing is before every check has
+    // passed, and the mark stands where it is refused behind that
+    ensures within { IsTrue F.tells → StaysWithin root.now (state_by F.contents F.calls tree.old)
+        (state_by F.contents F.calls tree.new) }
+    ensures log { IsTrue F.tells → LogStays root.now (F.contents tree.old) (F.contents tree.new) }
     ensures checked { IsTrue F.tells → (e : ReplayFault) →
-        start_of (F.contents tree.old) root.now ≡ Err e → F.calls tree.new ≡ F.calls tree.old }
+        start_of (F.contents tree.old) root.now ≡ Err e →
+        state_by F.contents F.calls tree.new ≡ state_by F.contents F.calls tree.old }
+    ensures unwritten { IsTrue F.tells → (e : ReplayFault) →
+        start_of (F.contents tree.old) root.now ≡ Err e → result ≢ Err ReplayFault.WriteFault }
+    ensures stands { IsTrue F.tells → (s : Start) → start_of (F.contents tree.old) root.now ≡ Ok s →
+        IfErr result (LeavesMark root.now (F.contents tree.new)) }
     ensures frame { Came F.Tree tree.old tree.new }
     ensures read_fault { IsErrOf result ReplayFault.ReadFault →
         Rose (F.failed_reads tree.old) (F.failed_reads tree.new) }

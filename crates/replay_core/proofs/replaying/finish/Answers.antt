@@ -42,3 +42,9 @@ returns-clause-changed g c told p h =
     let ran = closing-ran g.F.Tree c.args.world.files.root c.args.paths left c.control_left.result _ _ _ c.requires.paths c.control_left.ensures.value told (c.requires.stand told) c.in-Err.ensures.performs in
     let e : c.of_perform.result ≡ fault.Changed p = cc h in
     ran.agreed p (ap Err (changed-of c.in-Err.fault p (sym c.of_perform.ensures ∙ e)))
+
+pub returns-clause-stands : goal.returns-clause-stands
+returns-clause-stands g c told =
+    let left = control_left c.args.tli c.args.count.end.0 c.args.world.control in
+    let ran = closing-ran g.F.Tree c.args.world.files.root c.args.paths left c.control_left.result _ _ _ c.requires.paths c.control_left.ensures.value told (c.requires.stand told) c.in-Err.ensures.performs in
+    inl (subst IsFree (sym c.of_perform.ensures) (free-of c.in-Err.fault (λ h. c.in-Err.ensures.read_fault (ap Err h)) (λ p h. ran.agreed p (ap Err h))))

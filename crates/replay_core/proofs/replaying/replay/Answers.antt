@@ -3,8 +3,10 @@ use Rattle.std.proofs.lemmas.Result.{err_from_is_err_and}
 use Rattle.cluster_tree.specs.Run.{state_by}
 use Rattle.replay_core.specs.Replayed.{after_replay}
 use Rattle.replay_core.specs.Stages.{start_in}
+use Rattle.replay_core.specs.Went.{Unchanged}
 use Rattle.replay_core.proofs.JoinLemmas.{after-of, done-of, refused-of, went-nowhere}
 use Rattle.replay_core.proofs.StartedLemmas.{checked-by}
+use Rattle.replay_core.proofs.WithinLemmas.{then_within, went-log, went-within}
 use Rattle.replay_core.proofs.replaying.replay.Goals as goal
 
 pub returns-in_err-checked-clause-went : goal.returns-in_err-checked-clause-went
@@ -34,3 +36,28 @@ returns-clause-refused g c told =
     let checked = checked-by before after c.args.root.now c.in_ok-checked.checked c.check.ensures.reads.same (c.in_ok-checked.ensures.exact told) (c.in_ok-checked.ensures.knows told) in
     let meant = sym (after-of after c.args.root.now (start_in c.in_ok-checked.checked after) checked.start) ∙ ap (λ x. after_replay x c.args.root.now) c.check.ensures.reads.same in
     refused-of (after_replay before c.args.root.now) _ (g.F.Tree.contents c.replay_checked.new.tree) c.replay_checked.result meant (c.replay_checked.ensures.exact told)
+
+pub returns-in_err-checked-clause-within : goal.returns-in_err-checked-clause-within
+returns-in_err-checked-clause-within g c told =
+    went-within c.args.root.now (state_by g.F.Tree.contents g.F.Tree.calls c.args.tree.now) (state_by g.F.Tree.contents g.F.Tree.calls c.check.new.tree) _
+    (Unchanged c.check.ensures.reads.uncalled c.check.ensures.reads.same)
+
+pub returns-clause-within : goal.returns-clause-within
+returns-clause-within g c told =
+    let first = went-within c.args.root.now (state_by g.F.Tree.contents g.F.Tree.calls c.args.tree.now) (state_by g.F.Tree.contents g.F.Tree.calls c.check.new.tree) _
+    (Unchanged c.check.ensures.reads.uncalled c.check.ensures.reads.same) in
+    then_within c.args.root.now (state_by g.F.Tree.contents g.F.Tree.calls c.args.tree.now) (state_by g.F.Tree.contents g.F.Tree.calls c.check.new.tree) (state_by g.F.Tree.contents g.F.Tree.calls c.replay_checked.new.tree)
+    first (went-within c.args.root.now _ _ _ (c.replay_checked.ensures.went told))
+
+pub returns-in_err-checked-clause-log : goal.returns-in_err-checked-clause-log
+returns-in_err-checked-clause-log g c told =
+    went-log c.args.root.now (state_by g.F.Tree.contents g.F.Tree.calls c.args.tree.now) (state_by g.F.Tree.contents g.F.Tree.calls c.check.new.tree) _
+    (Unchanged c.check.ensures.reads.uncalled c.check.ensures.reads.same)
+
+pub returns-clause-log : goal.returns-clause-log
+returns-clause-log g c told path holds =
+    let old = state_by g.F.Tree.contents g.F.Tree.calls c.args.tree.now in
+    let mid = state_by g.F.Tree.contents g.F.Tree.calls c.check.new.tree in
+    let new = state_by g.F.Tree.contents g.F.Tree.calls c.replay_checked.new.tree in
+    went-log c.args.root.now mid new _ (c.replay_checked.ensures.went told) path holds
+    ∙ went-log c.args.root.now old mid _ (Unchanged c.check.ensures.reads.uncalled c.check.ensures.reads.same) path holds

@@ -1,4 +1,4 @@
-use Rattle.std.proofs.Common.{◌≡◌, ◌∙◌, ap, inl, refl, subst, sym, Err}
+use Rattle.std.proofs.Common.{◌≡◌, ◌∙◌, IfErr, ap, inl, refl, subst, sym, Err}
 use Rattle.std.proofs.lemmas.Result.{err_from_is_err_and}
 use Rattle.std.specs.Prelude.{is_ok}
 use Rattle.cluster_tree.specs.Run.{state_by}
@@ -9,6 +9,7 @@ use Rattle.replay_core.specs.Stages.{Stand, start_in}
 use Rattle.replay_core.specs.Went.{Answers, Begins, Marked, WentOn}
 use Rattle.replay_core.proofs.JoinLemmas.{about-changed, about-read, begun-ran, changed-of, first-meant, free-of, went-nowhere}
 use Rattle.replay_core.proofs.StartedLemmas.{mark-unrefused, under-mark}
+use Rattle.replay_core.specs.Within.{LeavesMark}
 use Rattle.replay_core.proofs.replaying.replay_checked.Goals as goal
 
 pub returns-in_err-paths-clause-went : goal.returns-in_err-paths-clause-went
@@ -87,3 +88,17 @@ returns-in-Err-clause-changed g c told p h =
     let ran = begun-ran g.F.Tree c.args.root.now c.in_ok-paths.paths.mark _ _ _ c.in_ok-paths.ensures.paths.mark told none c.in-Err.ensures.carries in
     let e : c.of_perform.result ≡ fault.Changed p = cc h in
     ran.agreed (ap Err (about-changed c.in-Err.fault c.in_ok-paths.paths.mark p (sym c.about.ensures ∙ changed-of c.about.result p (sym c.of_perform.ensures ∙ e))))
+
+pub returns-in-Ok-clause-stands : goal.returns-in-Ok-clause-stands
+returns-in-Ok-clause-stands g c told =
+    subst (λ p. IfErr c.replay_marked.result (LeavesMark p (g.F.Tree.contents c.replay_marked.new.tree))) c.in_ok-world.ensures.root (c.replay_marked.ensures.stands told)
+
+pub returns-in-Err-clause-stands : goal.returns-in-Err-clause-stands
+returns-in-Err-clause-stands g c told =
+    let before = g.F.Tree.contents c.args.tree.now in
+    let none = mark-unrefused before c.args.root.now c.args.checked (g.met.F.Tree.is_tree told c.args.tree.now) (c.requires.checked told) in
+    let ran = begun-ran g.F.Tree c.args.root.now c.in_ok-paths.paths.mark _ _ _ c.in_ok-paths.ensures.paths.mark told none c.in-Err.ensures.carries in
+    let mark = c.in_ok-paths.paths.mark in
+    inl (subst IsFree (sym c.of_perform.ensures) (free-of c.about.result
+    (λ h. c.in-Err.ensures.read_fault (ap Err (about-read c.in-Err.fault mark (sym c.about.ensures ∙ h))))
+    (λ p h. ran.agreed (ap Err (about-changed c.in-Err.fault mark p (sym c.about.ensures ∙ h))))))

@@ -6,6 +6,7 @@ use Rattle.storage_replay.specs.declared.files.Files.{Files}
 use Rattle.replay_core.specs.Stages.{Stand}
 use Rattle.replay_core.specs.Went.{RanRecords, Replaying, WentOn}
 use Rattle.replay_core.proofs.JoinLemmas.{ran-records, still-stand, went-broken}
+use Rattle.replay_core.proofs.WithinLemmas.{mark-left, mark-on}
 use Rattle.replay_core.proofs.replaying.replay_marked.Goals as goal
 
 pub returns-in_err-count-clause-went : goal.returns-in_err-count-clause-went
@@ -30,3 +31,18 @@ returns-clause-went g c told =
     let ran = ran-records g.F.Tree c.args.world.files.root c.args.tree.now c.replay_log.new.tree c.replay_log.ensures.frame (c.replay_log.ensures.own told) in
     let same = ap (λ (f : Files). f.root) c.replay_log.ensures.files in
     subst (λ p. WentOn p old new (is_ok c.finish.result)) same (c.finish.ensures.went told old (subst (λ p. RanRecords p old late) (sym same) ran))
+
+pub returns-in_err-count-clause-stands : goal.returns-in_err-count-clause-stands
+returns-in_err-count-clause-stands g c told =
+    let old = state_by g.F.Tree.contents g.F.Tree.calls c.args.tree.now in
+    let new = state_by g.F.Tree.contents g.F.Tree.calls c.replay_log.new.tree in
+    let ran = ran-records g.F.Tree c.args.world.files.root c.args.tree.now c.replay_log.new.tree c.replay_log.ensures.frame (c.replay_log.ensures.own told) in
+    mark-on c.args.world.files.root (g.F.Tree.contents c.replay_log.new.tree) c.from_residual.result (still-stand c.args.world.files.root old new ran (c.requires.stand told)).mark
+
+pub returns-clause-stands : goal.returns-clause-stands
+returns-clause-stands g c told =
+    let old = state_by g.F.Tree.contents g.F.Tree.calls c.args.tree.now in
+    let late = state_by g.F.Tree.contents g.F.Tree.calls c.replay_log.new.tree in
+    let ran = ran-records g.F.Tree c.args.world.files.root c.args.tree.now c.replay_log.new.tree c.replay_log.ensures.frame (c.replay_log.ensures.own told) in
+    mark-left c.args.world.files.root (g.F.Tree.contents c.replay_log.new.tree) (g.F.Tree.contents c.finish.new.tree) c.finish.result
+    (still-stand c.args.world.files.root old late ran (c.requires.stand told)).mark (c.finish.ensures.stands told)
