@@ -99,7 +99,7 @@ way_tree root path c d held deeper tree made = by (root_refusal root (entry_at c
 
 -- files that are edited, cut and removed
 
-edited_tree : (root path : PathValue) (edit : List ℕ → List ℕ) (c d : Contents) → Holds root path → length root.parts < length path.parts → IsTree c → file_edited root path edit c ≡ Ok d → IsTree d
+pub edited_tree : (root path : PathValue) (edit : List ℕ → List ℕ) (c d : Contents) → Holds root path → length root.parts < length path.parts → IsTree c → file_edited root path edit c ≡ Ok d → IsTree d
 unfolding file_edited
 edited_tree root path edit c d held deeper tree made = by (entry_at c path) refl made
   where
@@ -126,7 +126,7 @@ cut_tree path size c d tree made = by (entry_at c path) refl made
     by (Some (FileEntry bytes)) at run = let same : insert c path (FileEntry (take size bytes)) ≡ d = cc in subst IsTree same (put_over c path bytes (take size bytes) tree at)
     by (Some LinkEntry) at run = absurd cc
 
-removed_tree : (path : PathValue) (c d : Contents) → IsTree c → file_removed path c ≡ Ok d → IsTree d
+pub removed_tree : (path : PathValue) (c d : Contents) → IsTree c → file_removed path c ≡ Ok d → IsTree d
 unfolding file_removed
 removed_tree path c d tree made = by (entry_at c path) refl made
   where

@@ -1,0 +1,14 @@
+//! Replay of a log over a cluster, seen on one block.
+#![tactic(auto)]
+
+mod checked;
+mod converging;
+mod logs;
+mod records;
+mod refusals;
+
+pub use checked::checked_laws;
+pub use converging::blocks_converge;
+pub use logs::log_laws;
+pub use records::record_laws;
+pub use refusals::refusal_laws;
