@@ -1,15 +1,6 @@
 -- The line of a cause on standard error. Own: "The line of a cause".
 use Rattle.std.specs.Prelude.{ℕ, List, [], ◌∷◌, ◌++◌, codes, string_bytes, Option}
-use Rattle.std.specs.Fmt.{decimal}
 use Rattle.std.specs.List.{concat}
-use Rattle.cluster_tree.specs.PathValue.{PathValue, path_text}
-use Rattle.wal_base.specs.Hex.{upper_hex}
-use Rattle.wal_base.specs.Lsn.{lsn_text}
-use Rattle.wal_base.specs.declared.lsn.Lsn.{Lsn}
-use Rattle.wal_records.specs.declared.why.Why.{Why}
-use Rattle.wal_records.specs.declared.why.Why.TheVariants as why
-use Rattle.control_file.specs.FieldNames.{field_name}
-use Rattle.control_file.specs.declared.field.Field.{Field}
 use Rattle.run_acts.specs.declared.cause.Cause.{Cause}
 use Rattle.run_acts.specs.declared.cause.Cause.TheVariants as cause
 use Rattle.run_acts.specs.declared.cause.PathCause.TheVariants as paths
@@ -17,12 +8,15 @@ use Rattle.run_acts.specs.declared.cause.ControlCause.TheVariants as control
 use Rattle.run_acts.specs.declared.cause.HistoryCause.TheVariants as history
 use Rattle.run_acts.specs.declared.cause.RewindCause.TheVariants as rewind
 use Rattle.run_acts.specs.declared.cause.LogCause.TheVariants as logs
+use Rattle.run_acts.specs.declared.cause.ReplayCause.TheVariants as replay
 use Rattle.commands.specs.declared.name.CommandName.{CommandName}
 use Rattle.cause_lines.specs.declared.lines.Line.{Line}
 use Rattle.cause_lines.specs.declared.lines.Line.TheVariants as line
 use Rattle.cause_lines.specs.declared.fixed.Fixed.{Fixed}
 use Rattle.cause_lines.specs.declared.fixed.Fixed.TheVariants as fixed
 use Rattle.commands.specs.Name.{name_text}
+use Rattle.cause_lines.specs.Pieces.{crc_pieces, end_pieces, ends_pieces, entry_pieces, missing_pieces, number_pieces, page_pieces, path_pieces}
+use Rattle.cause_lines.specs.Pieces.{place_pieces, record_pieces, redo_pieces, shape_pieces, special_pieces, systems_pieces}
 
 -- the name of a cause without values
 abbrev pub fixed_name : Fixed → List ℕ
@@ -43,65 +37,6 @@ line_with name pieces = concat (name_text name ∷ codes ": error: " ∷ (pieces
 -- the line of a cause without values
 unfoldable pub fixed_line : Option CommandName → Fixed → List ℕ
 fixed_line name f = line_with name (fixed_name f ∷ [])
-
--- a cause with a path
-abbrev pub path_pieces : List ℕ → PathValue → List (List ℕ)
-path_pieces what path = what ∷ codes " " ∷ path_text path ∷ []
-
--- a cause with a path and a number
-abbrev pub number_pieces : List ℕ → PathValue → ℕ → List (List ℕ)
-number_pieces what path n = what ∷ codes " " ∷ path_text path ∷ codes " " ∷ decimal n ∷ []
-
--- a root and two checksums, as %08X
-abbrev pub crc_pieces : PathValue → ℕ → ℕ → List (List ℕ)
-crc_pieces root stored computed = codes "Crc " ∷ path_text root ∷ codes " " ∷ upper_hex 8 stored ∷ codes " " ∷ upper_hex 8 computed ∷ []
-
-abbrev pub shape_pieces : PathValue → Field → ℕ → List (List ℕ)
-shape_pieces root field n = codes "Shape " ∷ path_text root ∷ codes " " ∷ field_name field ∷ codes " " ∷ decimal n ∷ []
-
-abbrev pub systems_pieces : ℕ → ℕ → List (List ℕ)
-systems_pieces target source = codes "SystemsDiffer " ∷ decimal target ∷ codes " " ∷ decimal source ∷ []
-
--- the name of a reason
-abbrev pub why_name : Why → List ℕ
-why_name why.Place = codes "Place"
-why_name why.NoSegment = codes "NoSegment"
-why_name why.ShortSegment = codes "ShortSegment"
-why_name why.Page = codes "Page"
-why_name why.Continuation = codes "Continuation"
-why_name why.ZeroLength = codes "ZeroLength"
-why_name why.ShortLength = codes "ShortLength"
-why_name why.TooLong = codes "TooLong"
-why_name why.Manager = codes "Manager"
-why_name why.Prev = codes "Prev"
-why_name why.Crc = codes "Crc"
-
-abbrev pub end_pieces : Lsn → Why → List (List ℕ)
-end_pieces at why = codes "LogEnds " ∷ lsn_text at.0 ∷ codes " " ∷ why_name why ∷ []
-
--- a cause with a position and a number
-abbrev pub record_pieces : List ℕ → Lsn → ℕ → List (List ℕ)
-record_pieces what at n = what ∷ codes " " ∷ lsn_text at.0 ∷ codes " " ∷ decimal n ∷ []
-
--- a cause with a position
-abbrev pub place_pieces : List ℕ → Lsn → List (List ℕ)
-place_pieces what at = what ∷ codes " " ∷ lsn_text at.0 ∷ []
-
--- an end, and the end of the record that goes past it
-abbrev pub ends_pieces : Lsn → Lsn → List (List ℕ)
-ends_pieces end found = codes "EndNotRecord " ∷ lsn_text end.0 ∷ codes " " ∷ lsn_text found.0 ∷ []
-
--- the start of a record, its manager and its info byte
-abbrev pub special_pieces : Lsn → ℕ → ℕ → List (List ℕ)
-special_pieces at manager info = codes "UnknownSpecial " ∷ lsn_text at.0 ∷ codes " " ∷ decimal manager ∷ codes " " ∷ decimal info ∷ []
-
--- a root, and a timeline whose history isn't there
-abbrev pub missing_pieces : PathValue → ℕ → List (List ℕ)
-missing_pieces root tli = codes "HistoryMissing " ∷ path_text root ∷ codes " " ∷ decimal tli ∷ []
-
--- a cause with a root, a timeline and the number of a line of its history
-abbrev pub entry_pieces : List ℕ → PathValue → ℕ → ℕ → List (List ℕ)
-entry_pieces what root tli n = what ∷ codes " " ∷ path_text root ∷ codes " " ∷ decimal tli ∷ codes " " ∷ decimal n ∷ []
 
 -- the line of a cause; there is none of Done
 abbrev pub line_of : Option CommandName → Cause → List ℕ
@@ -133,9 +68,9 @@ line_of name (cause.History history.NoCommonAncestor) = fixed_line name fixed.No
 line_of name (cause.Rewind (rewind.SystemsDiffer target source)) = line_with name (systems_pieces target source)
 line_of name (cause.Rewind (rewind.NoHints root)) = line_with name (path_pieces (codes "NoHints") root)
 line_of name (cause.Rewind (rewind.NotClean root n)) = line_with name (number_pieces (codes "NotClean") root n)
-line_of name (cause.Rewind (rewind.EndNotRecord end found)) = line_with name (ends_pieces end found)
+line_of name (cause.Rewind (rewind.EndNotRecord end found)) = line_with name (ends_pieces (codes "EndNotRecord") end found)
 line_of name (cause.Rewind (rewind.NoCommonCheckpoint at)) = line_with name (place_pieces (codes "NoCommonCheckpoint") at)
-line_of name (cause.Rewind (rewind.UnknownSpecial at manager info)) = line_with name (special_pieces at manager info)
+line_of name (cause.Rewind (rewind.UnknownSpecial at manager info)) = line_with name (special_pieces (codes "UnknownSpecial") at manager info)
 line_of name (cause.Rewind (rewind.KindsDiffer path)) = line_with name (path_pieces (codes "KindsDiffer") path)
 line_of name (cause.Rewind (rewind.OddSize path n)) = line_with name (number_pieces (codes "OddSize") path n)
 line_of name (cause.Log (logs.LogEnds at why)) = line_with name (end_pieces at why)
@@ -144,6 +79,13 @@ line_of name (cause.Log (logs.Compressed at id)) = line_with name (record_pieces
 line_of name (cause.Log (logs.NoRecordAt at)) = line_with name (place_pieces (codes "NoRecordAt") at)
 line_of name (cause.Log (logs.NoWal path)) = line_with name (path_pieces (codes "NoWal") path)
 line_of name (cause.Log (logs.BadSegment path)) = line_with name (path_pieces (codes "BadSegment") path)
+line_of name (cause.Replay (replay.ChecksumsOn root)) = line_with name (path_pieces (codes "ChecksumsOn") root)
+line_of name (cause.Replay (replay.NoLabel root)) = line_with name (path_pieces (codes "NoLabel") root)
+line_of name (cause.Replay (replay.BadLabel root n)) = line_with name (number_pieces (codes "BadLabel") root n)
+line_of name (cause.Replay (replay.NotInProfile at manager info)) = line_with name (special_pieces (codes "NotInProfile") at manager info)
+line_of name (cause.Replay (replay.EndsTooSoon end least)) = line_with name (ends_pieces (codes "EndsTooSoon") end least)
+line_of name (cause.Replay (replay.RedoFailed at block why)) = line_with name (redo_pieces at block why)
+line_of name (cause.Replay (replay.MissingPage block)) = line_with name (page_pieces block)
 
 -- the text of a line on its way
 abbrev pub made_text : Option CommandName → Line → List ℕ

@@ -3,6 +3,7 @@
 
 mod fixed;
 mod lines;
+mod replay;
 mod unfit;
 
 pub use fixed::{Fixed, fixed_line};

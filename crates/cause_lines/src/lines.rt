@@ -1,9 +1,12 @@
 // The line of a cause.
 ghost use Rattle.std.specs.Prelude.{◌≡◌, string_bytes, false, IfOk, IsOk};
-ghost use Rattle.cause_lines.specs.Lines.{line_with, path_pieces, number_pieces, crc_pieces, shape_pieces, end_pieces, record_pieces, place_pieces, why_name, line_of, made_text};
+ghost use Rattle.cause_lines.specs.Lines.{line_of, line_with, made_text};
+ghost use Rattle.cause_lines.specs.Pieces.{crc_pieces, end_pieces, number_pieces, path_pieces, place_pieces};
+ghost use Rattle.cause_lines.specs.Pieces.{record_pieces, shape_pieces, why_name};
 ghost use Rattle.run_acts.specs.Causes.{has_values};
 
 use crate::fixed::Fixed;
+use crate::replay::replay_line;
 use crate::unfit::{history_line, unfit_line};
 use cluster_tree::Path;
 use commands::{CommandName, name_text};
@@ -230,5 +233,6 @@ pub fn line_of(alloc: Global, name: Option<CommandName>, cause: &Cause) -> Resul
         Cause::History(history) => history_line(alloc, name, history)?,
         Cause::Rewind(unfit) => Line::Made(unfit_line(alloc, name, unfit)?),
         Cause::Log(log) => Line::Made(log_line(alloc, name, log)?),
+        Cause::Replay(replay) => Line::Made(replay_line(alloc, name, replay)?),
     })
 }

@@ -1,6 +1,7 @@
 // The lines of clusters, files and histories that are unfit.
 ghost use Rattle.std.specs.Prelude.{◌≡◌, string_bytes, false, IfOk, IsOk};
-ghost use Rattle.cause_lines.specs.Lines.{line_with, systems_pieces, ends_pieces, special_pieces, missing_pieces, entry_pieces, line_of, made_text};
+ghost use Rattle.cause_lines.specs.Lines.{line_of, line_with, made_text};
+ghost use Rattle.cause_lines.specs.Pieces.{ends_pieces, entry_pieces, missing_pieces, special_pieces, systems_pieces};
 ghost use Rattle.run_acts.specs.Causes.{has_values};
 
 use crate::fixed::Fixed;
@@ -25,32 +26,35 @@ fn systems_line(
     format!(in alloc; "{name}: error: SystemsDiffer {target} {source}\n")
 }
 
-// The line of an end that a record goes past.
-fn ends_line(
+// The line of a cause with two positions.
+pub(crate) fn ends_line(
     alloc: Global,
     name: Option<CommandName>,
-    end: Lsn,
-    found: Lsn,
+    what: &str,
+    first: Lsn,
+    second: Lsn,
 ) -> Result<String, AllocError>
-    ensures { IfOk result (λ line. string_bytes line ≡ line_with name (ends_pieces end found)) }
+    ensures { IfOk result (λ line. string_bytes line ≡ line_with name
+        (ends_pieces what.now first second)) }
 {
     let name = name_text(name);
-    format!(in alloc; "{name}: error: EndNotRecord {end} {found}\n")
+    format!(in alloc; "{name}: error: {what} {first} {second}\n")
 }
 
-// The line of a record that isn't known.
-fn special_line(
+// The line of a record that isn't taken.
+pub(crate) fn special_line(
     alloc: Global,
     name: Option<CommandName>,
+    what: &str,
     at: Lsn,
     manager: u8,
     info: u8,
 ) -> Result<String, AllocError>
     ensures { IfOk result (λ line. string_bytes line ≡ line_with name
-        (special_pieces at manager info)) }
+        (special_pieces what.now at manager info)) }
 {
     let name = name_text(name);
-    format!(in alloc; "{name}: error: UnknownSpecial {at} {manager} {info}\n")
+    format!(in alloc; "{name}: error: {what} {at} {manager} {info}\n")
 }
 
 /// The line of clusters or files that are unfit.
@@ -68,10 +72,12 @@ pub(crate) fn unfit_line(
         RewindCause::NotClean(root, state) => {
             number_line(alloc, name, "NotClean", root, u64::from(*state))
         }
-        RewindCause::EndNotRecord(end, found) => ends_line(alloc, name, *end, *found),
+        RewindCause::EndNotRecord(end, found) => {
+            ends_line(alloc, name, "EndNotRecord", *end, *found)
+        }
         RewindCause::NoCommonCheckpoint(at) => place_line(alloc, name, "NoCommonCheckpoint", *at),
         RewindCause::UnknownSpecial(at, manager, info) => {
-            special_line(alloc, name, *at, *manager, *info)
+            special_line(alloc, name, "UnknownSpecial", *at, *manager, *info)
         }
         RewindCause::KindsDiffer(path) => path_line(alloc, name, "KindsDiffer", path),
         RewindCause::OddSize(path, bytes) => number_line(alloc, name, "OddSize", path, *bytes),

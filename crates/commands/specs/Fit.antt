@@ -46,3 +46,4 @@ IsFit (command.Controldata words) = IsFitRoot words.root
 IsFit (command.Waldump words) = IsFitWaldump words
 IsFit (command.Resetwal words) = IsFitResetwal words
 IsFit (command.Archivecleanup words) = IsFitArchivecleanup words
+IsFit (command.Walreplay words) = IsFitRoot words.root

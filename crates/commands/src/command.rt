@@ -1,5 +1,7 @@
 // A command with what its words ask for.
-use crate::{ArchivecleanupWords, ControldataWords, ResetwalWords, RewindWords, WaldumpWords};
+use crate::{
+    ArchivecleanupWords, ControldataWords, ResetwalWords, RewindWords, WaldumpWords, WalreplayWords,
+};
 
 /// A command with what its words ask for. Each command that is built has a variant.
 #[derive(Drop)]
@@ -14,4 +16,6 @@ pub enum Command {
     Resetwal(ResetwalWords),
     /// pg_archivecleanup.
     Archivecleanup(ArchivecleanupWords),
+    /// pg_walreplay.
+    Walreplay(WalreplayWords),
 }

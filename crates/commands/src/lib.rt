@@ -9,6 +9,7 @@ mod name;
 mod resetwal;
 mod rewind;
 mod waldump;
+mod walreplay;
 
 pub use archivecleanup::ArchivecleanupWords;
 pub use command::Command;
@@ -18,3 +19,4 @@ pub use name::{CommandName, name_of, name_text, named};
 pub use resetwal::ResetwalWords;
 pub use rewind::RewindWords;
 pub use waldump::{DumpWords, Filters, WaldumpWords};
+pub use walreplay::WalreplayWords;

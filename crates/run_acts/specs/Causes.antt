@@ -23,6 +23,7 @@ ending_of (cause.Control c) = Refused
 ending_of (cause.History h) = Refused
 ending_of (cause.Rewind c) = Refused
 ending_of (cause.Log c) = Refused
+ending_of (cause.Replay c) = Refused
 
 -- a fault of a device or want of memory, which may come at any point
 abbrev pub IsFree : Cause → Type 0
@@ -41,7 +42,7 @@ is_of_text (paths.NotFolder path) = false
 is_of_text (paths.Link path) = false
 is_of_text (paths.NameNotText path) = false
 
--- what a command that changes nothing may answer of the files, whatever its words
+-- what a command may answer of the files, whatever its words
 abbrev pub is_of_files : Cause → Bool
 is_of_files cause.Done = false
 is_of_files cause.Usage = false
@@ -57,8 +58,9 @@ is_of_files (cause.Control c) = true
 is_of_files (cause.History h) = true
 is_of_files (cause.Rewind c) = true
 is_of_files (cause.Log c) = true
+is_of_files (cause.Replay c) = true
 
--- a path has too many parts: a root's own, or one that a walk finds below it
+-- a path has too many parts: a root's own, or one that a walk finds below it or below a folder that a record removes
 abbrev pub is_deep : Cause → Bool
 is_deep (cause.Paths (paths.TooDeep path)) = true
 is_deep _ = false
@@ -92,6 +94,7 @@ has_values (cause.History (history.NotRising root tli n)) = true
 has_values (cause.History history.NoCommonAncestor) = false
 has_values (cause.Rewind c) = true
 has_values (cause.Log c) = true
+has_values (cause.Replay c) = true
 
 -- the status of the program
 abbrev pub status_of : Cause → ℕ
@@ -109,3 +112,4 @@ status_of (cause.Control c) = 1
 status_of (cause.History h) = 1
 status_of (cause.Rewind c) = 1
 status_of (cause.Log c) = 1
+status_of (cause.Replay c) = 1

@@ -1,6 +1,8 @@
 // Why a run ended.
+use block_refs::BlockName;
 use cluster_tree::{Path, SinkFailed};
 use control_file::Field;
+use page_layout::RedoWhy;
 use wal_base::{Lsn, OutOfMemory};
 use wal_records::Why;
 
@@ -11,7 +13,7 @@ pub enum Cause {
     Done,
     /// The words are in no command's grammar.
     Usage,
-    /// The words, the clusters or what they need are not built yet.
+    /// The command isn't built yet.
     NotBuilt,
     /// A read of the tree failed.
     ReadFault,
@@ -35,6 +37,8 @@ pub enum Cause {
     Rewind(RewindCause),
     /// A log or a segment of one is refused.
     Log(LogCause),
+    /// A cluster, its label or a record of its log is unfit for a replay, or the replay broke off.
+    Replay(ReplayCause),
 }
 
 /// What is wrong with a path.
@@ -44,14 +48,15 @@ pub enum PathCause {
     DotDot,
     /// A root has more than 61 parts, or the folder of a log more than 62; of one with more than 64
     /// parts the first 64. Or a path that a rewind finds below a root has more than 64 with those of
-    /// its root or of the target; of it the first 64 behind the root's.
+    /// its root or of the target; of it the first 64 behind the root's. Or something lies in a folder
+    /// of 64 parts, at or below one that a record removes; that folder.
     TooDeep(Path),
     /// One of two roots is the other or lies in it.
     PathsOverlap,
     /// What has to be a folder isn't there, or is a file.
     NotFolder(Path),
-    /// What has to be a folder, or a file that is to be removed, is a link or a special file; or one
-    /// stands below a root of a rewind, at this path below it.
+    /// What has to be a folder, or a file that is to be removed or that a record needs, is a link or a
+    /// special file; or one stands below a root of a rewind, at this path below it.
     Link(Path),
     /// A folder holds a name that isn't text. In a rewind it is the folder's path below its root.
     NameNotText(Path),
@@ -127,6 +132,26 @@ pub enum LogCause {
     /// The file, whose first 40 bytes aren't the header of a segment; or pg_wal, where no new segment
     /// can be.
     BadSegment(Path),
+}
+
+/// Why a log isn't replayed, or not to its end.
+#[derive(Drop)]
+pub enum ReplayCause {
+    /// The root of a cluster whose pages have checksums.
+    ChecksumsOn(Path),
+    /// The root, below which `backup_label` is not a file.
+    NoLabel(Path),
+    /// The root, and the number of the line of its label that isn't of its form, or of which the log
+    /// has no checkpoint.
+    BadLabel(Path, u64),
+    /// A record that replay doesn't take: its start, its resource manager and its info byte.
+    NotInProfile(Lsn, u8, u8),
+    /// The end of the log, and the position that the cluster needs to be consistent.
+    EndsTooSoon(Lsn, Lsn),
+    /// The start of a record, a block, and why the record isn't redone on it.
+    RedoFailed(Lsn, BlockName, RedoWhy),
+    /// A block that a record changes, and that wasn't there to the end of the log.
+    MissingPage(BlockName),
 }
 
 impl From<SinkFailed> for Cause {

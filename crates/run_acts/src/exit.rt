@@ -32,7 +32,8 @@ impl Exit {
             | Cause::Control(_)
             | Cause::History(_)
             | Cause::Rewind(_)
-            | Cause::Log(_) => 1,
+            | Cause::Log(_)
+            | Cause::Replay(_) => 1,
         };
         Exit { status, cause }
     }

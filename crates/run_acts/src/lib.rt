@@ -6,7 +6,7 @@ mod exit;
 mod laws;
 mod tells;
 
-pub use cause::{Cause, ControlCause, HistoryCause, LogCause, PathCause, RewindCause};
+pub use cause::{Cause, ControlCause, HistoryCause, LogCause, PathCause, ReplayCause, RewindCause};
 pub use exit::Exit;
 pub use laws::sink_laws;
 pub use tells::tell;

@@ -8,6 +8,7 @@ use Rattle.tool_words.specs.Controldata.{controldata_table}
 use Rattle.tool_words.specs.Resetwal.{resetwal_table}
 use Rattle.tool_words.specs.Rewind.{rewind_table}
 use Rattle.tool_words.specs.Waldump.{waldump_table}
+use Rattle.tool_words.specs.Walreplay.{walreplay_table}
 
 pub controldata_is_simple : is_simple_and_free (command_with controldata_table) ≡ true
 unfolding controldata_table clap_on_literals
@@ -28,3 +29,7 @@ archivecleanup_is_simple = refl
 pub resetwal_is_simple : is_simple_and_free (command_with resetwal_table) ≡ true
 unfolding resetwal_table clap_on_literals
 resetwal_is_simple = refl
+
+pub walreplay_is_simple : is_simple_and_free (command_with walreplay_table) ≡ true
+unfolding walreplay_table clap_on_literals
+walreplay_is_simple = refl

@@ -21,6 +21,7 @@ use Rattle.tool_words.specs.Paths.{root_named, folder_named}
 use Rattle.tool_words.specs.Resetwal.{resetwal_of}
 use Rattle.tool_words.specs.Rewind.{rewind_of}
 use Rattle.tool_words.specs.Waldump.{waldump_of}
+use Rattle.tool_words.specs.Walreplay.{walreplay_of}
 use Rattle.tool_words.specs.declared.archivecleanup.ArchivecleanupTexts.{ArchivecleanupTexts}
 use Rattle.tool_words.specs.declared.resetwal.ResetwalTexts.{ResetwalTexts}
 use Rattle.tool_words.specs.declared.rewind.RewindTexts.{RewindTexts}
@@ -108,6 +109,11 @@ abbrev pub archivecleanup_asked : Option ArchivecleanupTexts → Result Command 
 archivecleanup_asked None = Err fault.Usage
 archivecleanup_asked (Some words) = given (folder_named words.folder) (λ folder. Ok (cleanup_in_folder words folder))
 
+-- pg_walreplay, at its root
+abbrev pub walreplay_asked : Option (List ℕ) → Result Command CommandFault
+walreplay_asked None = Err fault.Usage
+walreplay_asked (Some text) = given (root_named text) (λ root. Ok (command.Walreplay (record { root = root })))
+
 -- what the words of the command of this name ask for; the others aren't built yet, whatever their words
 unfoldable pub command_named : Option CommandName → List (List ℕ) → Result Command CommandFault
 command_named None words = Err fault.Usage
@@ -116,7 +122,7 @@ command_named (Some name.PgWaldump) words = waldump_asked (waldump_of words)
 command_named (Some name.PgControldata) words = controldata_asked (controldata_of words)
 command_named (Some name.PgResetwal) words = resetwal_asked (resetwal_of words)
 command_named (Some name.PgArchivecleanup) words = archivecleanup_asked (archivecleanup_of words)
-command_named (Some name.PgWalreplay) words = Err fault.NotBuilt
+command_named (Some name.PgWalreplay) words = walreplay_asked (walreplay_of words)
 command_named (Some name.PgWalcompare) words = Err fault.NotBuilt
 command_named (Some name.Pair) words = Err fault.NotBuilt
 

@@ -7,5 +7,6 @@ pub mod Forms
 pub mod Numbers
 pub mod Resetwal
 pub mod Waldump
+pub mod Walreplay
 pub mod Command
 pub mod Laws

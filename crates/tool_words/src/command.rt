@@ -4,12 +4,13 @@ ghost use Rattle.cluster_tree.specs.Causes.{Meets};
 ghost use Rattle.commands.specs.Faults.{IsFree};
 ghost use Rattle.commands.specs.Fit.{IsFit};
 ghost use Rattle.tool_words.specs.Command.{archivecleanup_asked, command_of, controldata_asked, resetwal_asked};
-ghost use Rattle.tool_words.specs.Command.{rewind_asked, waldump_asked};
+ghost use Rattle.tool_words.specs.Command.{rewind_asked, waldump_asked, walreplay_asked};
 ghost use Rattle.tool_words.specs.Archivecleanup.{archivecleanup_of};
 ghost use Rattle.tool_words.specs.Controldata.{controldata_of};
 ghost use Rattle.tool_words.specs.Resetwal.{resetwal_of};
 ghost use Rattle.tool_words.specs.Rewind.{rewind_of};
 ghost use Rattle.tool_words.specs.Waldump.{waldump_of};
+ghost use Rattle.tool_words.specs.Walreplay.{walreplay_of};
 
 use crate::archivecleanup::archivecleanup_words;
 use crate::controldata::controldata_words;
@@ -19,10 +20,11 @@ use crate::resetwal::resetwal_words;
 use crate::rewind::rewind_words;
 use crate::roots::two_roots;
 use crate::waldump::{WaldumpTexts, waldump_words};
+use crate::walreplay::walreplay_words;
 use command_words::WordsFault;
 use commands::{
     ArchivecleanupWords, Command, CommandFault, CommandName, ControldataWords, ResetwalWords,
-    WaldumpWords, name_of,
+    WaldumpWords, WalreplayWords, name_of,
 };
 use std::alloc::Global;
 
@@ -104,6 +106,20 @@ fn archivecleanup_asked(alloc: Global, words: &[String]) -> Result<Command, Comm
     }
 }
 
+fn walreplay_asked(alloc: Global, words: &[String]) -> Result<Command, CommandFault>
+    ensures answer { Meets IsFree (walreplay_asked (walreplay_of (map string_bytes words.now))) result }
+    ensures fit { IfOk result IsFit }
+{
+    match walreplay_words(alloc, words) {
+        Ok(text) => {
+            let root = path_named(alloc, MOST_OF_ROOT, text.as_str())?;
+            Ok(Command::Walreplay(WalreplayWords { root }))
+        }
+        Err(WordsFault::Usage) => Err(CommandFault::Usage),
+        Err(WordsFault::OutOfMemory) => Err(CommandFault::OutOfMemory),
+    }
+}
+
 /// What the words ask for, the first of them being a command's name.
 ///
 /// Answers `Usage` where they are in no command's grammar, `NotBuilt` where they name a command that
@@ -121,8 +137,7 @@ pub fn read_command(alloc: Global, words: &[String]) -> Result<Command, CommandF
         Some(CommandName::PgControldata) => controldata_asked(alloc, words),
         Some(CommandName::PgResetwal) => resetwal_asked(alloc, words),
         Some(CommandName::PgArchivecleanup) => archivecleanup_asked(alloc, words),
-        Some(CommandName::PgWalreplay | CommandName::PgWalcompare | CommandName::Pair) => {
-            Err(CommandFault::NotBuilt)
-        }
+        Some(CommandName::PgWalreplay) => walreplay_asked(alloc, words),
+        Some(CommandName::PgWalcompare | CommandName::Pair) => Err(CommandFault::NotBuilt),
     }
 }

@@ -15,6 +15,7 @@ mod rewind;
 mod root;
 mod roots;
 mod waldump;
+mod walreplay;
 
 pub use command::read_command;
 pub use laws::{a_root_is_read, a_start_is_read, two_roots_are_read};

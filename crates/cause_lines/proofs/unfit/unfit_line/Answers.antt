@@ -1,4 +1,13 @@
 use Rattle.cause_lines.proofs.unfit.unfit_line.Goals as goal
 
+pub returns-in-EndNotRecord : goal.returns-in-EndNotRecord
+returns-in-EndNotRecord c = rw c.in-EndNotRecord.is c.ends_line.ensures
+
+pub returns-in-UnknownSpecial : goal.returns-in-UnknownSpecial
+returns-in-UnknownSpecial c = rw c.in-UnknownSpecial.is c.special_line.ensures
+
+pub returns-in-KindsDiffer : goal.returns-in-KindsDiffer
+returns-in-KindsDiffer c = rw c.in-KindsDiffer.is c.path_line-in-KindsDiffer.ensures
+
 pub returns-in-OddSize : goal.returns-in-OddSize
 returns-in-OddSize c = rw c.in-OddSize.is c.number_line-in-OddSize.ensures
