@@ -1,5 +1,5 @@
 -- A run, from the words to the line of the cause.
-use Rattle.std.proofs.Common.{◌≡◌, ◌⊎◌, ℤ, Bool, true, false, not, IsTrue, List, Some, is_some, inl, inr, refl, sym, ap, ◌∙◌, subst, Result, Ok, Err, OnOk}
+use Rattle.std.proofs.Common.{◌≡◌, ◌⊎◌, ℕ, ℤ, Bool, true, false, not, IsTrue, List, Some, is_some, inl, inr, refl, sym, ap, ◌∙◌, subst, Result, Ok, Err, OnOk}
 use Rattle.cluster_tree.specs.Contents.{Contents}
 use Rattle.cluster_tree.specs.declared.tree.ChangeCall.{ChangeCall}
 use Rattle.commands.specs.declared.command.Command.{Command}
@@ -30,8 +30,11 @@ use Rattle.commands.specs.declared.archivecleanup.ArchivecleanupWords.{Archivecl
 use Rattle.cmd_controldata.proofs.FormLemmas.{answer-form as control-form, answer-looks as control-looks}
 use Rattle.cmd_rewind.proofs.FormLemmas.{answer-form as rewind-form, answer-looks as rewind-looks}
 use Rattle.cmd_waldump.proofs.FormLemmas.{answer-form as waldump-form, answer-looks as waldump-looks}
+use Rattle.cmd_walreplay.specs.Walreplay.{IsWalreplay, LeavesReplayed, StaysMarked, walreplay_answer}
+use Rattle.cmd_walreplay.proofs.FormLemmas.{answer-form as replay-form, answer-looks as replay-looks}
+use Rattle.commands.specs.declared.walreplay.WalreplayWords.{WalreplayWords}
 use Rattle.wal_tools.specs.Answers.{IsAnswer, answered}
-use Rattle.wal_tools.specs.Rewound.{LeavesAsked}
+use Rattle.wal_tools.specs.Leaves.{LeavesAsked, StaysAsked}
 use Rattle.wal_tools.specs.Words.{IsSeen, MayChange, NeedsNoTree, refused_by_words, words_cause}
 
 -- what is done has the command's form, and begins with a look
@@ -41,6 +44,7 @@ answered-form c now (Ok (command.Controldata words)) = control-form (control_at 
 answered-form c now (Ok (command.Waldump words)) = waldump-form c words
 answered-form c now (Ok (command.Resetwal words)) = reset-form c words now
 answered-form c now (Ok (command.Archivecleanup words)) = cleanup-form c words
+answered-form c now (Ok (command.Walreplay words)) = replay-form c words
 answered-form c now (Err e) = refl
 
 pub answered-looks : (c : Contents) (now : ℤ) (asked : Result Command CommandFault) → Looks ((answered c now asked).acts)
@@ -49,6 +53,7 @@ answered-looks c now (Ok (command.Controldata words)) = control-looks (control_a
 answered-looks c now (Ok (command.Waldump words)) = waldump-looks c words
 answered-looks c now (Ok (command.Resetwal words)) = reset-looks c words now
 answered-looks c now (Ok (command.Archivecleanup words)) = cleanup-looks c words
+answered-looks c now (Ok (command.Walreplay words)) = replay-looks c words
 answered-looks c now (Err e) = tt
 
 -- what is carried out of words
@@ -135,11 +140,67 @@ pub wet_rewind : {k : Command} {words : RewindWords} → k ≡ command.Rewind wo
 wet_rewind {k} {words} is dry = let P : Command → Type 0 = λ x. MayChange (Ok x) in subst P (sym is) (wet words.dry_run dry)
 
 -- what it leaves, with the time under another name
-pub rewound_at : {k : Command} {words : RewindWords} {n m : ℤ} (r : Result (Unit {0}) Cause) (c c' : Contents) → k ≡ command.Rewind words → n ≡ m → OnOk r (LeavesRewound words n c c') → OnOk r (LeavesAsked (Ok k) m c c')
-rewound_at {k} {words} {n} {m} r c c' is same left =
+pub rewound_at : {k : Command} {words : RewindWords} {n m : ℤ} (r : Result (Unit {0}) Cause) (tells : Bool) (c c' : Contents) (out out' : List ℕ) → k ≡ command.Rewind words → n ≡ m → OnOk r (LeavesRewound words n c c')
+    → OnOk r (LeavesAsked (Ok k) m tells c c' out out')
+rewound_at {k} {words} {n} {m} r tells c c' out out' is same left =
     let P : ℤ → Type 0 = λ x. OnOk r (LeavesRewound words x c c') in
-    let Q : Command → Type 0 = λ x. OnOk r (LeavesAsked (Ok x) m c c') in
+    let Q : Command → Type 0 = λ x. OnOk r (LeavesAsked (Ok x) m tells c c' out out') in
     subst Q (sym is) (subst P same left)
+
+-- what pg_walreplay does is seen where the tree tells
+seen_replay : (T : Type 0) (words : WalreplayWords) → IsSeen T (Ok (command.Walreplay words)) → T
+seen_replay T words (inl t) = t
+seen_replay T words (inr none) = absurd (none tt)
+
+-- it was carried out
+pub of_walreplay : (tells : Bool) (c : Contents) (now : ℤ) {k : Command} {words : WalreplayWords} {o e : Bool} {ended : Cause} {s u : Seen} → k ≡ command.Walreplay words
+    → CarriesUnseen (IsTrue tells) (IsTrue tells) (walreplay_answer c words) (IsWalreplay words) o e ended s u → CarriesOut tells c now o e (Ok k) ended s u
+of_walreplay tells c now {words = words} {o} {e} {ended} {s} {u} is p =
+    let P : Command → Type 0 = λ x. CarriesOut tells c now o e (Ok x) ended s u in
+    subst P (sym is) (unseen_by (seen_replay (IsTrue tells) words) (λ t. inl t) (unseen_known (by_tree tells) p))
+
+-- it may change files
+pub replay_may : {k : Command} {words : WalreplayWords} → k ≡ command.Walreplay words → MayChange (Ok k)
+replay_may {k} {words} is = let P : Command → Type 0 = λ x. MayChange (Ok x) in subst P (sym is) tt
+
+-- what it leaves
+pub replayed_at : {k : Command} {words : WalreplayWords} (r : Result (Unit {0}) Cause) (now : ℤ) (tells : Bool) (c c' : Contents) (out out' : List ℕ) → k ≡ command.Walreplay words → OnOk r (LeavesReplayed words tells c c' out out')
+    → OnOk r (LeavesAsked (Ok k) now tells c c' out out')
+replayed_at {k} {words} r now tells c c' out out' is left = let Q : Command → Type 0 = λ x. OnOk r (LeavesAsked (Ok x) now tells c c' out out') in subst Q (sym is) left
+
+-- and what stays
+pub stays_at : {k : Command} {words : WalreplayWords} (c c' : Contents) {ended : Cause} → k ≡ command.Walreplay words → StaysMarked words c c' ended → StaysAsked (Ok k) c c' ended
+stays_at {k} {words} c c' {ended} is stays = let Q : Command → Type 0 = λ x. StaysAsked (Ok x) c c' ended in subst Q (sym is) stays
+
+-- what stays does so where a fault of a device, or want of memory, stands in place of the cause
+stays_free : (asked : Result Command CommandFault) (c c' : Contents) (own : Cause) {ended : Cause} → IsFree ended → StaysAsked asked c c' own → StaysAsked asked c c' ended
+stays_free (Ok (command.Rewind words)) c c' own free stays = tt
+stays_free (Ok (command.Controldata words)) c c' own free stays = tt
+stays_free (Ok (command.Waldump words)) c c' own free stays = tt
+stays_free (Ok (command.Resetwal words)) c c' own free stays = tt
+stays_free (Ok (command.Archivecleanup words)) c c' own free stays = tt
+stays_free (Ok (command.Walreplay words)) c c' own free stays = record { log = stays.log; mark = λ s is. inl free }
+stays_free (Err e) c c' own free stays = tt
+
+-- where nothing was done, for want of memory
+pub stays_unmade : (asked : Result Command CommandFault) (c : Contents) → StaysAsked asked c c cause.OutOfMemory
+stays_unmade (Ok (command.Rewind words)) c = tt
+stays_unmade (Ok (command.Controldata words)) c = tt
+stays_unmade (Ok (command.Waldump words)) c = tt
+stays_unmade (Ok (command.Resetwal words)) c = tt
+stays_unmade (Ok (command.Archivecleanup words)) c = tt
+stays_unmade (Ok (command.Walreplay words)) c = record { log = λ path holds. refl; mark = λ s is. inl (inr (inr (inr refl))) }
+stays_unmade (Err e) c = tt
+
+-- where the words are refused
+pub stays_refused : (f : CommandFault) (asked : Result Command CommandFault) (c : Contents) {why : Cause} → why ≡ words_cause f → (f ≡ fault.OutOfMemory) ⊎ (asked ≡ Err f) → StaysAsked asked c c why
+stays_refused f asked c is (inl m) = subst (StaysAsked asked c c) (sym (is ∙ ap words_cause m)) (stays_unmade asked c)
+stays_refused f asked c {why} is (inr r) = let P : Result Command CommandFault → Type 0 = λ a. StaysAsked a c c why in subst P (sym r) tt
+
+-- and with the cause that is told
+pub stays_told : (asked : Result Command CommandFault) (c c' : Contents) {outcome own ended : Cause} → own ≡ outcome → (ended ≡ own) ⊎ (IsTrue (has_values own) × (ended ≡ cause.OutOfMemory)) → StaysAsked asked c c' outcome → StaysAsked asked c c' ended
+stays_told asked c c' same (inl is) stays = subst (StaysAsked asked c c') (sym (is ∙ same)) stays
+stays_told asked c c' {outcome} same (inr m) stays = stays_free asked c c' outcome (inr (inr (inr m.1))) stays
 
 -- what pg_resetwal does is seen where the tree tells, and of a dry run
 seen_reset : (T : Type 0) (words : ResetwalWords) → IsSeen T (Ok (command.Resetwal words)) → T ⊎ IsTrue (is_some words.options.dry)
@@ -172,6 +233,7 @@ needless (Ok (command.Controldata words)) need may = may
 needless (Ok (command.Waldump words)) need may = may
 needless (Ok (command.Resetwal words)) need may = need
 needless (Ok (command.Archivecleanup words)) need may = need
+needless (Ok (command.Walreplay words)) need may = need
 needless (Err e) need may = may
 
 seen_by : (T : Type 0) (asked : Result Command CommandFault) → T ⊎ NeedsNoTree asked → IsSeen T asked
@@ -210,11 +272,11 @@ exact_told tells c now asked {o} {e} {outcome} {own} {ended} {s} {u} same (inl i
 exact_told tells c now asked same (inr m) p h = inl (inr (inr (inr m.1)))
 
 -- a run that is done had that outcome
-pub rewound_done : (r : Result (Unit {0}) Cause) (asked : Result Command CommandFault) {n m : ℤ} (c c' : Contents) {own ended : Cause} → (r ≡ Err cause.Done → ⊥) → own ≡ cause_of r → (ended ≡ own) ⊎ (IsTrue (has_values own) × (ended ≡ cause.OutOfMemory)) → ended ≡ cause.Done
-    → n ≡ m → OnOk r (LeavesAsked asked n c c') → LeavesAsked asked m c c'
-rewound_done (Ok u) asked c c' undone own told done same left = let P : ℤ → Type 0 = λ x. LeavesAsked asked x c c' in subst P same left
-rewound_done (Err e) asked c c' undone own (inl is) done same left = absurd (undone (ap Err (sym own ∙ sym is ∙ done)))
-rewound_done (Err e) asked c c' undone own (inr m) done same left = let no : cause.OutOfMemory ≡ cause.Done = sym m.1 ∙ done in absurd (cc no)
+pub leaves_done : (r : Result (Unit {0}) Cause) (asked : Result Command CommandFault) {n m : ℤ} (tells : Bool) (c c' : Contents) (out out' : List ℕ) {own ended : Cause} → (r ≡ Err cause.Done → ⊥) → own ≡ cause_of r → (ended ≡ own) ⊎ (IsTrue (has_values own) × (ended ≡ cause.OutOfMemory)) → ended ≡ cause.Done
+    → n ≡ m → OnOk r (LeavesAsked asked n tells c c' out out') → LeavesAsked asked m tells c c' out out'
+leaves_done (Ok u) asked tells c c' out out' undone own told done same left = let P : ℤ → Type 0 = λ x. LeavesAsked asked x tells c c' out out' in subst P same left
+leaves_done (Err e) asked tells c c' out out' undone own (inl is) done same left = absurd (undone (ap Err (sym own ∙ sym is ∙ done)))
+leaves_done (Err e) asked tells c c' out out' undone own (inr m) done same left = let no : cause.OutOfMemory ≡ cause.Done = sym m.1 ∙ done in absurd (cc no)
 
 -- a line that is made in memory, where there was none, has values
 pub values_of : (b : Bool) → (b ≡ false → ⊥) → b ≡ true

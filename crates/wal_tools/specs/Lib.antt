@@ -1,4 +1,4 @@
 pub mod Words
 pub mod Answers
-pub mod Rewound
+pub mod Leaves
 pub mod Runs

@@ -1,4 +1,5 @@
 -- What the words alone decide, whatever files there are: PostgreSQL 16 manual, reference pages of pg_rewind, pg_controldata, pg_waldump, pg_resetwal and pg_archivecleanup.
+-- Own: "Commands of this project's own".
 use Rattle.std.specs.Prelude.{◌≡◌, ◌⊎◌, IsTrue, not, is_some, Option, None, Some, Result, Ok, Err}
 use Rattle.commands.specs.declared.command.Command.{Command}
 use Rattle.commands.specs.declared.command.Command.TheVariants as command
@@ -25,6 +26,7 @@ refused_by_words (Ok (command.Controldata words)) = None
 refused_by_words (Ok (command.Waldump words)) = None
 refused_by_words (Ok (command.Resetwal words)) = None
 refused_by_words (Ok (command.Archivecleanup words)) = None
+refused_by_words (Ok (command.Walreplay words)) = None
 refused_by_words (Err e) = Some (words_cause e)
 
 -- Words are faulty: they are in no command's grammar, or they are pg_waldump's and break a rule on its start and its end where segments have some size.
@@ -34,6 +36,7 @@ AreFaulty (Ok (command.Controldata words)) = ⊥
 AreFaulty (Ok (command.Waldump words)) = BreakRule words
 AreFaulty (Ok (command.Resetwal words)) = ⊥
 AreFaulty (Ok (command.Archivecleanup words)) = ⊥
+AreFaulty (Ok (command.Walreplay words)) = ⊥
 AreFaulty (Err e) = e ≡ fault.Usage
 
 -- what is asked for needs no tree: the list of resource managers, and words that refuse alone
@@ -43,24 +46,27 @@ NeedsNoTree (Ok (command.Controldata words)) = ⊥
 NeedsNoTree (Ok (command.Waldump words)) = AskForList words
 NeedsNoTree (Ok (command.Resetwal words)) = ⊥
 NeedsNoTree (Ok (command.Archivecleanup words)) = ⊥
+NeedsNoTree (Ok (command.Walreplay words)) = ⊥
 NeedsNoTree (Err e) = Unit {0}
 
--- a command that may make changing calls: pg_rewind, pg_resetwal and pg_archivecleanup, but for a dry run
+-- a command that may make changing calls: pg_rewind, pg_resetwal and pg_archivecleanup, but for a dry run, and pg_walreplay
 abbrev pub MayChange : Result Command CommandFault → Type 0
 MayChange (Ok (command.Rewind words)) = IsTrue (not words.dry_run)
 MayChange (Ok (command.Controldata words)) = ⊥
 MayChange (Ok (command.Waldump words)) = ⊥
 MayChange (Ok (command.Resetwal words)) = IsTrue (not (is_some words.options.dry))
 MayChange (Ok (command.Archivecleanup words)) = IsTrue (not words.dry_run)
+MayChange (Ok (command.Walreplay words)) = Unit {0}
 MayChange (Err e) = ⊥
 
--- a command that walks over folders, and may find a path below its roots that is too deep
+-- a command that walks over folders, or removes those that a record names, and may find a path below its roots that is too deep
 abbrev pub Walks : Result Command CommandFault → Type 0
 Walks (Ok (command.Rewind words)) = Unit {0}
 Walks (Ok (command.Controldata words)) = ⊥
 Walks (Ok (command.Waldump words)) = ⊥
 Walks (Ok (command.Resetwal words)) = ⊥
 Walks (Ok (command.Archivecleanup words)) = ⊥
+Walks (Ok (command.Walreplay words)) = Unit {0}
 Walks (Err e) = ⊥
 
 -- what a run does to the tree is seen: the tree tells what it holds, or the command changes nothing

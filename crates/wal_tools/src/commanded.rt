@@ -8,7 +8,7 @@ ghost use Rattle.run_acts.specs.Answers.{Blames};
 ghost use Rattle.run_acts.specs.Causes.{cause_of, is_deep, is_of_files};
 ghost use Rattle.run_acts.specs.Unseen.{CarriesUnseen};
 ghost use Rattle.wal_tools.specs.Answers.{IsAnswer, answered};
-ghost use Rattle.wal_tools.specs.Rewound.{LeavesAsked};
+ghost use Rattle.wal_tools.specs.Leaves.{LeavesAsked, StaysAsked};
 ghost use Rattle.wal_tools.specs.Words.{AreFaulty, IsSeen, MayChange, NeedsNoTree, Walks, refused_by_words};
 
 use cluster_tree::{Sink, Tree};
@@ -17,6 +17,7 @@ use cmd_controldata::controldata;
 use cmd_resetwal::resetwal;
 use cmd_rewind::rewind;
 use cmd_waldump::waldump;
+use cmd_walreplay::walreplay;
 use commands::Command;
 use run_acts::Cause;
 use std::alloc::Global;
@@ -55,8 +56,11 @@ pub(crate) fn carry_out<F: Tree, O: Sink, E: Sink>(
     ensures changed { IsTrue F.tells → (p : PathValue) → result ≢ Err (Cause.Changed p) }
     ensures reads { ¬ MayChange (Ok command.now) → Reads F.Tree tree.old tree.new }
     ensures frame { Came F.Tree tree.old tree.new }
-    ensures rewound { IsTrue F.tells → OnOk result
-        (LeavesAsked (Ok command.now) now (F.contents tree.old) (F.contents tree.new)) }
+    ensures leaves { IsTrue F.tells → OnOk result
+        (LeavesAsked (Ok command.now) now O.tells (F.contents tree.old) (F.contents tree.new)
+        (O.written out.old) (O.written out.new)) }
+    ensures stays { IsTrue F.tells →
+        StaysAsked (Ok command.now) (F.contents tree.old) (F.contents tree.new) (cause_of result) }
 {
     match command {
         Command::Rewind(words) => rewind(alloc, tree, err, words, now),
@@ -64,5 +68,6 @@ pub(crate) fn carry_out<F: Tree, O: Sink, E: Sink>(
         Command::Waldump(words) => waldump(alloc, tree, out, words),
         Command::Resetwal(words) => resetwal(alloc, tree, out, words, now),
         Command::Archivecleanup(words) => archivecleanup(alloc, tree, out, err, words),
+        Command::Walreplay(words) => walreplay(alloc, tree, out, words),
     }
 }

@@ -10,7 +10,7 @@ ghost use Rattle.run_acts.specs.Causes.{IsFree, cause_of, is_deep, is_of_text, s
 ghost use Rattle.run_acts.specs.Unseen.{CarriesUnseen};
 ghost use Rattle.cause_lines.specs.Lines.{line_of};
 ghost use Rattle.wal_tools.specs.Answers.{IsAnswer, answered};
-ghost use Rattle.wal_tools.specs.Rewound.{LeavesAsked};
+ghost use Rattle.wal_tools.specs.Leaves.{LeavesAsked, StaysAsked};
 ghost use Rattle.wal_tools.specs.Runs.{Runs};
 ghost use Rattle.wal_tools.specs.Words.{AreFaulty, IsSeen, MayChange, NeedsNoTree, Walks, refused_by_words};
 
@@ -61,8 +61,11 @@ fn answer<F: Tree, O: Sink, E: Sink>(
     ensures reads { ¬ MayChange (command_of (map string_bytes words.now)) →
         Reads F.Tree tree.old tree.new }
     ensures frame { Came F.Tree tree.old tree.new }
-    ensures rewound { IsTrue F.tells → OnOk result (LeavesAsked
-        (command_of (map string_bytes words.now)) now (F.contents tree.old) (F.contents tree.new)) }
+    ensures leaves { IsTrue F.tells → OnOk result (LeavesAsked
+        (command_of (map string_bytes words.now)) now O.tells (F.contents tree.old)
+        (F.contents tree.new) (O.written out.old) (O.written out.new)) }
+    ensures stays { IsTrue F.tells → StaysAsked (command_of (map string_bytes words.now))
+        (F.contents tree.old) (F.contents tree.new) (cause_of result) }
     ensures built { result ≡ Err Cause.NotBuilt →
         refused_by_words (command_of (map string_bytes words.now)) ≡ Some Cause.NotBuilt }
     ensures undone { result ≢ Err Cause.Done }
@@ -124,9 +127,13 @@ pub fn run<F: Tree, O: Sink, E: Sink>(
         MayChange (command_of (map string_bytes words.now)) }
     ensures changed { IsTrue F.tells → (p : PathValue) → result.cause ≢ Cause.Changed p }
 
-    // a rewind that is done leaves the rewound tree
-    ensures rewound { IsTrue F.tells → result.cause ≡ Cause.Done → LeavesAsked
-        (command_of (map string_bytes words.now)) now (F.contents tree.old) (F.contents tree.new) }
+    // a rewind that is done leaves the rewound tree, and a replay the replayed one, which it tells
+    ensures leaves { IsTrue F.tells → result.cause ≡ Cause.Done → LeavesAsked
+        (command_of (map string_bytes words.now)) now O.tells (F.contents tree.old)
+        (F.contents tree.new) (O.written out.old) (O.written out.new) }
+    // whatever its cause, a replay leaves the log, and a refusal behind its first change the mark
+    ensures stays { IsTrue F.tells → StaysAsked (command_of (map string_bytes words.now))
+        (F.contents tree.old) (F.contents tree.new) result.cause }
 
     // what the words alone decide, over every tree
     ensures usage { result.cause ≡ Cause.Usage →

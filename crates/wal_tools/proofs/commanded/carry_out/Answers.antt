@@ -1,7 +1,7 @@
 use Rattle.std.proofs.Common.{FitsSigned, Ok, rules, w64}
 use Rattle.std.proofs.lemmas.Int.{to_z-of_z}
 use Rattle.acts.specs.Acts.{sunk}
-use Rattle.wal_tools.proofs.RunLemmas.{at_time, dried_cleanup, dried_reset, dried_rewind, of_archivecleanup, of_controldata, of_resetwal, of_rewind, of_waldump, rewound_at}
+use Rattle.wal_tools.proofs.RunLemmas.{at_time, dried_cleanup, dried_reset, dried_rewind, of_archivecleanup, of_controldata, of_resetwal, of_rewind, of_waldump, of_walreplay, replay_may, replayed_at, rewound_at, stays_at}
 use Rattle.wal_tools.proofs.commanded.carry_out.Goals as goal
 
 pub returns-in-Rewind-clause-carries : goal.returns-in-Rewind-clause-carries
@@ -14,10 +14,10 @@ returns-in-Rewind-clause-carries g c =
 pub returns-in-Rewind-clause-reads : goal.returns-in-Rewind-clause-reads
 returns-in-Rewind-clause-reads g c none = c.rewind.ensures.reads (dried_rewind c.in-Rewind.is none)
 
-pub returns-in-Rewind-clause-rewound : goal.returns-in-Rewind-clause-rewound
-returns-in-Rewind-clause-rewound g c t =
+pub returns-in-Rewind-clause-leaves : goal.returns-in-Rewind-clause-leaves
+returns-in-Rewind-clause-leaves g c t =
     let fits : FitsSigned w64 c.args.now = search rules in
-    rewound_at c.rewind.result (g.F.Tree.contents c.args.tree.now) (g.F.Tree.contents c.rewind.new.tree) c.in-Rewind.is (to_z-of_z w64 c.args.now fits) (c.rewind.ensures.rewound t)
+    rewound_at c.rewind.result g.O.Sink.tells (g.F.Tree.contents c.args.tree.now) (g.F.Tree.contents c.rewind.new.tree) (g.O.Sink.written c.args.out.now) (g.O.Sink.written c.args.out.now) c.in-Rewind.is (to_z-of_z w64 c.args.now fits) (c.rewind.ensures.rewound t)
 
 pub returns-in-Controldata-clause-carries : goal.returns-in-Controldata-clause-carries
 returns-in-Controldata-clause-carries g c =
@@ -58,3 +58,23 @@ returns-in-Archivecleanup-clause-carries g c =
 
 pub returns-in-Archivecleanup-clause-reads : goal.returns-in-Archivecleanup-clause-reads
 returns-in-Archivecleanup-clause-reads g c none = c.archivecleanup.ensures.reads (dried_cleanup c.in-Archivecleanup.is none)
+
+pub returns-in-Walreplay-clause-carries : goal.returns-in-Walreplay-clause-carries
+returns-in-Walreplay-clause-carries g c =
+    of_walreplay g.F.Tree.tells (g.F.Tree.contents c.args.tree.now) c.args.now c.in-Walreplay.is
+    (c.walreplay.ensures.carries g.E.Sink.tells (sunk (g.E.Sink.written c.args.err.now) (g.E.Sink.failed_writes c.args.err.now)))
+
+pub returns-in-Walreplay-clause-blames : goal.returns-in-Walreplay-clause-blames
+returns-in-Walreplay-clause-blames g c = c.walreplay.ensures.blames (g.E.Sink.failed_writes c.args.err.now)
+
+pub returns-in-Walreplay-clause-reads : goal.returns-in-Walreplay-clause-reads
+returns-in-Walreplay-clause-reads g c none = absurd (none (replay_may c.in-Walreplay.is))
+
+pub returns-in-Walreplay-clause-leaves : goal.returns-in-Walreplay-clause-leaves
+returns-in-Walreplay-clause-leaves g c t =
+    replayed_at c.walreplay.result _ g.O.Sink.tells (g.F.Tree.contents c.args.tree.now) (g.F.Tree.contents c.walreplay.new.tree)
+    (g.O.Sink.written c.args.out.now) (g.O.Sink.written c.walreplay.new.out) c.in-Walreplay.is (c.walreplay.ensures.replayed t)
+
+pub returns-in-Walreplay-clause-stays : goal.returns-in-Walreplay-clause-stays
+returns-in-Walreplay-clause-stays g c t =
+    stays_at (g.F.Tree.contents c.args.tree.now) (g.F.Tree.contents c.walreplay.new.tree) c.in-Walreplay.is (c.walreplay.ensures.stays t)

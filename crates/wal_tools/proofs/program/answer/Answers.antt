@@ -1,7 +1,7 @@
 use Rattle.std.proofs.Common.{FitsSigned, Ok, map, rules, string_bytes, w64}
 use Rattle.std.proofs.lemmas.Int.{to_z-of_z}
 use Rattle.tool_words.specs.Command.{command_of}
-use Rattle.wal_tools.proofs.RunLemmas.{at_time, no_words, of_command, words_refused}
+use Rattle.wal_tools.proofs.RunLemmas.{at_time, no_words, of_command, stays_refused, stays_unmade, words_refused}
 use Rattle.wal_tools.proofs.program.answer.Goals as goal
 
 pub returns-in-Ok-clause-carries : goal.returns-in-Ok-clause-carries
@@ -15,3 +15,10 @@ returns-in-Err-OutOfMemory-clause-carries g c = no_words g.F.Tree.tells (g.F.Tre
 
 pub returns-in-Err-clause-carries : goal.returns-in-Err-clause-carries
 returns-in-Err-clause-carries g c = words_refused g.F.Tree.tells (g.F.Tree.contents c.args.tree.now) c.args.now (command_of (map string_bytes c.args.words.now)) c.in-Err.fault c.words_cause.result c.words_cause.ensures c.in-Err.ensures.answer
+
+pub returns-in-Err-OutOfMemory-clause-stays : goal.returns-in-Err-OutOfMemory-clause-stays
+returns-in-Err-OutOfMemory-clause-stays g c t = stays_unmade (command_of (map string_bytes c.args.words.now)) (g.F.Tree.contents c.args.tree.now)
+
+pub returns-in-Err-clause-stays : goal.returns-in-Err-clause-stays
+returns-in-Err-clause-stays g c t =
+    stays_refused c.in-Err.fault (command_of (map string_bytes c.args.words.now)) (g.F.Tree.contents c.args.tree.now) c.words_cause.ensures c.in-Err.ensures.answer

@@ -5,7 +5,7 @@ use Rattle.run_acts.proofs.UnseenSteps.{unseen_grow, unseen_told}
 use Rattle.tool_words.specs.Command.{command_of}
 use Rattle.cause_lines.specs.Lines.{line_of}
 use Rattle.wal_tools.specs.Runs.{Says}
-use Rattle.wal_tools.proofs.RunLemmas.{at_time, exact_told, rewound_done}
+use Rattle.wal_tools.proofs.RunLemmas.{at_time, exact_told, leaves_done, stays_told}
 use Rattle.wal_tools.proofs.program.run.Goals as goal
 
 pub returns-clause-exact : goal.returns-clause-exact
@@ -32,8 +32,14 @@ returns-clause-runs g c =
       last = refl;
     }
 
-pub returns-clause-rewound : goal.returns-clause-rewound
-returns-clause-rewound g c t done =
+pub returns-clause-leaves : goal.returns-clause-leaves
+returns-clause-leaves g c t done =
     let fits : FitsSigned w64 c.args.now = search rules in
-    rewound_done c.answer-outcome.result (command_of (map string_bytes c.args.words.now)) (g.F.Tree.contents c.args.tree.now) (g.F.Tree.contents c.answer-outcome.new.tree) c.answer-outcome.ensures.undone c.cause_of.ensures c.finish.ensures.cause done
-    (to_z-of_z w64 c.args.now fits) (c.answer-outcome.ensures.rewound t)
+    leaves_done c.answer-outcome.result (command_of (map string_bytes c.args.words.now)) g.O.Sink.tells (g.F.Tree.contents c.args.tree.now) (g.F.Tree.contents c.answer-outcome.new.tree)
+    (g.O.Sink.written c.args.out.now) (g.O.Sink.written c.answer-outcome.new.out) c.answer-outcome.ensures.undone c.cause_of.ensures c.finish.ensures.cause done
+    (to_z-of_z w64 c.args.now fits) (c.answer-outcome.ensures.leaves t)
+
+pub returns-clause-stays : goal.returns-clause-stays
+returns-clause-stays g c t =
+    stays_told (command_of (map string_bytes c.args.words.now)) (g.F.Tree.contents c.args.tree.now) (g.F.Tree.contents c.answer-outcome.new.tree)
+    c.cause_of.ensures c.finish.ensures.cause (c.answer-outcome.ensures.stays t)

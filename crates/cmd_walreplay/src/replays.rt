@@ -1,0 +1,62 @@
+// A replay of a cluster's log.
+ghost use Rattle.std.specs.Prelude.{◌≡◌, ◌≢◌, ◌⊎◌, ℕ, Bool, Err, IfErr, IsTrue, OnOk};
+ghost use Rattle.cluster_tree.specs.Frame.{Came};
+ghost use Rattle.cluster_tree.specs.PathValue.{PathValue};
+ghost use Rattle.commands.specs.Fit.{IsFitRoot};
+ghost use Rattle.acts.specs.Acts.{Sunk, seen, sunk};
+ghost use Rattle.run_acts.specs.Answers.{Blames};
+ghost use Rattle.run_acts.specs.Causes.{cause_of, is_deep, is_of_files};
+ghost use Rattle.run_acts.specs.Unseen.{CarriesUnseen};
+ghost use Rattle.cmd_walreplay.specs.Walreplay.{IsWalreplay, LeavesReplayed, StaysMarked, walreplay_answer};
+
+use crate::causes::replay_cause;
+use crate::line::replayed_line;
+use cluster_tree::{Sink, Tree};
+use commands::WalreplayWords;
+use replay_core::replay;
+use run_acts::{Cause, tell};
+use std::alloc::Global;
+
+/// Replays a cluster's log into its files, and tells on `out` how many records there were, where the
+/// last of them ends, and the cluster's timeline. The line takes no memory.
+///
+/// Answers the first fault of the order of `ReplayFault`, as `replay_cause` names it. Up to
+/// `EndsTooSoon` and the second line of a label nothing was changed; after `RedoFailed`, `MissingPage`
+/// and what an entry refuses, the mark stands, and a later run answers `Unfinished`. `ReadFault`,
+/// `WriteFault` and `SinkFault` come only where a call of that device failed, which it has counted, and
+/// `Changed` never where the tree tells its contents. A line that failed leaves the cluster replayed.
+pub fn walreplay<F: Tree, O: Sink>(
+    alloc: Global,
+    tree: &mut F,
+    out: &mut O,
+    words: &WalreplayWords,
+) -> Result<(), Cause>
+    requires { IsFitRoot words.now.root }
+    // the acts of an answer, whatever the tree is taken to have; the one that is meant where it tells
+    ensures carries { (err_tells : Bool) (err : Sunk) → CarriesUnseen (IsTrue F.tells) (IsTrue F.tells)
+        (walreplay_answer (F.contents tree.old) words.now) (IsWalreplay words.now)
+        O.tells err_tells (cause_of result)
+        (seen (F.contents tree.old) (F.calls tree.old)
+        (sunk (O.written out.old) (O.failed_writes out.old)) err)
+        (seen (F.contents tree.new) (F.calls tree.new)
+        (sunk (O.written out.new) (O.failed_writes out.new)) err) }
+    // a replay that is done leaves what is meant, and tells it
+    ensures replayed { IsTrue F.tells → OnOk result (LeavesReplayed words.now O.tells
+        (F.contents tree.old) (F.contents tree.new) (O.written out.old) (O.written out.new)) }
+    // the log stays, and where the replay is refused behind its first change, so does its mark
+    ensures stays { IsTrue F.tells → StaysMarked words.now (F.contents tree.old) (F.contents tree.new)
+        (cause_of result) }
+    ensures blames { (n : ℕ) → Blames (cause_of result)
+        (F.failed_reads tree.old) (F.failed_reads tree.new)
+        (F.failed_changes tree.old) (F.failed_changes tree.new)
+        (O.failed_writes out.old) (O.failed_writes out.new) n n }
+    ensures only { IfErr result (λ e. IsTrue (is_of_files e) ⊎ IsTrue (is_deep e) ⊎
+        (e ≡ Cause.WriteFault)) }
+    ensures changed { IsTrue F.tells → (p : PathValue) → result ≢ Err (Cause.Changed p) }
+    ensures frame { Came F.Tree tree.old tree.new }
+{
+    match replay(alloc, tree, &words.root) {
+        Ok(done) => tell(out, replayed_line(done).as_str()),
+        Err(fault) => Err(replay_cause(fault)),
+    }
+}
