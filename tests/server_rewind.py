@@ -10,8 +10,9 @@ from server_checks import control_lines, unequal, unequal_lines
 from server_format import BLOCK, convert, is_segment, read
 from server_pair import Server
 
-MARK = "pg_rewind.unfinished"
+MARK, REPLAY_MARK = "pg_rewind.unfinished", "pg_walreplay.unfinished"
 MAIN_FORK = re.compile(r"(global|base/\d+)/\d+(\.\d+)?")
+REPLAYED = ("base/", "global/", "pg_xact/", "pg_multixact/")
 OWN_SETTINGS = ("postgresql.conf", "postgresql.auto.conf", "pg_hba.conf", "pg_ident.conf")
 
 
@@ -110,43 +111,63 @@ def rewind(checks, old, new):
     return seen[0] == 0
 
 
-def refusals(checks, target, source):
+def refusals(checks, target, source, mark):
     """What is wrong with what each command that changes or compares clusters says of a target with a mark."""
-    line = "%s: error: Unfinished " + os.path.join(target, MARK) + "\n"
+    line = "%s: error: Unfinished " + os.path.join(target, mark) + "\n"
     for words in (["pg_rewind", "-D", target, "--source-pgdata", source], ["pg_rewind", "-D", source, "--source-pgdata", target],
                   ["pg_resetwal", "-f", "-D", target], ["pg_walreplay", target], ["pg_walcompare", target, source]):
         if checks.is_built(words[0]):
             yield checks.answers(1, "", line % words[0], *words)
 
 
+def killed(checks, name, words, cluster, source, mark, points):
+    """Runs over copies of a cluster, each killed at one of these changes. Whether runs can be killed here."""
+    machine, target = checks.machine, checks.machine.path("stopped16")
+    for kind, number in points:
+        shutil.copytree(cluster, target)
+        ended = server_stops.run_until(kind, number, [checks.program, *words], machine.env)
+        if ended is None:
+            checks.skip("a %s that is killed" % name, "calls can't be traced here")
+            shutil.rmtree(target)
+            return False
+        left = tree(target)
+        checks.expect("a %s that is killed at its %s %d leaves a target that is refused" % (name, kind, number),
+                      not ended and "it came to its end", mark not in left and "there is no mark",
+                      *refusals(checks, target, source, mark), left != tree(target) and "a refusal has changed it")
+        shutil.rmtree(target)
+    return True
+
+
 def stops(checks, old, new):
-    """Runs that are killed where the mark is still empty, at a copy, at a cut, at a removal, and where all is done but written
+    """Rewinds that are killed where the mark is still empty, at a copy, at a cut, at a removal, and where all is done but written
     out to the disk."""
     machine, target, source = checks.machine, checks.machine.path("stopped16"), new + "16"
-    words = [checks.program, "pg_rewind", "-D", target, "--source-pgdata", source]
+    words = ["pg_rewind", "-D", target, "--source-pgdata", source]
     source_before = tree(source)
-    for kind, number in (("write", 1), ("write", 300), ("cut", 100), ("remove", 50), ("sync", 3)):
-        shutil.copytree(old + "16", target)
-        killed = server_stops.run_until(kind, number, words, machine.env)
-        if killed is None:
-            checks.skip("a rewind that is killed", "calls can't be traced here")
-            return
-        left = tree(target)
-        checks.expect("a rewind that is killed at its %s %d leaves a target that is refused" % (kind, number),
-                      not killed and "it came to its end", MARK not in left and "there is no mark",
-                      *refusals(checks, target, source), left != tree(target) and "a refusal has changed it")
-        shutil.rmtree(target)
+    points = ("write", 1), ("write", 300), ("cut", 100), ("remove", 50), ("sync", 3)
+    if not killed(checks, "rewind", words, old + "16", source, MARK, points):
+        return
     for command in ("pg_walreplay", "pg_walcompare"):
         if not checks.is_built(command):
             checks.skip("%s refuses a rewind that was killed" % command, "it answers NotBuilt")
     shutil.copytree(old + "16", target)
-    checks.ours(*words[1:])
+    checks.ours(*words)
     convert(16, machine.version, target, machine.path("stopped"))
     again = Rewound(machine, machine.path("rewound"), machine.path("stopped"), old, new)
     checks.expect("after them a new copy is rewound to the same tree", again.differences(),
                   again.touched and "other blocks were copied", source_before != tree(source) and "the source has changed")
     shutil.rmtree(target)
     shutil.rmtree(machine.path("stopped"))
+
+
+def replay_stops(checks, new):
+    """Replays that are killed where the mark is still empty, at a block, and where all is done but written out to the disk."""
+    if not checks.is_built("pg_walreplay"):
+        checks.skip("a replay that is killed", "pg_walreplay answers NotBuilt")
+        return
+    machine = checks.machine
+    killed(checks, "replay", ["pg_walreplay", machine.path("stopped16")], machine.path("rewound16"), new + "16", REPLAY_MARK,
+           (("write", 1), ("write", 9000), ("sync", 3)))
 
 
 def compared(path, trees):
@@ -170,7 +191,9 @@ def masked(root, path):
 def replay(checks, server, end):
     """The log that came with the rewound cluster, replayed by the program and, up to this position, by a server, which is
     stopped by now."""
-    target = shutil.copytree(checks.machine.path("rewound16"), checks.machine.path("replayed16"))
+    machine = checks.machine
+    target = shutil.copytree(machine.path("rewound16"), machine.path("replayed16"))
+    before = tree(target)
     ended = checks.ours("pg_walreplay", target)
     line = re.fullmatch(r"pg_walreplay: replayed (\d+) records to (\S+) on timeline 2\n", ended.stdout)
     trees = tree(target), tree(server.data)
@@ -179,51 +202,76 @@ def replay(checks, server, end):
     checks.expect("pg_walreplay replays the log of a rewound cluster", ended.stderr,
                   unequal(end, line[2]) if line else "it says %r" % ended.stdout)
     checks.expect("pg_walreplay leaves the relations and the status that a server leaves", ", ".join(differ))
+    convert(16, machine.version, target, machine.path("replayed"))
+    changed = [path for path in sorted(set(before) | set(trees[0])) if not path.startswith(REPLAYED)
+               and before.get(path, "") != trees[0].get(path, "")]
+    checks.expect("and the control file that a server leaves, no label and no mark, and the rest as it was", unequal_lines(*[
+        control_lines(machine.done("pg_controldata", root), "pg_control last modified:")
+        for root in (server.data, machine.path("replayed"))]), unequal(["backup_label"], changed))
+    checks.expect("a replayed cluster isn't replayed again", checks.answers(
+        1, "", "pg_walreplay: error: NoLabel %s\n" % target, "pg_walreplay", target))
 
 
-def checked_by_amcheck(checks, server):
+def checked_by_amcheck(checks, name, server):
     machine = checks.machine
     control = os.path.join(machine.done("pg_config", "--sharedir").strip(), "extension", "amcheck.control")
     if not os.path.exists(control) or not os.path.exists(os.path.join(machine.programs, "pg_amcheck")):
-        checks.skip("pg_amcheck", "it isn't on this machine")
+        checks.skip("pg_amcheck of the %s cluster" % name, "it isn't on this machine")
         return
     ended = machine.real("pg_amcheck", "-h", server.socket, "-U", "postgres", "--all", "--install-missing", "--heapallindexed")
-    checks.expect("pg_amcheck finds nothing", ended.returncode and "status %d" % ended.returncode, ended.stdout, ended.stderr)
+    checks.expect("pg_amcheck finds nothing in the %s cluster" % name, ended.returncode and "status %d" % ended.returncode,
+                  ended.stdout, ended.stderr)
+
+
+def standby(machine, name, old):
+    """The server of a rewound cluster, with the settings that were its own before."""
+    server = Server(machine, name)
+    for settings in OWN_SETTINGS:
+        shutil.copy(os.path.join(old.data, settings), server.data)
+    server.settings("archive_mode = off")
+    open(os.path.join(server.data, "standby.signal"), "w").close()
+    return server
+
+
+def followed(checks, new, followers):
+    """The source under its server, and servers that follow it, by the names of their clusters. They are promoted at the end."""
+    new.start()
+    for server in followers.values():
+        server.settings("primary_conninfo = 'host=%s user=postgres'" % new.socket)
+        server.start()
+    new.wait_for("(select count(*) from pg_stat_replication where state = 'streaming') = %d" % len(followers))
+    new.ask("create table later as select g as id from generate_series(1, 100) g", "shop")
+    dump = new.dump()
+    for name, server in followers.items():
+        server.wait_for("pg_last_wal_replay_lsn() >= '%s'" % new.ask("select pg_current_wal_insert_lsn()"))
+        checks.expect("the %s cluster follows the source, and holds what the source holds" % name,
+                      unequal_lines(dump, server.dump()), "" if len(dump) > 10000 else "%d lines" % len(dump))
+    new.stop()
+    for name, server in followers.items():
+        server.promote()
+        checked_by_amcheck(checks, name, server)
 
 
 def servers(checks, old, new):
     """The rewound cluster under a server, as docs/COMMANDS.md tells: alone, then behind the source, then promoted. Returns a
     cluster whose server was stopped hard behind a checkpoint, and what it held."""
     machine = checks.machine
-    target = Server(machine, "rewound")
     checkpoint = re.search(r"Latest checkpoint location: *(\S+)", machine.done("pg_controldata", new.data))[1]
-    for name in OWN_SETTINGS:
-        shutil.copy(os.path.join(old.data, name), target.data)
-    target.settings("archive_mode = off")
-    open(os.path.join(target.data, "standby.signal"), "w").close()
+    target = standby(machine, "rewound", old)
     target.start()
     target.wait_for("pg_last_wal_replay_lsn() > '%s'" % checkpoint)
     end = target.ask("select pg_last_wal_replay_lsn()")
     target.stop()
     checks.expect("a server starts on a rewound cluster, and reaches the end of its log")
+    followers = {"rewound": target}
     if checks.is_built("pg_walreplay"):
         replay(checks, target, end)
+        followers["replayed"] = standby(machine, "replayed", old)
     else:
         checks.skip("pg_walreplay beside a server", "it answers NotBuilt")
-
-    target.settings("primary_conninfo = 'host=%s user=postgres'" % new.socket)
-    new.start()
-    target.start()
-    new.wait_for("exists (select from pg_stat_replication where state = 'streaming')")
-    new.ask("create table later as select g as id from generate_series(1, 100) g", "shop")
-    target.wait_for("pg_last_wal_replay_lsn() >= '%s'" % new.ask("select pg_current_wal_insert_lsn()"))
-    dump = new.dump()
-    checks.expect("it follows the source, and holds what the source holds", unequal_lines(dump, target.dump()),
-                  "" if len(dump) > 10000 else "%d lines" % len(dump))
-    new.stop()
-    target.promote()
-    checked_by_amcheck(checks, target)
+    followed(checks, new, followers)
     dump = target.dump()
     target.ask("checkpoint")
-    target.stop("immediate")
+    for server in followers.values():
+        server.stop("immediate")
     return target.data, dump

@@ -25,6 +25,12 @@ mod own;
 #[cfg(test)]
 mod records;
 #[cfg(test)]
+mod replay_faults;
+#[cfg(test)]
+mod replay_refusals;
+#[cfg(test)]
+mod replays;
+#[cfg(test)]
 mod reset_refusals;
 #[cfg(test)]
 mod reset_words;

@@ -74,8 +74,8 @@ status 1
 run pg_archivecleanup
 err pg_archivecleanup: error: Usage
 status 1
-run pg_walreplay t
-err pg_walreplay: error: NotBuilt
+run pg_walreplay
+err pg_walreplay: error: Usage
 status 1
 run pg_walcompare
 err pg_walcompare: error: NotBuilt
