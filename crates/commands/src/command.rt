@@ -1,6 +1,7 @@
 // A command with what its words ask for.
 use crate::{
-    ArchivecleanupWords, ControldataWords, ResetwalWords, RewindWords, WaldumpWords, WalreplayWords,
+    ArchivecleanupWords, ControldataWords, ResetwalWords, RewindWords, WalcompareWords,
+    WaldumpWords, WalreplayWords,
 };
 
 /// A command with what its words ask for. Each command that is built has a variant.
@@ -18,4 +19,6 @@ pub enum Command {
     Archivecleanup(ArchivecleanupWords),
     /// pg_walreplay.
     Walreplay(WalreplayWords),
+    /// pg_walcompare.
+    Walcompare(WalcompareWords),
 }

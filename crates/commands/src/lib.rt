@@ -8,6 +8,7 @@ mod fault;
 mod name;
 mod resetwal;
 mod rewind;
+mod walcompare;
 mod waldump;
 mod walreplay;
 
@@ -18,5 +19,6 @@ pub use fault::CommandFault;
 pub use name::{CommandName, name_of, name_text, named};
 pub use resetwal::ResetwalWords;
 pub use rewind::RewindWords;
+pub use walcompare::WalcompareWords;
 pub use waldump::{DumpWords, Filters, WaldumpWords};
 pub use walreplay::WalreplayWords;

@@ -24,6 +24,7 @@ ending_of (cause.History h) = Refused
 ending_of (cause.Rewind c) = Refused
 ending_of (cause.Log c) = Refused
 ending_of (cause.Replay c) = Refused
+ending_of (cause.Differs path block) = Refused
 
 -- a fault of a device or want of memory, which may come at any point
 abbrev pub IsFree : Cause → Type 0
@@ -59,6 +60,7 @@ is_of_files (cause.History h) = true
 is_of_files (cause.Rewind c) = true
 is_of_files (cause.Log c) = true
 is_of_files (cause.Replay c) = true
+is_of_files (cause.Differs path block) = true
 
 -- a path has too many parts: a root's own, or one that a walk finds below it or below a folder that a record removes
 abbrev pub is_deep : Cause → Bool
@@ -95,6 +97,7 @@ has_values (cause.History history.NoCommonAncestor) = false
 has_values (cause.Rewind c) = true
 has_values (cause.Log c) = true
 has_values (cause.Replay c) = true
+has_values (cause.Differs path block) = true
 
 -- the status of the program
 abbrev pub status_of : Cause → ℕ
@@ -113,3 +116,4 @@ status_of (cause.History h) = 1
 status_of (cause.Rewind c) = 1
 status_of (cause.Log c) = 1
 status_of (cause.Replay c) = 1
+status_of (cause.Differs path block) = 1

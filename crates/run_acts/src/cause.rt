@@ -39,6 +39,10 @@ pub enum Cause {
     Log(LogCause),
     /// A cluster, its label or a record of its log is unfit for a replay, or the replay broke off.
     Replay(ReplayCause),
+    /// Two clusters that were compared differ: the least path at which they do, from the roots on, and
+    /// where it has a main fork's file of one size in both, the number of the first block in its fork
+    /// that differs.
+    Differs(Path, Option<u32>),
 }
 
 /// What is wrong with a path.
@@ -47,18 +51,19 @@ pub enum PathCause {
     /// A root or the folder of a log has a part `..`.
     DotDot,
     /// A root has more than 61 parts, or the folder of a log more than 62; of one with more than 64
-    /// parts the first 64. Or a path that a rewind finds below a root has more than 64 with those of
-    /// its root or of the target; of it the first 64 behind the root's. Or something lies in a folder
-    /// of 64 parts, at or below one that a record removes; that folder.
+    /// parts the first 64. Or a path that a rewind or a comparison finds below a root has more than 64
+    /// with those of its root, or of a rewind's target; of it the first 64 behind the root's. Or
+    /// something lies in a folder of 64 parts, at or below one that a record removes; that folder.
     TooDeep(Path),
     /// One of two roots is the other or lies in it.
     PathsOverlap,
     /// What has to be a folder isn't there, or is a file.
     NotFolder(Path),
     /// What has to be a folder, or a file that is to be removed or that a record needs, is a link or a
-    /// special file; or one stands below a root of a rewind, at this path below it.
+    /// special file; or one stands below a root of a rewind or a comparison, at this path below it.
     Link(Path),
-    /// A folder holds a name that isn't text. In a rewind it is the folder's path below its root.
+    /// A folder holds a name that isn't text. In a rewind or a comparison it is the folder's path below
+    /// its root.
     NameNotText(Path),
 }
 

@@ -33,7 +33,8 @@ impl Exit {
             | Cause::History(_)
             | Cause::Rewind(_)
             | Cause::Log(_)
-            | Cause::Replay(_) => 1,
+            | Cause::Replay(_)
+            | Cause::Differs(_, _) => 1,
         };
         Exit { status, cause }
     }
