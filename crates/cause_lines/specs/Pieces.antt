@@ -1,5 +1,5 @@
 -- The pieces of the line of a cause: its name and its values, as docs/COMMANDS.md has them. Own: "The line of a cause".
-use Rattle.std.specs.Prelude.{ℕ, List, [], ◌∷◌, codes}
+use Rattle.std.specs.Prelude.{ℕ, List, [], ◌∷◌, codes, Option, None, Some}
 use Rattle.std.specs.Fmt.{decimal}
 use Rattle.cluster_tree.specs.PathValue.{PathValue, path_text}
 use Rattle.wal_base.specs.Hex.{upper_hex}
@@ -21,6 +21,11 @@ path_pieces what path = what ∷ codes " " ∷ path_text path ∷ []
 -- a cause with a path and a number
 abbrev pub number_pieces : List ℕ → PathValue → ℕ → List (List ℕ)
 number_pieces what path n = what ∷ codes " " ∷ path_text path ∷ codes " " ∷ decimal n ∷ []
+
+-- a path at which two clusters differ, and the number of the block if one is known
+abbrev pub difference_pieces : PathValue → Option ℕ → List (List ℕ)
+difference_pieces path None = path_pieces (codes "Differs") path
+difference_pieces path (Some block) = number_pieces (codes "Differs") path block
 
 -- a root and two checksums, as %08X
 abbrev pub crc_pieces : PathValue → ℕ → ℕ → List (List ℕ)

@@ -1,7 +1,7 @@
 // The line of a cause.
 ghost use Rattle.std.specs.Prelude.{◌≡◌, string_bytes, false, IfOk, IsOk};
 ghost use Rattle.cause_lines.specs.Lines.{line_of, line_with, made_text};
-ghost use Rattle.cause_lines.specs.Pieces.{crc_pieces, end_pieces, number_pieces, path_pieces, place_pieces};
+ghost use Rattle.cause_lines.specs.Pieces.{crc_pieces, difference_pieces, end_pieces, number_pieces, path_pieces, place_pieces};
 ghost use Rattle.cause_lines.specs.Pieces.{record_pieces, shape_pieces, why_name};
 ghost use Rattle.run_acts.specs.Causes.{has_values};
 
@@ -43,6 +43,22 @@ pub(crate) fn number_line(
 {
     let name = name_text(name);
     format!(in alloc; "{name}: error: {what} {path} {number}\n")
+}
+
+// The line of where two clusters differ.
+fn difference_line(
+    alloc: Global,
+    name: Option<CommandName>,
+    path: &Path,
+    block: Option<u32>,
+) -> Result<String, AllocError>
+    ensures { IfOk result (λ line. string_bytes line ≡ line_with name
+        (difference_pieces path.now block)) }
+{
+    match block {
+        None => path_line(alloc, name, "Differs", path),
+        Some(block) => number_line(alloc, name, "Differs", path, u64::from(block)),
+    }
 }
 
 // The line of a field that is out of shape.
@@ -234,5 +250,6 @@ pub fn line_of(alloc: Global, name: Option<CommandName>, cause: &Cause) -> Resul
         Cause::Rewind(unfit) => Line::Made(unfit_line(alloc, name, unfit)?),
         Cause::Log(log) => Line::Made(log_line(alloc, name, log)?),
         Cause::Replay(replay) => Line::Made(replay_line(alloc, name, replay)?),
+        Cause::Differs(path, block) => Line::Made(difference_line(alloc, name, path, *block)?),
     })
 }
