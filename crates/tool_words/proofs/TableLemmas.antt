@@ -7,6 +7,7 @@ use Rattle.tool_words.specs.Archivecleanup.{archivecleanup_table}
 use Rattle.tool_words.specs.Controldata.{controldata_table}
 use Rattle.tool_words.specs.Resetwal.{resetwal_table}
 use Rattle.tool_words.specs.Rewind.{rewind_table}
+use Rattle.tool_words.specs.Walcompare.{walcompare_table}
 use Rattle.tool_words.specs.Waldump.{waldump_table}
 use Rattle.tool_words.specs.Walreplay.{walreplay_table}
 
@@ -33,3 +34,7 @@ resetwal_is_simple = refl
 pub walreplay_is_simple : is_simple_and_free (command_with walreplay_table) ≡ true
 unfolding walreplay_table clap_on_literals
 walreplay_is_simple = refl
+
+pub walcompare_is_simple : is_simple_and_free (command_with walcompare_table) ≡ true
+unfolding walcompare_table clap_on_literals
+walcompare_is_simple = refl

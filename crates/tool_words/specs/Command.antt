@@ -1,5 +1,5 @@
 -- What the program's words ask for: PostgreSQL 16 manual, reference pages of pg_rewind, pg_controldata, pg_waldump, pg_resetwal and pg_archivecleanup. Own: "The order of what
--- is wrong with roots", "The folder of a dump".
+-- is wrong with roots", "The folder of a dump", "Commands of this project's own".
 use Rattle.std.specs.Prelude.{ℕ, ◌==◌, ◌||◌, Bool, true, false, if◌then◌else◌, List, length, codes, Option, None, Some, unwrap_or, option_map, Result, Ok, Err}
 use Rattle.cluster_tree.specs.Apart.{overlap}
 use Rattle.cluster_tree.specs.Causes.{given}
@@ -20,20 +20,29 @@ use Rattle.tool_words.specs.Controldata.{controldata_of}
 use Rattle.tool_words.specs.Paths.{root_named, folder_named}
 use Rattle.tool_words.specs.Resetwal.{resetwal_of}
 use Rattle.tool_words.specs.Rewind.{rewind_of}
+use Rattle.tool_words.specs.Walcompare.{walcompare_of}
 use Rattle.tool_words.specs.Waldump.{waldump_of}
 use Rattle.tool_words.specs.Walreplay.{walreplay_of}
 use Rattle.tool_words.specs.declared.archivecleanup.ArchivecleanupTexts.{ArchivecleanupTexts}
 use Rattle.tool_words.specs.declared.resetwal.ResetwalTexts.{ResetwalTexts}
 use Rattle.tool_words.specs.declared.rewind.RewindTexts.{RewindTexts}
+use Rattle.tool_words.specs.declared.walcompare.WalcompareTexts.{WalcompareTexts}
 use Rattle.tool_words.specs.declared.waldump.DumpTexts.{DumpTexts}
 use Rattle.tool_words.specs.declared.waldump.SegmentWord.{SegmentWord}
 use Rattle.tool_words.specs.declared.waldump.WaldumpTexts.{WaldumpTexts}
 use Rattle.tool_words.specs.declared.waldump.WaldumpTexts.TheVariants as texts
 
--- pg_controldata, at its root
-abbrev pub controldata_asked : Option (List ℕ) → Result Command CommandFault
-controldata_asked None = Err fault.Usage
-controldata_asked (Some text) = given (root_named text) (λ root. Ok (command.Controldata (record { root = root })))
+-- the one root that words give
+abbrev pub root_asked : Option (List ℕ) → Result PathValue CommandFault
+root_asked None = Err fault.Usage
+root_asked (Some text) = root_named text
+
+-- pg_controldata and pg_walreplay at their root
+abbrev pub controldata_at : PathValue → Command
+controldata_at root = command.Controldata (record { root = root })
+
+abbrev pub walreplay_at : PathValue → Command
+walreplay_at root = command.Walreplay (record { root = root })
 
 -- the text of a path is refused for a part `..`
 abbrev pub climbs : {A : Type 0} → Result A PathFault → Bool
@@ -43,21 +52,30 @@ climbs (Err path_fault.DotDot) = true
 climbs (Err path_fault.TooDeep) = false
 climbs (Err path_fault.OutOfMemory) = false
 
--- pg_rewind of two roots, of which neither may hold the other
-abbrev pub rewind_at : Bool → PathValue → PathValue → Result Command CommandFault
-rewind_at dry_run target source =
-    if overlap target source then Err fault.PathsOverlap
-    else Ok (command.Rewind (record { target = target; source = source; dry_run = dry_run }))
+-- two roots, of which neither may hold the other
+abbrev pub roots_apart : PathValue → PathValue → Result (PathValue × PathValue) CommandFault
+roots_apart first second = if overlap first second then Err fault.PathsOverlap else Ok (first, second)
 
 -- a part `..` of either root is told before the depth of both
-unfoldable pub two_roots : Bool → List ℕ → List ℕ → Result Command CommandFault
-two_roots dry_run target source =
-    if climbs (checked 0 target) || climbs (checked 0 source) then Err fault.DotDot
-    else given (root_named target) (λ t. given (root_named source) (λ s. rewind_at dry_run t s))
+unfoldable pub two_roots : List ℕ → List ℕ → Result (PathValue × PathValue) CommandFault
+two_roots first second =
+    if climbs (checked 0 first) || climbs (checked 0 second) then Err fault.DotDot
+    else given (root_named first) (λ f. given (root_named second) (λ s. roots_apart f s))
+
+-- pg_rewind of two roots, and pg_walcompare
+abbrev pub rewind_at : Bool → PathValue × PathValue → Command
+rewind_at dry_run roots = command.Rewind (record { target = roots.0; source = roots.1; dry_run = dry_run })
+
+abbrev pub walcompare_at : PathValue × PathValue → Command
+walcompare_at roots = command.Walcompare (record { first = roots.0; second = roots.1 })
 
 abbrev pub rewind_asked : Option RewindTexts → Result Command CommandFault
 rewind_asked None = Err fault.Usage
-rewind_asked (Some words) = two_roots words.dry_run words.target words.source
+rewind_asked (Some words) = given (two_roots words.target words.source) (λ roots. Ok (rewind_at words.dry_run roots))
+
+abbrev pub walcompare_asked : Option WalcompareTexts → Result Command CommandFault
+walcompare_asked None = Err fault.Usage
+walcompare_asked (Some words) = given (two_roots words.first words.second) (λ roots. Ok (walcompare_at roots))
 
 -- what stands before the name of STARTSEG, up to and with the last slash; the current folder where nothing does
 abbrev pub front_text : Option SegmentWord → List ℕ
@@ -109,21 +127,16 @@ abbrev pub archivecleanup_asked : Option ArchivecleanupTexts → Result Command 
 archivecleanup_asked None = Err fault.Usage
 archivecleanup_asked (Some words) = given (folder_named words.folder) (λ folder. Ok (cleanup_in_folder words folder))
 
--- pg_walreplay, at its root
-abbrev pub walreplay_asked : Option (List ℕ) → Result Command CommandFault
-walreplay_asked None = Err fault.Usage
-walreplay_asked (Some text) = given (root_named text) (λ root. Ok (command.Walreplay (record { root = root })))
-
--- what the words of the command of this name ask for; the others aren't built yet, whatever their words
+-- what the words of the command of this name ask for; pair isn't built yet, whatever its words
 unfoldable pub command_named : Option CommandName → List (List ℕ) → Result Command CommandFault
 command_named None words = Err fault.Usage
 command_named (Some name.PgRewind) words = rewind_asked (rewind_of words)
 command_named (Some name.PgWaldump) words = waldump_asked (waldump_of words)
-command_named (Some name.PgControldata) words = controldata_asked (controldata_of words)
+command_named (Some name.PgControldata) words = given (root_asked (controldata_of words)) (λ root. Ok (controldata_at root))
 command_named (Some name.PgResetwal) words = resetwal_asked (resetwal_of words)
 command_named (Some name.PgArchivecleanup) words = archivecleanup_asked (archivecleanup_of words)
-command_named (Some name.PgWalreplay) words = walreplay_asked (walreplay_of words)
-command_named (Some name.PgWalcompare) words = Err fault.NotBuilt
+command_named (Some name.PgWalreplay) words = given (root_asked (walreplay_of words)) (λ root. Ok (walreplay_at root))
+command_named (Some name.PgWalcompare) words = walcompare_asked (walcompare_of words)
 command_named (Some name.Pair) words = Err fault.NotBuilt
 
 -- the command that the words ask for, or why there is none; the first word is its name

@@ -8,5 +8,6 @@ pub mod Numbers
 pub mod Resetwal
 pub mod Waldump
 pub mod Walreplay
+pub mod Walcompare
 pub mod Command
 pub mod Laws

@@ -1,16 +1,16 @@
 // What the program's words ask for.
-ghost use Rattle.std.specs.Prelude.{◌≡◌, map, string_bytes, IfOk};
+ghost use Rattle.std.specs.Prelude.{◌≡◌, ℕ, List, Option, map, string_bytes, IfOk};
 ghost use Rattle.cluster_tree.specs.Causes.{Meets};
 ghost use Rattle.commands.specs.Faults.{IsFree};
-ghost use Rattle.commands.specs.Fit.{IsFit};
-ghost use Rattle.tool_words.specs.Command.{archivecleanup_asked, command_of, controldata_asked, resetwal_asked};
-ghost use Rattle.tool_words.specs.Command.{rewind_asked, waldump_asked, walreplay_asked};
+ghost use Rattle.commands.specs.Fit.{IsFit, IsFitRoot};
+ghost use Rattle.command_words.specs.Answers.{AnswersAs};
+ghost use Rattle.tool_words.specs.Command.{archivecleanup_asked, command_of, resetwal_asked, rewind_asked};
+ghost use Rattle.tool_words.specs.Command.{root_asked, walcompare_asked, waldump_asked};
 ghost use Rattle.tool_words.specs.Archivecleanup.{archivecleanup_of};
-ghost use Rattle.tool_words.specs.Controldata.{controldata_of};
 ghost use Rattle.tool_words.specs.Resetwal.{resetwal_of};
 ghost use Rattle.tool_words.specs.Rewind.{rewind_of};
+ghost use Rattle.tool_words.specs.Walcompare.{walcompare_of};
 ghost use Rattle.tool_words.specs.Waldump.{waldump_of};
-ghost use Rattle.tool_words.specs.Walreplay.{walreplay_of};
 
 use crate::archivecleanup::archivecleanup_words;
 use crate::controldata::controldata_words;
@@ -19,24 +19,26 @@ use crate::paths::{MOST_OF_FOLDER, MOST_OF_ROOT, path_named};
 use crate::resetwal::resetwal_words;
 use crate::rewind::rewind_words;
 use crate::roots::two_roots;
+use crate::walcompare::walcompare_words;
 use crate::waldump::{WaldumpTexts, waldump_words};
 use crate::walreplay::walreplay_words;
+use cluster_tree::Path;
 use command_words::WordsFault;
 use commands::{
     ArchivecleanupWords, Command, CommandFault, CommandName, ControldataWords, ResetwalWords,
-    WaldumpWords, WalreplayWords, name_of,
+    RewindWords, WalcompareWords, WaldumpWords, WalreplayWords, name_of,
 };
 use std::alloc::Global;
+use wal_base::Text;
 
-fn controldata_asked(alloc: Global, words: &[String]) -> Result<Command, CommandFault>
-    ensures answer { Meets IsFree (controldata_asked (controldata_of (map string_bytes words.now))) result }
-    ensures fit { IfOk result IsFit }
+// The one root that words give.
+fn root_asked(alloc: Global, read: Result<Text, WordsFault>) -> Result<Path, CommandFault>
+    ensures answer { (asked : Option (List ℕ)) → AnswersAs asked read →
+        Meets IsFree (root_asked asked) result }
+    ensures fit { IfOk result IsFitRoot }
 {
-    match controldata_words(alloc, words) {
-        Ok(text) => {
-            let root = path_named(alloc, MOST_OF_ROOT, text.as_str())?;
-            Ok(Command::Controldata(ControldataWords { root }))
-        }
+    match read {
+        Ok(text) => path_named(alloc, MOST_OF_ROOT, text.as_str()),
         Err(WordsFault::Usage) => Err(CommandFault::Usage),
         Err(WordsFault::OutOfMemory) => Err(CommandFault::OutOfMemory),
     }
@@ -50,7 +52,26 @@ fn rewind_asked(alloc: Global, words: &[String]) -> Result<Command, CommandFault
         Ok(texts) => {
             let target = texts.target.as_str();
             let source = texts.source.as_str();
-            two_roots(alloc, texts.dry_run, target, source)
+            let (target, source) = two_roots(alloc, target, source)?;
+            Ok(Command::Rewind(RewindWords {
+                target,
+                source,
+                dry_run: texts.dry_run,
+            }))
+        }
+        Err(WordsFault::Usage) => Err(CommandFault::Usage),
+        Err(WordsFault::OutOfMemory) => Err(CommandFault::OutOfMemory),
+    }
+}
+
+fn walcompare_asked(alloc: Global, words: &[String]) -> Result<Command, CommandFault>
+    ensures answer { Meets IsFree (walcompare_asked (walcompare_of (map string_bytes words.now))) result }
+    ensures fit { IfOk result IsFit }
+{
+    match walcompare_words(alloc, words) {
+        Ok(texts) => {
+            let (first, second) = two_roots(alloc, texts.first.as_str(), texts.second.as_str())?;
+            Ok(Command::Walcompare(WalcompareWords { first, second }))
         }
         Err(WordsFault::Usage) => Err(CommandFault::Usage),
         Err(WordsFault::OutOfMemory) => Err(CommandFault::OutOfMemory),
@@ -106,20 +127,6 @@ fn archivecleanup_asked(alloc: Global, words: &[String]) -> Result<Command, Comm
     }
 }
 
-fn walreplay_asked(alloc: Global, words: &[String]) -> Result<Command, CommandFault>
-    ensures answer { Meets IsFree (walreplay_asked (walreplay_of (map string_bytes words.now))) result }
-    ensures fit { IfOk result IsFit }
-{
-    match walreplay_words(alloc, words) {
-        Ok(text) => {
-            let root = path_named(alloc, MOST_OF_ROOT, text.as_str())?;
-            Ok(Command::Walreplay(WalreplayWords { root }))
-        }
-        Err(WordsFault::Usage) => Err(CommandFault::Usage),
-        Err(WordsFault::OutOfMemory) => Err(CommandFault::OutOfMemory),
-    }
-}
-
 /// What the words ask for, the first of them being a command's name.
 ///
 /// Answers `Usage` where they are in no command's grammar, `NotBuilt` where they name a command that
@@ -134,10 +141,17 @@ pub fn read_command(alloc: Global, words: &[String]) -> Result<Command, CommandF
         None => Err(CommandFault::Usage),
         Some(CommandName::PgRewind) => rewind_asked(alloc, words),
         Some(CommandName::PgWaldump) => waldump_asked(alloc, words),
-        Some(CommandName::PgControldata) => controldata_asked(alloc, words),
+        Some(CommandName::PgControldata) => {
+            let root = root_asked(alloc, controldata_words(alloc, words))?;
+            Ok(Command::Controldata(ControldataWords { root }))
+        }
         Some(CommandName::PgResetwal) => resetwal_asked(alloc, words),
         Some(CommandName::PgArchivecleanup) => archivecleanup_asked(alloc, words),
-        Some(CommandName::PgWalreplay) => walreplay_asked(alloc, words),
-        Some(CommandName::PgWalcompare | CommandName::Pair) => Err(CommandFault::NotBuilt),
+        Some(CommandName::PgWalreplay) => {
+            let root = root_asked(alloc, walreplay_words(alloc, words))?;
+            Ok(Command::Walreplay(WalreplayWords { root }))
+        }
+        Some(CommandName::PgWalcompare) => walcompare_asked(alloc, words),
+        Some(CommandName::Pair) => Err(CommandFault::NotBuilt),
     }
 }

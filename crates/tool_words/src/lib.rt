@@ -14,6 +14,7 @@ mod resetwal;
 mod rewind;
 mod root;
 mod roots;
+mod walcompare;
 mod waldump;
 mod walreplay;
 
