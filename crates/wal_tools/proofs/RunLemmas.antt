@@ -30,6 +30,9 @@ use Rattle.commands.specs.declared.archivecleanup.ArchivecleanupWords.{Archivecl
 use Rattle.cmd_controldata.proofs.FormLemmas.{answer-form as control-form, answer-looks as control-looks}
 use Rattle.cmd_rewind.proofs.FormLemmas.{answer-form as rewind-form, answer-looks as rewind-looks}
 use Rattle.cmd_waldump.proofs.FormLemmas.{answer-form as waldump-form, answer-looks as waldump-looks}
+use Rattle.cmd_walcompare.specs.Walcompare.{AreSame, IsWalcompare, walcompare_answer}
+use Rattle.cmd_walcompare.proofs.FormLemmas.{answer-form as compare-form, answer-looks as compare-looks}
+use Rattle.commands.specs.declared.walcompare.WalcompareWords.{WalcompareWords}
 use Rattle.cmd_walreplay.specs.Walreplay.{IsWalreplay, LeavesReplayed, StaysMarked, walreplay_answer}
 use Rattle.cmd_walreplay.proofs.FormLemmas.{answer-form as replay-form, answer-looks as replay-looks}
 use Rattle.commands.specs.declared.walreplay.WalreplayWords.{WalreplayWords}
@@ -45,6 +48,7 @@ answered-form c now (Ok (command.Waldump words)) = waldump-form c words
 answered-form c now (Ok (command.Resetwal words)) = reset-form c words now
 answered-form c now (Ok (command.Archivecleanup words)) = cleanup-form c words
 answered-form c now (Ok (command.Walreplay words)) = replay-form c words
+answered-form c now (Ok (command.Walcompare words)) = compare-form c words
 answered-form c now (Err e) = refl
 
 pub answered-looks : (c : Contents) (now : ℤ) (asked : Result Command CommandFault) → Looks ((answered c now asked).acts)
@@ -54,6 +58,7 @@ answered-looks c now (Ok (command.Waldump words)) = waldump-looks c words
 answered-looks c now (Ok (command.Resetwal words)) = reset-looks c words now
 answered-looks c now (Ok (command.Archivecleanup words)) = cleanup-looks c words
 answered-looks c now (Ok (command.Walreplay words)) = replay-looks c words
+answered-looks c now (Ok (command.Walcompare words)) = compare-looks c words
 answered-looks c now (Err e) = tt
 
 -- what is carried out of words
@@ -78,6 +83,18 @@ pub of_controldata : (tells : Bool) (c : Contents) (now : ℤ) {k : Command} {wo
 of_controldata tells c now {o = o} {e} {ended} {s} {u} is p =
     let P : Command → Type 0 = λ x. CarriesOut tells c now o e (Ok x) ended s u in
     subst P (sym is) (unseen_known (by_tree tells) (unseen_seen (inr (λ may. may)) p))
+
+-- pg_walcompare was
+pub of_walcompare : (tells : Bool) (c : Contents) (now : ℤ) {k : Command} {words : WalcompareWords} {o e : Bool} {ended : Cause} {s u : Seen} → k ≡ command.Walcompare words
+    → Carries (IsTrue tells) (walcompare_answer c words) IsWalcompare o e ended s u → CarriesOut tells c now o e (Ok k) ended s u
+of_walcompare tells c now {o = o} {e} {ended} {s} {u} is p =
+    let P : Command → Type 0 = λ x. CarriesOut tells c now o e (Ok x) ended s u in
+    subst P (sym is) (unseen_known (by_tree tells) (unseen_seen (inr (λ may. may)) p))
+
+-- where it is done the clusters are the same
+pub same_at : {k : Command} {words : WalcompareWords} (r : Result (Unit {0}) Cause) (now : ℤ) (tells : Bool) (c c' : Contents) (out out' : List ℕ) → k ≡ command.Walcompare words → OnOk r (AreSame c words)
+    → OnOk r (LeavesAsked (Ok k) now tells c c' out out')
+same_at {k} {words} r now tells c c' out out' is same = let Q : Command → Type 0 = λ x. OnOk r (LeavesAsked (Ok x) now tells c c' out out') in subst Q (sym is) same
 
 -- pg_waldump was
 pub of_waldump : (tells : Bool) (c : Contents) (now : ℤ) {k : Command} {words : WaldumpWords} {o e : Bool} {ended : Cause} {s u : Seen} → k ≡ command.Waldump words
@@ -180,6 +197,7 @@ stays_free (Ok (command.Waldump words)) c c' own free stays = tt
 stays_free (Ok (command.Resetwal words)) c c' own free stays = tt
 stays_free (Ok (command.Archivecleanup words)) c c' own free stays = tt
 stays_free (Ok (command.Walreplay words)) c c' own free stays = record { log = stays.log; mark = λ s is. inl free }
+stays_free (Ok (command.Walcompare words)) c c' own free stays = tt
 stays_free (Err e) c c' own free stays = tt
 
 -- where nothing was done, for want of memory
@@ -190,6 +208,7 @@ stays_unmade (Ok (command.Waldump words)) c = tt
 stays_unmade (Ok (command.Resetwal words)) c = tt
 stays_unmade (Ok (command.Archivecleanup words)) c = tt
 stays_unmade (Ok (command.Walreplay words)) c = record { log = λ path holds. refl; mark = λ s is. inl (inr (inr (inr refl))) }
+stays_unmade (Ok (command.Walcompare words)) c = tt
 stays_unmade (Err e) c = tt
 
 -- where the words are refused
@@ -234,6 +253,7 @@ needless (Ok (command.Waldump words)) need may = may
 needless (Ok (command.Resetwal words)) need may = need
 needless (Ok (command.Archivecleanup words)) need may = need
 needless (Ok (command.Walreplay words)) need may = need
+needless (Ok (command.Walcompare words)) need may = need
 needless (Err e) need may = may
 
 seen_by : (T : Type 0) (asked : Result Command CommandFault) → T ⊎ NeedsNoTree asked → IsSeen T asked

@@ -9,6 +9,7 @@ use Rattle.cmd_archivecleanup.specs.Archivecleanup.{IsArchivecleanup, archivecle
 use Rattle.cmd_controldata.specs.Controldata.{IsControldata, controldata_answer}
 use Rattle.cmd_resetwal.specs.Resetwal.{IsResetwal, resetwal_answer}
 use Rattle.cmd_rewind.specs.Rewind.{IsRewind, rewind_answer}
+use Rattle.cmd_walcompare.specs.Walcompare.{IsWalcompare, walcompare_answer}
 use Rattle.cmd_waldump.specs.Waldump.{IsWaldump, waldump_answer}
 use Rattle.cmd_walreplay.specs.Walreplay.{IsWalreplay, walreplay_answer}
 use Rattle.wal_tools.specs.Words.{words_cause}
@@ -21,6 +22,7 @@ answered c now (Ok (command.Waldump words)) = waldump_answer c words
 answered c now (Ok (command.Resetwal words)) = resetwal_answer c words now
 answered c now (Ok (command.Archivecleanup words)) = archivecleanup_answer c words
 answered c now (Ok (command.Walreplay words)) = walreplay_answer c words
+answered c now (Ok (command.Walcompare words)) = walcompare_answer c words
 answered c now (Err e) = refused (words_cause e)
 
 -- what the command may do over any tree
@@ -31,4 +33,5 @@ IsAnswer now (Ok (command.Waldump words)) answer = IsWaldump words answer
 IsAnswer now (Ok (command.Resetwal words)) answer = IsResetwal words now answer
 IsAnswer now (Ok (command.Archivecleanup words)) answer = IsArchivecleanup words answer
 IsAnswer now (Ok (command.Walreplay words)) answer = IsWalreplay words answer
+IsAnswer now (Ok (command.Walcompare words)) answer = IsWalcompare answer
 IsAnswer now (Err e) answer = answer ≡ refused (words_cause e)

@@ -27,6 +27,7 @@ refused_by_words (Ok (command.Waldump words)) = None
 refused_by_words (Ok (command.Resetwal words)) = None
 refused_by_words (Ok (command.Archivecleanup words)) = None
 refused_by_words (Ok (command.Walreplay words)) = None
+refused_by_words (Ok (command.Walcompare words)) = None
 refused_by_words (Err e) = Some (words_cause e)
 
 -- Words are faulty: they are in no command's grammar, or they are pg_waldump's and break a rule on its start and its end where segments have some size.
@@ -37,6 +38,7 @@ AreFaulty (Ok (command.Waldump words)) = BreakRule words
 AreFaulty (Ok (command.Resetwal words)) = ⊥
 AreFaulty (Ok (command.Archivecleanup words)) = ⊥
 AreFaulty (Ok (command.Walreplay words)) = ⊥
+AreFaulty (Ok (command.Walcompare words)) = ⊥
 AreFaulty (Err e) = e ≡ fault.Usage
 
 -- what is asked for needs no tree: the list of resource managers, and words that refuse alone
@@ -47,6 +49,7 @@ NeedsNoTree (Ok (command.Waldump words)) = AskForList words
 NeedsNoTree (Ok (command.Resetwal words)) = ⊥
 NeedsNoTree (Ok (command.Archivecleanup words)) = ⊥
 NeedsNoTree (Ok (command.Walreplay words)) = ⊥
+NeedsNoTree (Ok (command.Walcompare words)) = ⊥
 NeedsNoTree (Err e) = Unit {0}
 
 -- a command that may make changing calls: pg_rewind, pg_resetwal and pg_archivecleanup, but for a dry run, and pg_walreplay
@@ -57,6 +60,7 @@ MayChange (Ok (command.Waldump words)) = ⊥
 MayChange (Ok (command.Resetwal words)) = IsTrue (not (is_some words.options.dry))
 MayChange (Ok (command.Archivecleanup words)) = IsTrue (not words.dry_run)
 MayChange (Ok (command.Walreplay words)) = Unit {0}
+MayChange (Ok (command.Walcompare words)) = ⊥
 MayChange (Err e) = ⊥
 
 -- a command that walks over folders, or removes those that a record names, and may find a path below its roots that is too deep
@@ -67,6 +71,7 @@ Walks (Ok (command.Waldump words)) = ⊥
 Walks (Ok (command.Resetwal words)) = ⊥
 Walks (Ok (command.Archivecleanup words)) = ⊥
 Walks (Ok (command.Walreplay words)) = Unit {0}
+Walks (Ok (command.Walcompare words)) = Unit {0}
 Walks (Err e) = ⊥
 
 -- what a run does to the tree is seen: the tree tells what it holds, or the command changes nothing

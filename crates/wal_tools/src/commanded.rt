@@ -16,6 +16,7 @@ use cmd_archivecleanup::archivecleanup;
 use cmd_controldata::controldata;
 use cmd_resetwal::resetwal;
 use cmd_rewind::rewind;
+use cmd_walcompare::walcompare;
 use cmd_waldump::waldump;
 use cmd_walreplay::walreplay;
 use commands::Command;
@@ -69,5 +70,6 @@ pub(crate) fn carry_out<F: Tree, O: Sink, E: Sink>(
         Command::Resetwal(words) => resetwal(alloc, tree, out, words, now),
         Command::Archivecleanup(words) => archivecleanup(alloc, tree, out, err, words),
         Command::Walreplay(words) => walreplay(alloc, tree, out, words),
+        Command::Walcompare(words) => walcompare(alloc, tree, out, words),
     }
 }

@@ -127,7 +127,8 @@ pub fn run<F: Tree, O: Sink, E: Sink>(
         MayChange (command_of (map string_bytes words.now)) }
     ensures changed { IsTrue F.tells → (p : PathValue) → result.cause ≢ Cause.Changed p }
 
-    // a rewind that is done leaves the rewound tree, and a replay the replayed one, which it tells
+    // a rewind that is done leaves the rewound tree, and a replay the replayed one, which it tells; of a
+    // comparison that is done the clusters are the same
     ensures leaves { IsTrue F.tells → result.cause ≡ Cause.Done → LeavesAsked
         (command_of (map string_bytes words.now)) now O.tells (F.contents tree.old)
         (F.contents tree.new) (O.written out.old) (O.written out.new) }

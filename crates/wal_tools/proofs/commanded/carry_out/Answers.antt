@@ -1,7 +1,7 @@
 use Rattle.std.proofs.Common.{FitsSigned, Ok, rules, w64}
 use Rattle.std.proofs.lemmas.Int.{to_z-of_z}
 use Rattle.acts.specs.Acts.{sunk}
-use Rattle.wal_tools.proofs.RunLemmas.{at_time, dried_cleanup, dried_reset, dried_rewind, of_archivecleanup, of_controldata, of_resetwal, of_rewind, of_waldump, of_walreplay, replay_may, replayed_at, rewound_at, stays_at}
+use Rattle.wal_tools.proofs.RunLemmas.{at_time, dried_cleanup, dried_reset, dried_rewind, of_archivecleanup, of_controldata, of_resetwal, of_rewind, of_waldump, of_walcompare, of_walreplay, replay_may, replayed_at, rewound_at, same_at, stays_at}
 use Rattle.wal_tools.proofs.commanded.carry_out.Goals as goal
 
 pub returns-in-Rewind-clause-carries : goal.returns-in-Rewind-clause-carries
@@ -78,3 +78,16 @@ returns-in-Walreplay-clause-leaves g c t =
 pub returns-in-Walreplay-clause-stays : goal.returns-in-Walreplay-clause-stays
 returns-in-Walreplay-clause-stays g c t =
     stays_at (g.F.Tree.contents c.args.tree.now) (g.F.Tree.contents c.walreplay.new.tree) c.in-Walreplay.is (c.walreplay.ensures.stays t)
+
+pub returns-in-Walcompare-clause-carries : goal.returns-in-Walcompare-clause-carries
+returns-in-Walcompare-clause-carries g c =
+    of_walcompare g.F.Tree.tells (g.F.Tree.contents c.args.tree.now) c.args.now c.in-Walcompare.is
+    (c.walcompare.ensures.carries g.E.Sink.tells (sunk (g.E.Sink.written c.args.err.now) (g.E.Sink.failed_writes c.args.err.now)))
+
+pub returns-in-Walcompare-clause-blames : goal.returns-in-Walcompare-clause-blames
+returns-in-Walcompare-clause-blames g c = c.walcompare.ensures.blames (g.E.Sink.failed_writes c.args.err.now)
+
+pub returns-in-Walcompare-clause-leaves : goal.returns-in-Walcompare-clause-leaves
+returns-in-Walcompare-clause-leaves g c t =
+    same_at c.walcompare.result _ g.O.Sink.tells (g.F.Tree.contents c.args.tree.now) (g.F.Tree.contents c.walcompare.new.tree)
+    (g.O.Sink.written c.args.out.now) (g.O.Sink.written c.walcompare.new.out) c.in-Walcompare.is (c.walcompare.ensures.same t)
