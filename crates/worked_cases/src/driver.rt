@@ -7,6 +7,7 @@ mod line;
 mod log;
 mod names;
 mod outcome;
+mod parts;
 mod scene;
 mod setup;
 mod told;

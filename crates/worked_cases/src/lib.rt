@@ -7,6 +7,8 @@ mod bodies;
 #[cfg(test)]
 mod clean_ups;
 #[cfg(test)]
+mod comparisons;
+#[cfg(test)]
 mod control_files;
 #[cfg(test)]
 mod driver;

@@ -26,6 +26,7 @@ absent t/y
 folder u/v
 folders t
 out $unknown
+take nothing t
 run pg_sleep";
 
 const TOLD: &str = "\
@@ -45,6 +46,7 @@ wrong: t/x is there
 wrong: refused: there is no such entry: folder u/v
 wrong: not a line of a case: folders t
 wrong: not a line of a case: out $unknown
+wrong: not a line of a case: take nothing t
 wrong: words without a status
 ";
 

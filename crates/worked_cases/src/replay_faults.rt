@@ -9,21 +9,7 @@ use std::test::Fail;
 // A cluster that follows the source, and its replay: ten looks at the cluster and its log come before the
 // mark, and six at the relation's file and its page before that page is written.
 const FOLLOWER: &str = "case a call of a replay fails
-control $copy
-folder t/base
-folder t/base/5
-zeros $relation
-put $page0
-put $page1
-put $page2
-folder t/pg_wal
-file $history
-log $log
-record $checkpoint
-record $third
-record $fourth
-end
-file $label
+take follower t
 run pg_walreplay t
 ";
 

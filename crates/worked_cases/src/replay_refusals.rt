@@ -5,40 +5,16 @@ use super::replays::FOLLOWS;
 use std::test::Fail;
 
 const REFUSED: &str = "case a cluster that ends too soon
-control $copy
-folder t/base
-folder t/base/5
-zeros $relation
-put $page0
-put $page1
-put $page2
-folder t/pg_wal
-file $history
-log $log
-record $checkpoint
-record $third
-record $fourth
-end
-file $label
+take follower t
 put t/pg_wal/000000020000000000000001 184 01
 run pg_walreplay t
 err pg_walreplay: error: EndsTooSoon 0/1000A0 0/1000E0
 status 1
 case no label
-control $copy
-folder t/base
-folder t/base/5
-zeros $relation
-put $page0
-put $page1
-put $page2
-folder t/pg_wal
-file $history
-log $log
-record $checkpoint
-record $third
-record $fourth
-end
+take copy t
+take pages t
+take history t
+take log t
 run pg_walreplay t
 err pg_walreplay: error: NoLabel t
 status 1
@@ -53,94 +29,44 @@ err pg_walreplay: error: BadLabel t 2
 status 1
 case pages with checksums
 control $summed
-folder t/base
-folder t/base/5
-zeros $relation
-put $page0
-put $page1
-put $page2
-folder t/pg_wal
-file $history
-log $log
-record $checkpoint
-record $third
-record $fourth
-end
-file $label
+take pages t
+take history t
+take log t
+take label t
 run pg_walreplay t
 err pg_walreplay: error: ChecksumsOn t
 status 1
 case no hints
 control $unhinted
-folder t/base
-folder t/base/5
-zeros $relation
-put $page0
-put $page1
-put $page2
-folder t/pg_wal
-file $history
-log $log
-record $checkpoint
-record $third
-record $fourth
-end
-file $label
+take pages t
+take history t
+take log t
+take label t
 run pg_walreplay t
 err pg_walreplay: error: NoHints t
 status 1
 case a record that is not taken
-control $copy
-folder t/base
-folder t/base/5
-zeros $relation
-put $page0
-put $page1
-put $page2
-folder t/pg_wal
-file $history
-log $log
+take copy t
+take pages t
+take history t
+log t/pg_wal tli=2
 record $checkpoint
 record 700 0 12 FF0100
 end
-file $label
+take label t
 run pg_walreplay t
 err pg_walreplay: error: NotInProfile 0/1000A0 12 0
 status 1
 case no history
-control $copy
-folder t/base
-folder t/base/5
-zeros $relation
-put $page0
-put $page1
-put $page2
-folder t/pg_wal
-log $log
-record $checkpoint
-record $third
-record $fourth
-end
-file $label
+take copy t
+take pages t
+take log t
+take label t
 run pg_walreplay t
 err pg_walreplay: error: HistoryMissing t 2
 status 1
 case a mark
-control $copy
-folder t/base
-folder t/base/5
-zeros $relation
-put $page0
-put $page1
-put $page2
-folder t/pg_wal
-file $history
-log $log
-record $checkpoint
-record $third
-record $fourth
-end
-file $label
+take follower t
 file t/pg_walreplay.unfinished
 run pg_walreplay t
 err pg_walreplay: error: Unfinished t/pg_walreplay.unfinished

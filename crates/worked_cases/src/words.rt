@@ -78,7 +78,7 @@ run pg_walreplay
 err pg_walreplay: error: Usage
 status 1
 run pg_walcompare
-err pg_walcompare: error: NotBuilt
+err pg_walcompare: error: Usage
 status 1
 run pair 1 10 d
 err pair: error: NotBuilt

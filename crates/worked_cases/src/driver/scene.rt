@@ -6,6 +6,7 @@ use super::line::{first_word, narrow};
 use super::log::NewLog;
 use super::names::Named;
 use super::outcome::run_and_compare;
+use super::parts::Parts;
 use super::setup::set_up;
 use super::told::Told;
 use cluster_tree::MemoryTree;
@@ -17,6 +18,7 @@ use std::mem;
 pub(crate) struct Scene {
     alloc: Global,
     named: Named,
+    parts: Parts,
     tree: MemoryTree,
     log: Option<NewLog>,
     asked: Asked,
@@ -29,6 +31,7 @@ impl Scene {
         Scene {
             alloc,
             named: Named::new(alloc),
+            parts: Parts::new(alloc),
             tree: MemoryTree::new(alloc),
             log: None,
             asked: Asked::new(alloc),
@@ -90,7 +93,7 @@ impl Scene {
     }
 
     // Takes a line by its first word and what stands behind it.
-    fn take_parts(&mut self, verb: &str, behind: &str) -> Result<(), BadLine> {
+    fn take_words(&mut self, verb: &str, behind: &str) -> Result<(), BadLine> {
         if self.take_own(verb, behind)?
             || self.asked.take(self.alloc, verb, behind)?
             || self.take_log(verb, behind)?
@@ -102,11 +105,26 @@ impl Scene {
         Err(BadLine::Form)
     }
 
-    /// Takes a line.
-    pub(crate) fn take(&mut self, line: &str) -> Result<(), BadLine> {
+    // Takes a line that belongs to no part.
+    fn take_line(&mut self, line: &str) -> Result<(), BadLine> {
         let (verb, behind) = first_word(line);
         let behind = String::from_str(self.alloc, self.named.text_of(behind)?)?;
-        self.take_parts(verb, &behind)
+        self.take_words(verb, &behind)
+    }
+
+    /// Takes a line.
+    pub(crate) fn take(&mut self, line: &str) -> Result<(), BadLine> {
+        if self.parts.keep(self.alloc, line)? {
+            return Ok(());
+        }
+        let Some(part) = line.strip_prefix("take ") else {
+            return self.take_line(line);
+        };
+        let lines = self.parts.lines_of(self.alloc, part)?;
+        for line in lines.split('\n') {
+            self.take_line(line)?;
+        }
+        Ok(())
     }
 
     /// Tells a line that could not be carried out.
