@@ -1,4 +1,4 @@
-"""pg_rewind and pg_walreplay beside PostgreSQL's own pg_rewind and its servers."""
+"""pg_rewind and pg_walreplay beside PostgreSQL's own pg_rewind and its servers, and what they leave by pg_walcompare."""
 import hashlib
 import os
 import re
@@ -13,6 +13,10 @@ from server_pair import Server
 MARK, REPLAY_MARK = "pg_rewind.unfinished", "pg_walreplay.unfinished"
 MAIN_FORK = re.compile(r"(global|base/\d+)/\d+(\.\d+)?")
 REPLAYED = ("base/", "global/", "pg_xact/", "pg_multixact/")
+# What a rewind doesn't copy: what lies in these folders at the root, and these names anywhere (docs/FORMATS.md).
+EMPTIED = ("pg_stat_tmp", "pg_replslot", "pg_dynshmem", "pg_notify", "pg_serial", "pg_snapshots", "pg_subtrans")
+UNCOPIED = ("postgresql.auto.conf.tmp", "current_logfiles.tmp", "backup_label", "tablespace_map", "backup_manifest", "postmaster.pid",
+            "postmaster.opts")
 OWN_SETTINGS = ("postgresql.conf", "postgresql.auto.conf", "pg_hba.conf", "pg_ident.conf")
 
 
@@ -212,6 +216,41 @@ def replay(checks, server, end):
         1, "", "pg_walreplay: error: NoLabel %s\n" % target, "pg_walreplay", target))
 
 
+def whole_copy(source, rewound, target):
+    """What a rewind takes of the source, all of it, with the label and the control file that the rewind made."""
+    shutil.copytree(source, target)
+    for path in sorted(tree(target), reverse=True):
+        name = os.path.basename(path)
+        if "/" in path and path.split("/")[0] in EMPTIED or name in UNCOPIED or name.startswith("pg_internal.init"):
+            full = os.path.join(target, path)
+            os.rmdir(full) if os.path.isdir(full) else os.remove(full)
+    for path in ("backup_label", "global/pg_control"):
+        shutil.copy(os.path.join(rewound, path), os.path.join(target, path))
+    return target
+
+
+def comparison(checks, source):
+    """The rewound cluster that was replayed, beside a whole copy of the source that is replayed too."""
+    machine = checks.machine
+    target = machine.path("replayed16")
+    copy = whole_copy(source, machine.path("rewound16"), machine.path("copied16"))
+    ended = checks.ours("pg_walreplay", copy)
+    before = tree(target), tree(copy)
+    checks.expect("pg_walcompare finds no difference between a rewound cluster and a whole copy, both replayed", ended.stderr,
+                  checks.answers(0, "pg_walcompare: no difference\n", "", "pg_walcompare", target, copy))
+    checks.expect("pg_walcompare refuses a cluster and what lies in it", checks.answers(
+        1, "", "pg_walcompare: error: PathsOverlap\n", "pg_walcompare", target, os.path.join(target, "global")))
+    checks.expect("pg_walcompare changes nothing", before != (tree(target), tree(copy)) and "something has changed")
+    with open(os.path.join(copy, "global/pg_filenode.map"), "r+b") as changed:
+        changed.seek(500)
+        byte = changed.read(1)[0]
+        changed.seek(500)
+        changed.write(bytes([byte ^ 1]))
+    checks.expect("pg_walcompare finds a byte of a relation map", checks.answers(
+        1, "", "pg_walcompare: error: Differs global/pg_filenode.map\n", "pg_walcompare", target, copy))
+    shutil.rmtree(copy)
+
+
 def checked_by_amcheck(checks, name, server):
     machine = checks.machine
     control = os.path.join(machine.done("pg_config", "--sharedir").strip(), "extension", "amcheck.control")
@@ -266,6 +305,10 @@ def servers(checks, old, new):
     followers = {"rewound": target}
     if checks.is_built("pg_walreplay"):
         replay(checks, target, end)
+        if checks.is_built("pg_walcompare"):
+            comparison(checks, new.data + "16")
+        else:
+            checks.skip("pg_walcompare of what pg_walreplay left", "it answers NotBuilt")
         followers["replayed"] = standby(machine, "replayed", old)
     else:
         checks.skip("pg_walreplay beside a server", "it answers NotBuilt")
