@@ -1,0 +1,4 @@
+pub mod KindLemmas
+pub mod StorageLemmas
+pub mod EffectLemmas
+pub mod RecordLemmas

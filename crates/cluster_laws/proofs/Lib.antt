@@ -1,0 +1,11 @@
+pub mod AgreeLemmas
+pub mod KeptLemmas
+pub mod ChangeLemmas
+pub mod RecordLemmas
+pub mod ConvergeLemmas
+pub mod SameLemmas
+pub mod StartLemmas
+pub mod SkippedLemmas
+pub mod EndLemmas
+pub mod ReplayLemmas
+pub mod BothLemmas

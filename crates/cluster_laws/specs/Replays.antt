@@ -1,0 +1,39 @@
+-- Two clusters that are replayed: PostgreSQL 16, src/backend/access/transam/xlogrecovery.c, PerformWalRecovery. Own: "Alike clusters", "A replay, in order".
+use Rattle.std.specs.Prelude.{◌≡◌, ℕ, List, Option, Ok}
+use Rattle.alike_clusters.specs.Clusters.{AlikeClusters}
+use Rattle.block_refs.specs.declared.names.BlockName.{BlockName}
+use Rattle.cluster_compare.specs.Same.{IsSameCluster}
+use Rattle.cluster_kinds.specs.Kinds.{HasKinds}
+use Rattle.cluster_tree.specs.Contents.{Contents}
+use Rattle.cluster_tree.specs.PathValue.{PathValue}
+use Rattle.replay_core.specs.Replayed.{After, after_replay, first_world}
+use Rattle.replay_laws.specs.Log.{HoldsBytes}
+use Rattle.replay_laws.specs.Refusals.{SomeLacksLayout}
+use Rattle.replay_start.specs.Checked.{Start, start_of}
+use Rattle.cluster_laws.specs.Converging.{IsBased}
+
+-- the replay of a cluster ends, and leaves the same cluster as this one
+pub record EndsAs (per_file : ℕ) (left : Contents) (root : PathValue) (d : Contents) (other : PathValue) : Type 0 where
+  pub after : After
+  pub ends : after_replay d other ≡ Ok after
+  pub same : IsSameCluster per_file left root after.files other
+
+-- Of two alike clusters whose blocks fit one base under the log: where the replay of the one ends, so does that of the other, and they leave
+-- the same cluster.
+abbrev pub Convergence : Type 0
+Convergence = (base : BlockName → Option (List ℕ)) (redo : ℕ) (c d : Contents) (root other : PathValue) (s : Start) (after : After)
+    → AlikeClusters s.control.relseg c root d other → HoldsBytes c → start_of c root ≡ Ok s → ¬ (SomeLacksLayout s.records)
+    → IsBased base redo s.records root s.control.relseg (first_world c root s) → IsBased base redo s.records other s.control.relseg (first_world d other s)
+    → after_replay c root ≡ Ok after → EndsAs s.control.relseg after.files root d other
+
+-- Where moreover each entry of the one is of the kind that servers leave at its place, both replays end.
+pub record BothEnd (c : Contents) (root : PathValue) (d : Contents) (other : PathValue) (s : Start) : Type 0 where
+  pub after : After
+  pub ends : after_replay c root ≡ Ok after
+  pub alike : EndsAs s.control.relseg after.files root d other
+
+abbrev pub BothReplay : Type 0
+BothReplay = (base : BlockName → Option (List ℕ)) (redo : ℕ) (c d : Contents) (root other : PathValue) (s : Start)
+    → AlikeClusters s.control.relseg c root d other → HoldsBytes c → HasKinds root c → start_of c root ≡ Ok s → ¬ (SomeLacksLayout s.records)
+    → IsBased base redo s.records root s.control.relseg (first_world c root s) → IsBased base redo s.records other s.control.relseg (first_world d other s)
+    → BothEnd c root d other s

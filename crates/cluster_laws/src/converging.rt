@@ -1,0 +1,8 @@
+// Two clusters that replay one log.
+ghost use Rattle.cluster_laws.specs.Converging.{RecordsConverge};
+
+/// Two alike clusters whose blocks fit one base converge under a log whose records say enough: both
+/// replays end, and leave alike clusters whose blocks match, or both are refused by the same file.
+pub fn records_converge()
+    ensures { RecordsConverge }
+{}

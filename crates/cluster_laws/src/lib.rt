@@ -1,0 +1,14 @@
+//! Replay of one log over two clusters that are alike but for the pages of their relations.
+#![tactic(auto)]
+
+mod converging;
+mod records;
+mod replays;
+mod same;
+mod starts;
+
+pub use converging::records_converge;
+pub use records::records_alike;
+pub use replays::{both_replay, convergence};
+pub use same::alike_are_same;
+pub use starts::start_alike;
