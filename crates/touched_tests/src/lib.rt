@@ -1,12 +1,14 @@
-//! Tests of touched_blocks and of log_walk, as tables.
+//! Tests of touched_blocks and of log_walk, as texts.
 #![tactic(auto)]
 
+#[cfg(test)]
+mod bodies;
 #[cfg(test)]
 mod known;
 #[cfg(test)]
 mod records;
 #[cfg(test)]
-mod unknown;
+mod texts;
 #[cfg(test)]
 mod walk_control;
 #[cfg(test)]

@@ -1,4 +1,6 @@
 //! Records of a manager, an `info` and a body, and the sets that they make.
+use crate::bodies::body_of;
+use crate::texts::{byte, cut_at, number};
 use block_refs::{RelName, split_record};
 use cluster_tree::{MemoryTree, Path, Tree};
 use std::alloc::Global;
@@ -11,13 +13,10 @@ use wal_records::{LogWriter, RecordCursor};
 /// Where the log begins, and where its record starts.
 const SEGMENT: Lsn = Lsn(0x10_0000);
 
-pub(crate) const START: Lsn = Lsn(0x10_0028);
+const START: Lsn = Lsn(0x10_0028);
 
 /// The resource manager of a record, its `info` and its body.
-pub(crate) type Rec<'a> = (u8, u8, &'a [u8]);
-
-/// Relation `n` of database 5, and a block of it.
-pub(crate) type Block = (u32, u32, u32);
+type Rec<'a> = (u8, u8, &'a [u8]);
 
 // A log of one record.
 #[tactic(auto, using(wal_records::proofs::NearLemmas::ends_near))]
@@ -54,9 +53,12 @@ fn cursor_with(alloc: Global, rec: Rec<'_>) -> Result<RecordCursor, Fail> {
     Ok(cursor)
 }
 
-/// Adds a record. The inner answer is that of the call.
-pub(crate) fn add(alloc: Global, set: &mut Touched, rec: Rec<'_>) -> Result<Option<String>, Fail> {
-    let cursor = cursor_with(alloc, rec)?;
+/// Adds a record, by its manager, its `info` and its body. The inner answer is that of the call.
+pub(crate) fn add(alloc: Global, set: &mut Touched, words: &str) -> Result<Option<String>, Fail> {
+    let (manager, behind) = cut_at(words, " ");
+    let (info, body) = cut_at(behind, " ");
+    let body = body_of(alloc, body)?;
+    let cursor = cursor_with(alloc, (byte(manager)?, byte(info)?, &body))?;
     let rec = cursor.current().ok_or("no record")?;
     let parts = split_record(rec)?;
     match set.add_record(rec, &parts) {
@@ -65,13 +67,25 @@ pub(crate) fn add(alloc: Global, set: &mut Touched, rec: Rec<'_>) -> Result<Opti
     }
 }
 
-/// Whether a set has a block.
-pub(crate) fn has(set: &Touched, of: Block) -> bool {
-    let (database, relation, block) = of;
+/// How many chunks, cuts and databases a set has.
+pub(crate) fn counted(alloc: Global, set: &Touched) -> Result<String, Fail> {
+    Ok(format!(in alloc;
+        "{} {} {}",
+        set.chunk_count(),
+        set.cut_count(),
+        set.database_count()
+    )?)
+}
+
+/// Whether a set has a block, or lacks it, as the first word says: then its database, relation and number.
+pub(crate) fn is_so(set: &Touched, fact: &str) -> Result<bool, Fail> {
+    let (verb, behind) = cut_at(fact, " ");
+    let (database, behind) = cut_at(behind, " ");
+    let (relation, block) = cut_at(behind, " ");
     let rel = RelName {
         space: 1663,
-        database,
-        relation,
+        database: number(database)?,
+        relation: number(relation)?,
     };
-    set.has(rel, block)
+    Ok(set.has(rel, number(block)?) == (verb == "has"))
 }

@@ -3,6 +3,9 @@ ghost use Rattle.std.specs.Prelude.{◌≡◌, IfOk};
 ghost use Rattle.cluster_tree.specs.Contents.{Contents};
 ghost use Rattle.wal_records.specs.Cursor.{Knows};
 
+use crate::bodies::body_of;
+use crate::texts::{byte, cut_at, position};
+use crate::walk_rows::HINTED;
 use cluster_tree::{MemoryTree, Path, Tree};
 use std::alloc::Global;
 use std::test::Fail;
@@ -19,18 +22,7 @@ const PAGE: [u8; 40] = [
     7, 0, 0, 0, 0, 0, 0, 0, 0, 0, 16, 0, 0, 32, 0, 0,
 ];
 
-/// What stands in the log.
-#[derive(Clone, Copy)]
-pub(crate) enum Cell<'a> {
-    /// A checkpoint record of timeline 1: where it starts, its link, its `info` and its redo.
-    Checkpoint(u64, u64, u8, u64),
-    /// A record: where it starts, its link, its manager, its `info` and its body.
-    Record(u64, u64, u8, u8, &'a [u8]),
-    /// Bytes: where they start.
-    Bytes(u64, &'a [u8]),
-}
-
-/// The body of such a checkpoint record: the header of the main bytes, and these.
+/// The body of a checkpoint record of timeline 1: the header of the main bytes, and these.
 fn checkpoint(redo: u64) -> [u8; 90] {
     let mut body = [0; 90];
     body[0] = 255;
@@ -62,32 +54,66 @@ fn write(tree: &mut MemoryTree, file: &Path, at: u64, bytes: &[u8]) -> Result<()
     Ok(())
 }
 
+/// Writes a record: where it starts, and its header and its body.
+fn write_record(
+    tree: &mut MemoryTree,
+    file: &Path,
+    at: u64,
+    header: [u8; 24],
+    body: &[u8],
+) -> Result<(), Fail> {
+    write(tree, file, at, &header)?;
+    write(tree, file, at.saturating_add(24), body)
+}
+
+/// Puts a checkpoint into the log: its link, its `info` and its redo.
+fn put_checkpoint(tree: &mut MemoryTree, file: &Path, at: u64, words: &str) -> Result<(), Fail> {
+    let (link, behind) = cut_at(words, " ");
+    let (info, redo) = cut_at(behind, " ");
+    let body = checkpoint(position(redo)?);
+    let header = header(position(link)?, 0, byte(info)?, &body);
+    write_record(tree, file, at, header, &body)
+}
+
+/// Puts a record into the log: its link, its manager, its `info` and its body.
+fn put_record(
+    alloc: Global,
+    tree: &mut MemoryTree,
+    file: &Path,
+    at: u64,
+    words: &str,
+) -> Result<(), Fail> {
+    let (link, behind) = cut_at(words, " ");
+    let (manager, behind) = cut_at(behind, " ");
+    let (info, body) = cut_at(behind, " ");
+    let body = body_of(alloc, body)?;
+    let header = header(position(link)?, byte(manager)?, byte(info)?, &body);
+    write_record(tree, file, at, header, &body)
+}
+
 /// Puts something into the log. A record has to fit on its page.
-fn put(tree: &mut MemoryTree, file: &Path, cell: Cell<'_>) -> Result<(), Fail> {
-    match cell {
-        Cell::Checkpoint(at, link, info, redo) => {
-            let body = checkpoint(redo);
-            write(tree, file, at, &header(link, 0, info, &body))?;
-            write(tree, file, at.saturating_add(24), &body)
-        }
-        Cell::Record(at, link, manager, info, body) => {
-            write(tree, file, at, &header(link, manager, info, body))?;
-            write(tree, file, at.saturating_add(24), body)
-        }
-        Cell::Bytes(at, bytes) => write(tree, file, at, bytes),
+fn put(alloc: Global, tree: &mut MemoryTree, file: &Path, cell: &str) -> Result<(), Fail> {
+    let (verb, behind) = cut_at(cell, " ");
+    let (at, words) = cut_at(behind, " ");
+    let at = position(at)?;
+    match verb {
+        "checkpoint" => put_checkpoint(tree, file, at, words),
+        "record" => put_record(alloc, tree, file, at, words),
+        _ => write(tree, file, at, &body_of(alloc, words)?),
     }
 }
 
 /// A tree with a log of two pages in the folder `log`, in which this stands, and zeros.
-pub(crate) fn tree_of(alloc: Global, cells: &[Cell<'_>]) -> Result<MemoryTree, Fail> {
+pub(crate) fn tree_of(alloc: Global, cells: &str) -> Result<MemoryTree, Fail> {
     let mut tree = MemoryTree::new(alloc);
     tree.make_folder(&Path::parse(alloc, "log")?)?;
     let file = Path::parse(alloc, "log/000000010000000000000001")?;
     tree.make_file(&file)?;
     tree.write_at(&file, 0, &vec![in alloc; 0; 16_384]?)?;
     tree.write_at(&file, 0, &PAGE)?;
-    for cell in cells {
-        put(&mut tree, &file, *cell)?;
+    let cells = if cells == "HINTED" { HINTED } else { cells };
+    for cell in cells.split(", ") {
+        put(alloc, &mut tree, &file, cell)?;
     }
     Ok(tree)
 }

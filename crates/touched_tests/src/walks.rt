@@ -1,55 +1,59 @@
 //! Walks over logs: each call answers what its row says.
-use crate::records::has;
+use crate::records::{counted, is_so};
+use crate::texts::{cut_at, position};
 use crate::walk_control::control;
 use crate::walk_logs::{cursor, size, tree_of};
-use crate::walk_rows::{
-    COMMON, CommonRow, ENDS, EndRow, HINTED, REFUSED, RefusedRow, TOUCHED, TouchedRow,
-};
+use crate::walk_rows::{COMMON, ENDS, HINTED, REFUSED, TOUCHED};
 use cluster_tree::{FailPlan, FailingTree};
 use log_walk::{LogWalkFault, common_checkpoint, end_of_target, touch_log};
 use std::alloc::Global;
-use std::test::*;
+use std::process::Abort;
+use std::test::Fail;
+use touched_blocks::Touched;
 use wal_base::Lsn;
 
-/// Where the first record of each log starts.
-const START: Lsn = Lsn(0x10_0028);
-
-/// Whether the target's log ends where the row says.
-fn is_end(alloc: Global, row: &EndRow<'_>) -> Result<bool, Fail> {
-    let mut tree = tree_of(alloc, row.cells)?;
+/// Where the target's log ends.
+fn end(alloc: Global, words: &str, cells: &str) -> Result<String, Fail> {
+    let (checkpoint, least) = cut_at(words, " ");
+    let control = control(position(checkpoint)?, position(least)?);
+    let mut tree = tree_of(alloc, cells)?;
     let mut cursor = cursor(alloc, size()?)?;
-    let told = end_of_target(&mut cursor, &mut tree, &control(row.checkpoint, row.least));
-    Ok(told.map(|end| end.0) == row.told)
-}
-
-/// Whether the common checkpoint is the row's.
-fn is_common(alloc: Global, row: &CommonRow<'_>) -> Result<bool, Fail> {
-    let size = size()?;
-    let mut tree = tree_of(alloc, row.cells)?;
-    let mut cursor = cursor(alloc, size)?;
-    let told = common_checkpoint(&mut cursor, &mut tree, size, Lsn(row.fork));
-    Ok(told.map(|found| (found.start.0, found.checkpoint.redo)) == row.told)
-}
-
-/// Whether the reading of a log is refused as the row says.
-fn is_refused(alloc: Global, row: &RefusedRow<'_>) -> Result<bool, Fail> {
-    let mut tree = tree_of(alloc, row.cells)?;
-    let mut cursor = cursor(alloc, size()?)?;
-    match touch_log(alloc, &mut cursor, &mut tree, START, Lsn(row.end)) {
-        Ok(_) => Ok(false),
-        Err(fault) => Ok(fault == row.told),
+    match end_of_target(&mut cursor, &mut tree, &control) {
+        Ok(end) => Ok(format!(in alloc; "{end}")?),
+        Err(fault) => Ok(format!(in alloc; "{fault:?}")?),
     }
 }
 
-/// Whether a log touches the blocks of the row.
-fn is_touched(alloc: Global, row: &TouchedRow<'_>) -> Result<bool, Fail> {
-    let mut tree = tree_of(alloc, row.cells)?;
+/// Where the last common checkpoint starts, and its redo.
+fn common(alloc: Global, fork: &str, cells: &str) -> Result<String, Fail> {
+    let size = size()?;
+    let fork = Lsn(position(fork)?);
+    let mut tree = tree_of(alloc, cells)?;
+    let mut cursor = cursor(alloc, size)?;
+    match common_checkpoint(&mut cursor, &mut tree, size, fork) {
+        Ok(found) => {
+            let redo = Lsn(found.checkpoint.redo);
+            Ok(format!(in alloc; "{} {redo}", found.start)?)
+        }
+        Err(fault) => Ok(format!(in alloc; "{fault:?}")?),
+    }
+}
+
+/// The blocks that a log touches, or what refuses it.
+fn touched(alloc: Global, words: &str, cells: &str) -> Result<Result<Touched, LogWalkFault>, Fail> {
+    let (redo, end) = cut_at(words, " ");
+    let (redo, end) = (Lsn(position(redo)?), Lsn(position(end)?));
+    let mut tree = tree_of(alloc, cells)?;
     let mut cursor = cursor(alloc, size()?)?;
-    let set = touch_log(alloc, &mut cursor, &mut tree, Lsn(row.redo), Lsn(row.end))?;
-    let counts = (set.chunk_count(), set.cut_count(), set.database_count());
-    let there = row.there.iter().all(|of| has(&set, *of));
-    let absent = row.absent.iter().any(|of| has(&set, *of));
-    Ok(there && !absent && counts == row.counts)
+    Ok(touch_log(alloc, &mut cursor, &mut tree, redo, end))
+}
+
+/// What refuses a log.
+fn refusal(alloc: Global, words: &str, cells: &str) -> Result<String, Fail> {
+    match touched(alloc, words, cells)? {
+        Ok(set) => counted(alloc, &set),
+        Err(fault) => Ok(format!(in alloc; "{fault:?}")?),
+    }
 }
 
 /// How many chunks the log with the hint touches, by the three walks on one cursor, where these reads
@@ -72,65 +76,68 @@ fn walked(alloc: Global, plan: FailPlan) -> Result<Result<usize, LogWalkFault>, 
     }
 }
 
-/// The number of the first row that isn't as it says.
-fn wrong_end(alloc: Global) -> Result<Option<usize>, Fail> {
-    for (at, row) in ENDS.iter().enumerate() {
-        if !is_end(alloc, row)? {
-            return Ok(Some(at));
-        }
-    }
-    Ok(None)
+/// Which call the rows of a text are about.
+#[derive(Clone, Copy)]
+enum Call {
+    End,
+    Common,
+    Touch,
 }
 
-fn wrong_common(alloc: Global) -> Result<Option<usize>, Fail> {
-    for (at, row) in COMMON.iter().enumerate() {
-        if !is_common(alloc, row)? {
-            return Ok(Some(at));
-        }
+fn told(alloc: Global, call: Call, words: &str, cells: &str) -> Result<String, Fail> {
+    match call {
+        Call::End => end(alloc, words, cells),
+        Call::Common => common(alloc, words, cells),
+        Call::Touch => refusal(alloc, words, cells),
     }
-    Ok(None)
 }
 
-fn wrong_refused(alloc: Global) -> Result<Option<usize>, Fail> {
-    for (at, row) in REFUSED.iter().enumerate() {
-        if !is_refused(alloc, row)? {
-            return Ok(Some(at));
+/// The call of each row of a text answers what the row says.
+fn check<R: AllocGlobal + Abort>(rt: &R, call: Call, text: &str) -> Result<(), Fail> {
+    for line in text.split('\n') {
+        if let Some((row, meant)) = line.split_once(" = ") {
+            let (words, cells) = cut_at(row, ": ");
+            let told = told(rt.alloc(), call, words, cells)?;
+            assert_eq!(rt; told.as_str(), meant, "{line}");
         }
     }
-    Ok(None)
+    Ok(())
 }
 
-fn wrong_touched(alloc: Global) -> Result<Option<usize>, Fail> {
-    for (at, row) in TOUCHED.iter().enumerate() {
-        if !is_touched(alloc, row)? {
-            return Ok(Some(at));
+/// Each log touches the blocks that its row says.
+fn check_touched<R: AllocGlobal + Abort>(rt: &R, text: &str) -> Result<(), Fail> {
+    for line in text.split('\n') {
+        if let Some((row, meant)) = line.split_once(" = ") {
+            let (words, cells) = cut_at(row, ": ");
+            let (counts, facts) = cut_at(meant, ": ");
+            let set = touched(rt.alloc(), words, cells)?.map_err(|_| "refused")?;
+            assert_eq!(rt; counted(rt.alloc(), &set)?.as_str(), counts, "{line}");
+            for fact in facts.split(", ") {
+                assert!(rt; is_so(&set, fact)?, "{line}: {fact}");
+            }
         }
     }
-    Ok(None)
+    Ok(())
 }
 
 #[test]
 fn a_log_ends_with_its_checkpoint_or_later(rt: HostRuntime) -> Result<(), Fail> {
-    assert_eq!(rt; wrong_end(rt.alloc())?, None);
-    Ok(())
+    check(&rt, Call::End, ENDS)
 }
 
 #[test]
 fn the_walk_back_finds_the_common_checkpoint(rt: HostRuntime) -> Result<(), Fail> {
-    assert_eq!(rt; wrong_common(rt.alloc())?, None);
-    Ok(())
+    check(&rt, Call::Common, COMMON)
 }
 
 #[test]
 fn each_fault_is_told_in_the_order_of_the_log(rt: HostRuntime) -> Result<(), Fail> {
-    assert_eq!(rt; wrong_refused(rt.alloc())?, None);
-    Ok(())
+    check(&rt, Call::Touch, REFUSED)
 }
 
 #[test]
 fn a_log_touches_what_it_names_from_the_redo_on(rt: HostRuntime) -> Result<(), Fail> {
-    assert_eq!(rt; wrong_touched(rt.alloc())?, None);
-    Ok(())
+    check_touched(&rt, TOUCHED)
 }
 
 #[test]
