@@ -2,6 +2,8 @@
 // of its own that lays the fields out with Python's struct and computes CRC-32C bit by bit
 // (tests/pg_control.py).
 use control_file::{Checkpoint, Control};
+use std::alloc::Global;
+use std::test::Fail;
 use wal_base::Crc32c;
 
 // A cluster that was shut down on timeline 1, as (offset, width, value); zeros elsewhere but for
@@ -141,6 +143,27 @@ pub(crate) fn edited(edits: &[(usize, usize, u64)], crc: u32) -> [u8; 8192] {
         put(&mut file, *at, *width, *value);
     }
     file
+}
+
+// Fields as text, each its offset, its width and its value.
+pub(crate) fn fields_of(alloc: Global, text: &str) -> Result<Vec<(usize, usize, u64)>, Fail> {
+    let mut fields = Vec::new(alloc);
+    for field in text.split(", ") {
+        let (at, behind) = field.split_once(' ').ok_or("no width")?;
+        let (width, value) = behind.split_once(' ').ok_or("no value")?;
+        fields.push((
+            at.parse::<usize>()?,
+            width.parse::<usize>()?,
+            value.parse::<u64>()?,
+        ))?;
+    }
+    Ok(fields)
+}
+
+// The example with fields and a CRC as text.
+pub(crate) fn file_of(alloc: Global, text: &str) -> Result<[u8; 8192], Fail> {
+    let (fields, crc) = text.split_once(": ").ok_or("no CRC")?;
+    Ok(edited(&fields_of(alloc, fields)?, crc.parse::<u32>()?))
 }
 
 // The example with these fields and the CRC that its bytes have then.

@@ -1,7 +1,7 @@
 // Control files: each field, each refusal, the very bytes that are written, and the text.
 use crate::control_bytes::{
     DISTINCT, DISTINCT_CRC, DISTINCT_NONCE, EXAMPLE_CRC, distinct_checkpoint, distinct_control,
-    edited, sealed, spelled,
+    edited, file_of, sealed, spelled,
 };
 use control_file::{
     ControlFault, Field, control_text, read_checkpoint, read_control, write_checkpoint,
@@ -32,158 +32,55 @@ fn refuses_another_length(rt: HostRuntime) {
     assert_eq!(rt; read_control(&[0; 8193]), Err(ControlFault::Size(8193)));
 }
 
-// What stands in place of the example's fields, the CRC, and the first rule that is broken then, in
-// the order of the faults. The CRC is mended where it isn't the one: in the first row a bit of byte
-// 100 is turned.
-const REFUSED: [(&[(usize, usize, u64)], u32, ControlFault); 29] = [
-    (
-        &[(100, 1, 1)],
-        EXAMPLE_CRC,
-        ControlFault::Crc(EXAMPLE_CRC, 0xCDF9_F015),
-    ),
-    (&[(8, 4, 1500)], 0x00FF_9917, ControlFault::Version(1500)),
-    (
-        &[(12, 4, 202307072)],
-        0x36DC_C624,
-        ControlFault::Catalog(202307072),
-    ),
-    (
-        &[(8, 4, 1500), (12, 4, 202307072)],
-        0xCA13_E92E,
-        ControlFault::Version(1500),
-    ),
-    (
-        &[(12, 4, 202307072), (16, 4, 7)],
-        0x160D_F5A2,
-        ControlFault::Catalog(202307072),
-    ),
-    (
-        &[(252, 4, 2), (16, 4, 7)],
-        0xBB78_F2E3,
-        ControlFault::Shape(Field::State, 7),
-    ),
-    (
-        &[(228, 4, 0), (172, 4, 3)],
-        0xA712_90AA,
-        ControlFault::Shape(Field::WalLevel, 3),
-    ),
-    (
-        &[(16, 4, 7)],
-        0xDCE1_859B,
-        ControlFault::Shape(Field::State, 7),
-    ),
-    (
-        &[(56, 1, 2)],
-        0x8698_7E62,
-        ControlFault::Shape(Field::CpFpw, 2),
-    ),
-    (
-        &[(168, 1, 255)],
-        0x0648_3C57,
-        ControlFault::Shape(Field::EndRequired, 255),
-    ),
-    (
-        &[(172, 4, 3)],
-        0xD118_5371,
-        ControlFault::Shape(Field::WalLevel, 3),
-    ),
-    (
-        &[(176, 1, 2)],
-        0x835B_924D,
-        ControlFault::Shape(Field::WalLogHints, 2),
-    ),
-    (
-        &[(180, 4, 0x80000000)],
-        0xBC92_9D3F,
-        ControlFault::Shape(Field::MaxConnections, 0x80000000),
-    ),
-    (
-        &[(184, 4, 0x80000000)],
-        0x2F55_B4F9,
-        ControlFault::Shape(Field::MaxWorkers, 0x80000000),
-    ),
-    (
-        &[(188, 4, 0x80000000)],
-        0xDE2F_9573,
-        ControlFault::Shape(Field::MaxSenders, 0x80000000),
-    ),
-    (
-        &[(192, 4, 0xFFFFFFFF)],
-        0x523D_4D49,
-        ControlFault::Shape(Field::MaxPrepared, 0xFFFFFFFF),
-    ),
-    (
-        &[(196, 4, 0x80000000)],
-        0x9CD3_1C80,
-        ControlFault::Shape(Field::MaxLocks, 0x80000000),
-    ),
-    (
-        &[(200, 1, 2)],
-        0xF21B_2ABB,
-        ControlFault::Shape(Field::TrackCommitTs, 2),
-    ),
-    (
-        &[(204, 4, 4)],
-        0x6F2D_0D09,
-        ControlFault::Shape(Field::MaxAlign, 4),
-    ),
-    (
-        &[(208, 8, 0x4132_D687_0000_0001)],
-        0xF40A_D8F1,
-        ControlFault::Shape(Field::FloatFormat, 0x4132_D687_0000_0001),
-    ),
-    (
-        &[(216, 4, 4096)],
-        0x1E3A_F64F,
-        ControlFault::Shape(Field::Blcksz, 4096),
-    ),
-    (
-        &[(220, 4, 0)],
-        0xCD11_6150,
-        ControlFault::Shape(Field::Relseg, 0),
-    ),
-    (
-        &[(220, 4, 131073)],
-        0xE029_9226,
-        ControlFault::Shape(Field::Relseg, 131073),
-    ),
-    (
-        &[(224, 4, 16384)],
-        0xBFE9_A83C,
-        ControlFault::Shape(Field::WalBlcksz, 16384),
-    ),
-    (
-        &[(228, 4, 524288)],
-        0x33C9_2F53,
-        ControlFault::Shape(Field::WalSegSize, 524288),
-    ),
-    (
-        &[(228, 4, 1048577)],
-        0x898B_1246,
-        ControlFault::Shape(Field::WalSegSize, 1048577),
-    ),
-    (
-        &[(228, 4, 0x80000000)],
-        0xC51F_1B3A,
-        ControlFault::Shape(Field::WalSegSize, 0x80000000),
-    ),
-    (
-        &[(248, 1, 2)],
-        0x9F9C_FF91,
-        ControlFault::Shape(Field::Float8ByVal, 2),
-    ),
-    (
-        &[(252, 4, 2)],
-        0x9BA9_C165,
-        ControlFault::Shape(Field::ChecksumVersion, 2),
-    ),
-];
+// What stands in place of the example's fields (its offset, its width and its value), the CRC, and the
+// first rule that is broken then, in the order of the faults. The CRC is mended where it isn't the one: in
+// the first row a bit of byte 100 is turned.
+const REFUSED: &str = "\
+100 1 1: 4231050781 = Crc(4231050781, 3455709205)
+8 4 1500: 16750871 = Version(1500)
+12 4 202307072: 920438308 = Catalog(202307072)
+8 4 1500, 12 4 202307072: 3390302510 = Version(1500)
+12 4 202307072, 16 4 7: 370013602 = Catalog(202307072)
+252 4 2, 16 4 7: 3145265891 = Shape(State, 7)
+228 4 0, 172 4 3: 2803011754 = Shape(WalLevel, 3)
+16 4 7: 3705767323 = Shape(State, 7)
+56 1 2: 2258140770 = Shape(CpFpw, 2)
+168 1 255: 105397335 = Shape(EndRequired, 255)
+172 4 3: 3508032369 = Shape(WalLevel, 3)
+176 1 2: 2203816525 = Shape(WalLogHints, 2)
+180 4 2147483648: 3163725119 = Shape(MaxConnections, 2147483648)
+184 4 2147483648: 794146041 = Shape(MaxWorkers, 2147483648)
+188 4 2147483648: 3727660403 = Shape(MaxSenders, 2147483648)
+192 4 4294967295: 1379749193 = Shape(MaxPrepared, 4294967295)
+196 4 2147483648: 2631081088 = Shape(MaxLocks, 2147483648)
+200 1 2: 4061866683 = Shape(TrackCommitTs, 2)
+204 4 4: 1865223433 = Shape(MaxAlign, 4)
+208 8 4698053236609777665: 4094351601 = Shape(FloatFormat, 4698053236609777665)
+216 4 4096: 507180623 = Shape(Blcksz, 4096)
+220 4 0: 3440468304 = Shape(Relseg, 0)
+220 4 131073: 3760820774 = Shape(Relseg, 131073)
+224 4 16384: 3219761212 = Shape(WalBlcksz, 16384)
+228 4 524288: 868822867 = Shape(WalSegSize, 524288)
+228 4 1048577: 2307592774 = Shape(WalSegSize, 1048577)
+228 4 2147483648: 3307150138 = Shape(WalSegSize, 2147483648)
+248 1 2: 2677866385 = Shape(Float8ByVal, 2)
+252 4 2: 2611593573 = Shape(ChecksumVersion, 2)";
+
+fn fault_of(alloc: Global, row: &str) -> Result<String, Fail> {
+    let file = file_of(alloc, row)?;
+    match read_control(&file) {
+        Ok(_) => Err("read".into()),
+        Err(fault) => Ok(format!(in alloc; "{fault:?}")?),
+    }
+}
 
 #[test]
-fn refuses_by_the_first_broken_rule(rt: HostRuntime) {
-    for (edits, crc, fault) in REFUSED {
-        assert_eq!(rt; read_control(&edited(edits, crc)), Err(fault));
+fn refuses_by_the_first_broken_rule(rt: HostRuntime) -> Result<(), Fail> {
+    for line in REFUSED.split('\n') {
+        let (row, meant) = line.split_once(" = ").ok_or("no fault")?;
+        assert_eq!(rt; fault_of(rt.alloc(), row)?.as_str(), meant, "{line}");
     }
+    Ok(())
 }
 
 // What is read of these bytes is written as these bytes, over others, which stay past the file.
@@ -228,19 +125,22 @@ fn reads_and_writes_a_checkpoint_of_88_bytes(rt: HostRuntime) {
 // The names of fields are those of the format with a capital letter first and no point.
 #[test]
 fn fields_and_faults_print(rt: HostRuntime) -> Result<(), Fail> {
-    let rows = [
-        (Field::State, "State"),
-        (Field::CheckPoint, "CheckPoint"),
-        (Field::CpRedo, "CpRedo"),
-        (Field::CpNextMultiOffset, "CpNextMultiOffset"),
-        (Field::MinRecoveryPointTli, "MinRecoveryPointTli"),
-        (Field::Float8ByVal, "Float8ByVal"),
-        (Field::Crc, "Crc"),
-    ];
-    for (field, name) in rows {
-        let text = format!(in rt.alloc(); "{field}")?;
-        assert_eq!(rt; text.as_str(), name);
+    let mut names = String::new(rt.alloc());
+    for field in [
+        Field::State,
+        Field::CheckPoint,
+        Field::CpRedo,
+        Field::CpNextMultiOffset,
+        Field::MinRecoveryPointTli,
+        Field::Float8ByVal,
+        Field::Crc,
+    ] {
+        write!(names, "{field} ")?;
     }
+    assert_eq!(rt;
+        names.as_str(),
+        "State CheckPoint CpRedo CpNextMultiOffset MinRecoveryPointTli Float8ByVal Crc "
+    );
     let fault = ControlFault::Crc(0xABC, 0xFFFF_FFFF);
     let text = format!(in rt.alloc(); "{fault}")?;
     assert_eq!(rt; text.as_str(), "CRC 00000ABC where the bytes have FFFFFFFF");
@@ -318,31 +218,37 @@ fn shows_every_line(rt: HostRuntime) -> Result<(), Fail> {
     Ok(())
 }
 
-// The years 1 to 9999 have their dates, with a space before a day of one digit.
+// The years 1 to 9999 have their dates, with a space before a day of one digit. Each row has the
+// seconds and their text.
+const TIMES: &str = "\
+-9223372036854775808 = -9223372036854775808
+-62135596801 = -62135596801
+-62135596800 = Mon Jan  1 00:00:00 1
+-1 = Wed Dec 31 23:59:59 1969
+0 = Thu Jan  1 00:00:00 1970
+86399 = Thu Jan  1 23:59:59 1970
+951782400 = Tue Feb 29 00:00:00 2000
+1700000000 = Tue Nov 14 22:13:20 2023
+1709164799 = Wed Feb 28 23:59:59 2024
+4102444800 = Fri Jan  1 00:00:00 2100
+253402300799 = Fri Dec 31 23:59:59 9999
+253402300800 = 253402300800
+9223372036854775807 = 9223372036854775807";
+
+// How a control file shows when it was modified.
+fn time_of(alloc: Global, seconds: &str) -> Result<String, Fail> {
+    let seconds = seconds.parse::<i64>()?;
+    let text = text_of(alloc, &sealed(&[(24, 8, seconds.cast_unsigned())]))?;
+    let line = text.as_str().lines().nth(4).unwrap_or("");
+    let time = line.strip_prefix("pg_control last modified:             ");
+    Ok(String::from_str(alloc, time.ok_or("another line")?)?)
+}
+
 #[test]
 fn shows_times(rt: HostRuntime) -> Result<(), Fail> {
-    let rows = [
-        (i64::MIN, "-9223372036854775808"),
-        (-62135596801, "-62135596801"),
-        (-62135596800, "Mon Jan  1 00:00:00 1"),
-        (-1, "Wed Dec 31 23:59:59 1969"),
-        (0, "Thu Jan  1 00:00:00 1970"),
-        (86399, "Thu Jan  1 23:59:59 1970"),
-        (951782400, "Tue Feb 29 00:00:00 2000"),
-        (1700000000, "Tue Nov 14 22:13:20 2023"),
-        (1709164799, "Wed Feb 28 23:59:59 2024"),
-        (4102444800, "Fri Jan  1 00:00:00 2100"),
-        (253402300799, "Fri Dec 31 23:59:59 9999"),
-        (253402300800, "253402300800"),
-        (i64::MAX, "9223372036854775807"),
-    ];
-    for (seconds, time) in rows {
-        let text = text_of(rt.alloc(), &sealed(&[(24, 8, seconds.cast_unsigned())]))?;
-        let line = text.as_str().lines().nth(4).unwrap_or("");
-        assert_eq!(rt;
-            line.strip_prefix("pg_control last modified:             "),
-            Some(time)
-        );
+    for row in TIMES.split('\n') {
+        let (seconds, time) = row.split_once(" = ").ok_or("no time")?;
+        assert_eq!(rt; time_of(rt.alloc(), seconds)?.as_str(), time);
     }
     Ok(())
 }

@@ -15,6 +15,8 @@ mod masks;
 #[cfg(test)]
 mod numbers;
 #[cfg(test)]
+mod page_calls;
+#[cfg(test)]
 mod pages;
 #[cfg(test)]
 mod rewinds;

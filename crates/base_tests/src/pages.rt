@@ -1,7 +1,7 @@
 // Expected bytes were computed by a Python script that follows bufpage.c, independent of this crate.
+use crate::page_calls::{bytes_of, cut_at, half, made, make};
 use page_layout::{Line, Page, PageRefusal};
 use std::alloc::Global;
-use std::process::Abort;
 use std::test::Fail;
 use wal_base::Lsn;
 
@@ -13,33 +13,6 @@ const SIXTEEN: [u8; 16] = [
 
 const NINE: [u8; 9] = [0xC1, 0xC2, 0xC3, 0xC4, 0xC5, 0xC6, 0xC7, 0xC8, 0xC9];
 
-const THREE: [u8; 3] = [0xD1, 0xD2, 0xD3];
-
-// More than a page has room for.
-const LONG: [u8; 8168] = [0; 8168];
-
-// A call that changes a page.
-#[derive(Clone, Copy)]
-enum Call {
-    Set(u16, Line),
-    Add(&'static [u8], u16, bool),
-    Trim,
-    Pack,
-    Delete(&'static [u16]),
-    Init(u16),
-}
-
-fn make(page: &mut Page, call: Call) -> Result<(), PageRefusal> {
-    match call {
-        Call::Set(place, line) => page.set_line(place, line),
-        Call::Add(item, place, overwrite) => page.add_item(item, place, overwrite),
-        Call::Trim => page.trim(),
-        Call::Pack => page.pack(),
-        Call::Delete(places) => page.delete_items(places),
-        Call::Init(special) => page.init(special),
-    }
-}
-
 // A page with the items of 5, 16 and 9 bytes.
 fn page_of_three(alloc: Global) -> Result<Page, Fail> {
     let mut page = Page::zero(alloc)?;
@@ -50,141 +23,49 @@ fn page_of_three(alloc: Global) -> Result<Page, Fail> {
     Ok(page)
 }
 
-// The page has these parts, each at its byte, over zeros.
-fn assert_parts(rt: &impl Abort, page: &Page, name: &str, parts: &[(usize, &[u8])]) {
-    let mut expected = [0u8; 8192];
-    for (at, part) in parts {
-        assert!(rt; part.len() <= 8192 && *at <= 8192 - part.len());
-        let end = *at + part.len();
-        expected[*at..end].copy_from_slice(part);
+// Whether the page has these parts, each at its byte, over zeros.
+fn has_parts(alloc: Global, page: &Page, parts: &str) -> Result<bool, Fail> {
+    let mut expected = vec![in alloc; 0u8; 8192]?;
+    for part in parts.split(", ") {
+        let (at, digits) = cut_at(part, " ");
+        let bytes = bytes_of(alloc, digits)?;
+        let at = usize::from(half(at)?);
+        let places = expected.iter_mut().skip(at).take(bytes.len());
+        for (place, byte) in places.zip(bytes.iter()) {
+            *place = *byte;
+        }
     }
-    let same = page.bytes() == expected.as_slice();
-    assert!(rt; same, "{name}");
+    Ok(page.bytes() == expected.as_slice())
 }
 
-// What the calls leave of a page of three items: parts, each at its byte, over zeros.
-struct Left {
-    name: &'static str,
-    calls: &'static [Call],
-    parts: &'static [(usize, &'static [u8])],
-}
-
-const LEFT: [Left; 9] = [
-    Left {
-        name: "three items",
-        calls: &[],
-        parts: &[
-            (12, &[0x24, 0, 0xD8, 0x1F, 0, 0x20, 4, 0x20]),
-            (
-                24,
-                &[0xF8, 0x9F, 0x0A, 0, 0xE8, 0x9F, 0x20, 0, 0xD8, 0x9F, 0x12],
-            ),
-            (8152, &NINE),
-            (8168, &SIXTEEN),
-            (8184, &FIVE),
-        ],
-    },
-    Left {
-        name: "one between",
-        calls: &[Call::Add(&THREE, 2, false)],
-        parts: &[
-            (12, &[0x28, 0, 0xD0, 0x1F, 0, 0x20, 4, 0x20]),
-            (
-                24,
-                &[
-                    0xF8, 0x9F, 0x0A, 0, 0xD0, 0x9F, 6, 0, 0xE8, 0x9F, 0x20, 0, 0xD8, 0x9F, 0x12,
-                ],
-            ),
-            (8144, &THREE),
-            (8152, &NINE),
-            (8168, &SIXTEEN),
-            (8184, &FIVE),
-        ],
-    },
-    Left {
-        name: "over an unused line",
-        calls: &[Call::Set(2, Line::Unused), Call::Add(&THREE, 2, true)],
-        parts: &[
-            (12, &[0x24, 0, 0xD0, 0x1F, 0, 0x20, 4, 0x20]),
-            (
-                24,
-                &[0xF8, 0x9F, 0x0A, 0, 0xD0, 0x9F, 6, 0, 0xD8, 0x9F, 0x12],
-            ),
-            (8144, &THREE),
-            (8152, &NINE),
-            (8168, &SIXTEEN),
-            (8184, &FIVE),
-        ],
-    },
-    Left {
-        name: "redirected and packed",
-        calls: &[Call::Set(2, Line::Redirect(3)), Call::Pack],
-        parts: &[
-            (12, &[0x24, 0, 0xE8, 0x1F, 0, 0x20, 4, 0x20]),
-            (24, &[0xF8, 0x9F, 0x0A, 0, 3, 0, 1, 0, 0xE8, 0x9F, 0x12]),
-            (8168, &NINE),
-            (8184, &FIVE),
-        ],
-    },
-    Left {
-        name: "trimmed",
-        calls: &[Call::Set(3, Line::Unused), Call::Trim],
-        parts: &[
-            (12, &[0x20, 0, 0xD8, 0x1F, 0, 0x20, 4, 0x20]),
-            (24, &[0xF8, 0x9F, 0x0A, 0, 0xE8, 0x9F, 0x20]),
-            (8152, &NINE),
-            (8168, &SIXTEEN),
-            (8184, &FIVE),
-        ],
-    },
-    Left {
-        name: "without the second",
-        calls: &[Call::Delete(&[2])],
-        parts: &[
-            (12, &[0x20, 0, 0xE8, 0x1F, 0, 0x20, 4, 0x20]),
-            (
-                24,
-                &[0xF8, 0x9F, 0x0A, 0, 0xE8, 0x9F, 0x12, 0, 0xE8, 0x9F, 0x12],
-            ),
-            (8152, &NINE),
-            (8168, &NINE),
-            (8184, &FIVE),
-        ],
-    },
-    Left {
-        name: "without the first and third",
-        calls: &[Call::Delete(&[1, 3])],
-        parts: &[
-            (12, &[0x1C, 0, 0xF0, 0x1F, 0, 0x20, 4, 0x20]),
-            (
-                24,
-                &[0xF0, 0x9F, 0x20, 0, 0xF0, 0x9F, 0x20, 0, 0xD8, 0x9F, 0x12],
-            ),
-            (8152, &NINE),
-            (8168, &[0xB0, 0xB1, 0xB2, 0xB3, 0xB4, 0xB5, 0xB6, 0xB7]),
-            (8176, &SIXTEEN),
-        ],
-    },
-    Left {
-        name: "without all",
-        calls: &[Call::Delete(&[1, 2, 3])],
-        parts: &[(12, &[0x18, 0, 0, 0x20, 0, 0x20, 4, 0x20])],
-    },
-    Left {
-        name: "empty",
-        calls: &[Call::Delete(&[1, 2, 3]), Call::Init(13)],
-        parts: &[(12, &[0x18, 0, 0xF0, 0x1F, 0xF0, 0x1F, 4, 0x20])],
-    },
-];
+// What calls leave of a page of three items: parts, each at its byte, over zeros.
+const LEFT: &str = "\
+three items:  = 12 2400D81F00200420, 24 F89F0A00E89F2000D89F12, 8152 C1C2C3C4C5C6C7C8C9, 8168 \
+    B0B1B2B3B4B5B6B7B8B9BABBBCBDBEBF, 8184 A1A2A3A4A5
+one between: add D1D2D3 2 between = 12 2800D01F00200420, 24 F89F0A00D09F0600E89F2000D89F12, 8144 \
+    D1D2D3, 8152 C1C2C3C4C5C6C7C8C9, 8168 B0B1B2B3B4B5B6B7B8B9BABBBCBDBEBF, 8184 A1A2A3A4A5
+over an unused line: set 2 unused, add D1D2D3 2 over = 12 2400D01F00200420, 24 \
+    F89F0A00D09F0600D89F12, 8144 D1D2D3, 8152 C1C2C3C4C5C6C7C8C9, 8168 \
+    B0B1B2B3B4B5B6B7B8B9BABBBCBDBEBF, 8184 A1A2A3A4A5
+redirected and packed: set 2 redirect 3, pack = 12 2400E81F00200420, 24 F89F0A0003000100E89F12, \
+    8168 C1C2C3C4C5C6C7C8C9, 8184 A1A2A3A4A5
+trimmed: set 3 unused, trim = 12 2000D81F00200420, 24 F89F0A00E89F20, 8152 C1C2C3C4C5C6C7C8C9, \
+    8168 B0B1B2B3B4B5B6B7B8B9BABBBCBDBEBF, 8184 A1A2A3A4A5
+without the second: delete 2 = 12 2000E81F00200420, 24 F89F0A00E89F1200E89F12, 8152 \
+    C1C2C3C4C5C6C7C8C9, 8168 C1C2C3C4C5C6C7C8C9, 8184 A1A2A3A4A5
+without the first and third: delete 1 3 = 12 1C00F01F00200420, 24 F09F2000F09F2000D89F12, 8152 \
+    C1C2C3C4C5C6C7C8C9, 8168 B0B1B2B3B4B5B6B7, 8176 B0B1B2B3B4B5B6B7B8B9BABBBCBDBEBF
+without all: delete 1 2 3 = 12 1800002000200420
+empty: delete 1 2 3, init 13 = 12 1800F01FF01F0420";
 
 #[test]
 fn each_call_leaves_these_bytes(rt: HostRuntime) -> Result<(), Fail> {
-    for left in &LEFT {
+    for row in LEFT.split('\n') {
+        let (calls, parts) = row.split_once(" = ").ok_or("no parts")?;
+        let (_name, calls) = cut_at(calls, ": ");
         let mut page = page_of_three(rt.alloc())?;
-        for call in left.calls {
-            make(&mut page, *call)?;
-        }
-        assert_parts(&rt, &page, left.name, left.parts);
+        assert_eq!(rt; made(rt.alloc(), &mut page, calls)?, Ok(()), "{row}");
+        assert!(rt; has_parts(rt.alloc(), &page, parts)?, "{row}");
     }
     Ok(())
 }
@@ -208,48 +89,55 @@ fn holds_291_items(rt: HostRuntime) -> Result<(), Fail> {
 }
 
 // Calls on a page of zeros, and on one of three items, that are refused.
-const OF_ZEROS: [(Call, PageRefusal); 6] = [
-    (Call::Set(0, Line::Unused), PageRefusal::BadPage),
-    (Call::Add(&[], 0, false), PageRefusal::BadPage),
-    (Call::Trim, PageRefusal::BadPage),
-    (Call::Pack, PageRefusal::BadPage),
-    (Call::Delete(&[0]), PageRefusal::BadPage),
-    (Call::Init(8169), PageRefusal::NoRoom),
-];
+const OF_ZEROS: &str = "\
+set 0 unused = BadPage
+add - 0 between = BadPage
+trim = BadPage
+pack = BadPage
+delete 0 = BadPage
+init 8169 = NoRoom";
 
-const OF_THREE: [(Call, PageRefusal); 13] = [
-    (Call::Set(0, Line::Unused), PageRefusal::BadPlace),
-    (Call::Set(4, Line::Unused), PageRefusal::BadPlace),
-    (Call::Set(1, Line::Redirect(32768)), PageRefusal::BadPlace),
-    (
-        Call::Set(1, Line::Dead { at: 0, len: 40000 }),
-        PageRefusal::BadPlace,
-    ),
-    (Call::Add(&LONG, 0, false), PageRefusal::BadPlace),
-    (Call::Add(&LONG, 5, false), PageRefusal::BadPlace),
-    (Call::Add(&LONG, 5, true), PageRefusal::BadPlace),
-    (Call::Add(&LONG, 1, true), PageRefusal::BadPlace),
-    (Call::Add(&LONG, 1, false), PageRefusal::NoRoom),
-    (Call::Delete(&[0]), PageRefusal::BadPlace),
-    (Call::Delete(&[4]), PageRefusal::BadPlace),
-    (Call::Delete(&[2, 1]), PageRefusal::BadPlace),
-    (Call::Delete(&[2, 2]), PageRefusal::BadPlace),
-];
+const OF_THREE: &str = "\
+set 0 unused = BadPlace
+set 4 unused = BadPlace
+set 1 redirect 32768 = BadPlace
+set 1 dead 0 40000 = BadPlace
+add 00+8167 0 between = BadPlace
+add 00+8167 5 between = BadPlace
+add 00+8167 5 over = BadPlace
+add 00+8167 1 over = BadPlace
+add 00+8167 1 between = NoRoom
+delete 0 = BadPlace
+delete 4 = BadPlace
+delete 2 1 = BadPlace
+delete 2 2 = BadPlace";
 
-fn assert_refused(rt: &impl Abort, page: &mut Page, rows: &[(Call, PageRefusal)]) {
-    for (call, refusal) in rows {
-        assert_eq!(rt; make(page, *call), Err(*refusal));
+fn refusal_of(alloc: Global, page: &mut Page, call: &str) -> Result<String, Fail> {
+    match make(alloc, page, call)? {
+        Ok(()) => Err("made".into()),
+        Err(refusal) => Ok(format!(in alloc; "{refusal:?}")?),
     }
+}
+
+// Whether each call is refused as its row says.
+fn are_refused(alloc: Global, page: &mut Page, rows: &str) -> Result<bool, Fail> {
+    for row in rows.split('\n') {
+        let (call, meant) = cut_at(row, " = ");
+        if refusal_of(alloc, page, call)?.as_str() != meant {
+            return Ok(false);
+        }
+    }
+    Ok(true)
 }
 
 #[test]
 fn refuses_in_order(rt: HostRuntime) -> Result<(), Fail> {
     let mut page = Page::zero(rt.alloc())?;
-    assert_refused(&rt, &mut page, &OF_ZEROS);
+    assert!(rt; are_refused(rt.alloc(), &mut page, OF_ZEROS)?);
     assert_eq!(rt; page.count(), None);
     assert_eq!(rt; page.line(1), None);
     let mut page = page_of_three(rt.alloc())?;
-    assert_refused(&rt, &mut page, &OF_THREE);
+    assert!(rt; are_refused(rt.alloc(), &mut page, OF_THREE)?);
     Ok(())
 }
 

@@ -1,5 +1,6 @@
 // Each answer of a rewind over trees in memory. The checksums of the control files come from a
 // script of its own (tests/pg_control.py).
+use crate::control_bytes::fields_of;
 use cluster_tree::{FailPlan, FailingTree, MemoryTree, Path, Tree};
 use clusters::{Found, read_whole};
 use rewind_survey::{Surveyed, survey};
@@ -26,19 +27,15 @@ const FIELDS: [(usize, usize, u64); 13] = [
 
 // A control file: the fields that differ from those, and the checksum.
 #[derive(Clone, Copy)]
-struct Given {
-    edits: &'static [(usize, usize, u64)],
+struct Given<'a> {
+    edits: &'a [(usize, usize, u64)],
     crc: u32,
 }
 
-const PLAIN: Given = Given {
+const PLAIN: Given<'static> = Given {
     edits: &[],
     crc: 0x9520_8C9A,
 };
-
-fn edited(edits: &'static [(usize, usize, u64)], crc: u32) -> Given {
-    Given { edits, crc }
-}
 
 fn put(file: &mut [u8; 8192], at: usize, width: usize, value: u64) {
     let places = file.iter_mut().skip(at).take(width);
@@ -47,7 +44,7 @@ fn put(file: &mut [u8; 8192], at: usize, width: usize, value: u64) {
     }
 }
 
-fn control_bytes(given: Given) -> [u8; 8192] {
+fn control_bytes(given: Given<'_>) -> [u8; 8192] {
     let mut file = [0; 8192];
     for (at, width, value) in FIELDS {
         put(&mut file, at, width, value);
@@ -86,13 +83,16 @@ fn two_folders(alloc: Global, rt: &impl Abort) -> MemoryTree {
 }
 
 // A target `t` and a source `s` with these control files.
-fn two_clusters(alloc: Global, target: Given, source: Given, rt: &impl Abort) -> MemoryTree {
+fn clusters_of(alloc: Global, target: &[u8], source: &[u8], rt: &impl Abort) -> MemoryTree {
     let mut tree = two_folders(alloc, rt);
-    let target = control_bytes(target);
-    let source = control_bytes(source);
-    make_file(alloc, &mut tree, "t/global/pg_control", &target, rt);
-    make_file(alloc, &mut tree, "s/global/pg_control", &source, rt);
+    make_file(alloc, &mut tree, "t/global/pg_control", target, rt);
+    make_file(alloc, &mut tree, "s/global/pg_control", source, rt);
     tree
+}
+
+// A target `t` with the plain control file, and a source `s` with this one.
+fn two_clusters(alloc: Global, source: Given<'_>, rt: &impl Abort) -> MemoryTree {
+    clusters_of(alloc, &control_bytes(PLAIN), &control_bytes(source), rt)
 }
 
 // What the target `t` needs to follow `s`.
@@ -126,87 +126,45 @@ fn check(
     Ok(())
 }
 
+// The control files of a target and of a source, each by the fields that differ (the offset, the width and
+// the value) and its checksum, and what is then answered.
+const CONTROLS: &str = "\
+plain | plain = nothing on one timeline
+176 1 0, 252 4 1: 2352294678 | plain = nothing on one timeline
+plain | 176 1 0: 3220803754 = nothing on one timeline
+100 1 1: 2501938330 | plain = the control file of t has the checksum 95208C9A and not A4E9CA92
+plain | 8 4 1500: 1777312656 = the control file of s has version 1500
+12 4 202209061: 3897876793 | plain = the control file of t has catalog version 202209061
+16 4 7: 3052519196 | plain = the control file of t has 7 as State
+plain | 220 4 65536, 228 4 2097152: 2759380836 = the control file of s has 65536 as Relseg
+plain | 228 4 2097152, 0 8 7300000000000000002: 2949494289 = the control file of s has 2097152 as \
+    WalSegSize
+plain | 0 8 7300000000000000002, 16 4 4: 90921017 = the target is of system 7300000000000000001 \
+    and the source of system 7300000000000000002
+176 1 0, 16 4 4: 2403351279 | plain = t did not log hints
+16 4 4: 2778277599 | 16 4 6: 1183704562 = t was not shut down cleanly: its state is 4
+plain | 16 4 2: 2236093785 = s was not shut down cleanly: its state is 2
+plain | 48 4 2: 2426670369 = s has no history of timeline 2
+144 4 2: 1744931850 | 48 4 2: 2426670369 = nothing on one timeline";
+
+fn control_of(alloc: Global, text: &str) -> Result<[u8; 8192], Fail> {
+    match text.split_once(": ") {
+        None => Ok(control_bytes(PLAIN)),
+        Some((fields, crc)) => Ok(control_bytes(Given {
+            edits: &fields_of(alloc, fields)?,
+            crc: crc.parse::<u32>()?,
+        })),
+    }
+}
+
 #[test]
 fn two_control_files_are_fit_or_refused(rt: HostRuntime) -> Result<(), Fail> {
     let alloc = rt.alloc();
-    let table = [
-        (PLAIN, PLAIN, "nothing on one timeline"),
-        (
-            edited(&[(176, 1, 0), (252, 4, 1)], 0x8C35_2B16),
-            PLAIN,
-            "nothing on one timeline",
-        ),
-        (
-            PLAIN,
-            edited(&[(176, 1, 0)], 0xBFF9_90AA),
-            "nothing on one timeline",
-        ),
-        (
-            edited(&[(100, 1, 1)], 0x9520_8C9A),
-            PLAIN,
-            "the control file of t has the checksum 95208C9A and not A4E9CA92",
-        ),
-        (
-            PLAIN,
-            edited(&[(8, 4, 1500)], 0x69EF_A390),
-            "the control file of s has version 1500",
-        ),
-        (
-            edited(&[(12, 4, 202209061)], 0xE854_E139),
-            PLAIN,
-            "the control file of t has catalog version 202209061",
-        ),
-        (
-            edited(&[(16, 4, 7)], 0xB5F1_BF1C),
-            PLAIN,
-            "the control file of t has 7 as State",
-        ),
-        (
-            PLAIN,
-            edited(&[(220, 4, 65536), (228, 4, 2097152)], 0xA478_CF64),
-            "the control file of s has 65536 as Relseg",
-        ),
-        (
-            PLAIN,
-            edited(
-                &[(228, 4, 2097152), (0, 8, 7300000000000000002)],
-                0xAFCD_B611,
-            ),
-            "the control file of s has 2097152 as WalSegSize",
-        ),
-        (
-            PLAIN,
-            edited(&[(0, 8, 7300000000000000002), (16, 4, 4)], 0x056B_5839),
-            "the target is of system 7300000000000000001 and the source of system 7300000000000000002",
-        ),
-        (
-            edited(&[(176, 1, 0), (16, 4, 4)], 0x8F40_3AEF),
-            PLAIN,
-            "t did not log hints",
-        ),
-        (
-            edited(&[(16, 4, 4)], 0xA599_26DF),
-            edited(&[(16, 4, 6)], 0x468D_E5F2),
-            "t was not shut down cleanly: its state is 4",
-        ),
-        (
-            PLAIN,
-            edited(&[(16, 4, 2)], 0x8548_1559),
-            "s was not shut down cleanly: its state is 2",
-        ),
-        (
-            PLAIN,
-            edited(&[(48, 4, 2)], 0x90A4_0D21),
-            "s has no history of timeline 2",
-        ),
-        (
-            edited(&[(144, 4, 2)], 0x6801_8C0A),
-            edited(&[(48, 4, 2)], 0x90A4_0D21),
-            "nothing on one timeline",
-        ),
-    ];
-    for (target, source, expected) in table {
-        let mut tree = two_clusters(alloc, target, source, &rt);
+    for line in CONTROLS.split('\n') {
+        let (row, expected) = line.split_once(" = ").ok_or("no answer")?;
+        let (target, source) = row.split_once(" | ").ok_or("no source")?;
+        let (target, source) = (control_of(alloc, target)?, control_of(alloc, source)?);
+        let mut tree = clusters_of(alloc, &target, &source, &rt);
         check(alloc, &mut tree, expected, &rt)?;
     }
     Ok(())
@@ -236,9 +194,12 @@ const HISTORIES: [(&[u8], &str); 4] = [
 #[test]
 fn a_history_of_the_source_decides(rt: HostRuntime) -> Result<(), Fail> {
     let alloc = rt.alloc();
-    let source = edited(&[(48, 4, 2)], 0x90A4_0D21);
+    let source = Given {
+        edits: &[(48, 4, 2)],
+        crc: 0x90A4_0D21,
+    };
     for (history, expected) in HISTORIES {
-        let mut tree = two_clusters(alloc, PLAIN, source, &rt);
+        let mut tree = two_clusters(alloc, source, &rt);
         make_folder(alloc, &mut tree, "s/pg_wal", &rt);
         make_file(alloc, &mut tree, "s/pg_wal/00000002.history", history, &rt);
         check(alloc, &mut tree, expected, &rt)?;
@@ -249,7 +210,7 @@ fn a_history_of_the_source_decides(rt: HostRuntime) -> Result<(), Fail> {
 #[test]
 fn a_mark_of_any_kind_is_refused(rt: HostRuntime) -> Result<(), Fail> {
     let alloc = rt.alloc();
-    let mut tree = two_clusters(alloc, PLAIN, PLAIN, &rt);
+    let mut tree = two_clusters(alloc, PLAIN, &rt);
     make_folder(alloc, &mut tree, "s/pg_rewind.unfinished", &rt);
     let expected = "an unfinished run left s/pg_rewind.unfinished";
     check(alloc, &mut tree, expected, &rt)?;
@@ -283,12 +244,12 @@ fn a_read_that_fails_is_told(rt: HostRuntime) -> Result<(), Fail> {
     let alloc = rt.alloc();
     // six marks, and a size and a read for each control file
     for n in 1..11 {
-        let tree = two_clusters(alloc, PLAIN, PLAIN, &rt);
+        let tree = two_clusters(alloc, PLAIN, &rt);
         let mut failing = FailingTree::new(tree, FailPlan::At(n));
         let text = said(alloc, &mut failing, &rt)?;
         assert_eq!(rt; text.as_str(), "a read failed", "call {n}");
     }
-    let tree = two_clusters(alloc, PLAIN, PLAIN, &rt);
+    let tree = two_clusters(alloc, PLAIN, &rt);
     let mut failing = FailingTree::new(tree, FailPlan::At(11));
     let text = said(alloc, &mut failing, &rt)?;
     assert_eq!(rt; text.as_str(), "nothing on one timeline");
