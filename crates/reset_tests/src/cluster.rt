@@ -1,7 +1,9 @@
 // A cluster in memory, whose log is reset.
+use crate::options::{cut_at, long};
 use cluster_tree::{MemoryTree, Path, Tree};
 use std::alloc::Global;
 use std::process::Abort;
+use std::test::Fail;
 use wal_base::Crc32c;
 
 // The fields of a cluster that was shut down on timeline 1, as (offset, width, value).
@@ -126,50 +128,59 @@ pub(crate) fn cluster(
     tree
 }
 
-/// What stands in a cluster beside its control file.
-#[derive(Clone, Copy)]
-pub(crate) enum Had<'a> {
-    Folder(&'a str),
-    /// Of one byte.
-    File(&'a str),
-    Link(&'a str),
-    /// A folder that holds a name that isn't UTF-8.
-    BadName(&'a str),
-}
-
-fn put_had(alloc: Global, tree: &mut MemoryTree, had: Had<'_>, rt: &impl Abort) {
-    match had {
-        Had::Folder(text) => make_folder(alloc, tree, text, rt),
-        Had::File(text) => make_file(alloc, tree, text, b"x", rt),
-        Had::Link(text) => {
-            let added = tree.add_link(&path(alloc, text, rt));
-            assert_eq!(rt; added, Ok(()), "{text}");
-        }
-        Had::BadName(text) => {
+// Puts an entry: a folder, a file of one byte, a link, or a folder that holds a name that isn't UTF-8.
+fn put_entry(
+    alloc: Global,
+    tree: &mut MemoryTree,
+    entry: &str,
+    rt: &impl Abort,
+) -> Result<(), Fail> {
+    let (kind, text) = cut_at(entry, " ");
+    match kind {
+        "folder" => make_folder(alloc, tree, text, rt),
+        "file" => make_file(alloc, tree, text, b"x", rt),
+        "link" => tree.add_link(&path(alloc, text, rt))?,
+        _ => {
             make_folder(alloc, tree, text, rt);
-            let added = tree.add_bad_name(&path(alloc, text, rt));
-            assert_eq!(rt; added, Ok(()), "{text}");
+            tree.add_bad_name(&path(alloc, text, rt))?;
         }
     }
+    Ok(())
 }
 
-/// A cluster `t` with these fields of its control file, where it has one, and these beside it.
+// Fields as text, each its offset, its width and its value; none where it is `plain`.
+fn fields_of(alloc: Global, text: &str) -> Result<Vec<(usize, usize, u64)>, Fail> {
+    let mut fields = Vec::new(alloc);
+    if text == "plain" {
+        return Ok(fields);
+    }
+    for field in text.split(", ") {
+        let (at, behind) = cut_at(field, " ");
+        let (width, value) = cut_at(behind, " ");
+        fields.push((long(at)? as usize, long(width)? as usize, long(value)?))?;
+    }
+    Ok(fields)
+}
+
+/// A cluster `t` with these fields of its control file, unless it has `none`, and these entries beside it.
 pub(crate) fn cluster_of(
     alloc: Global,
-    control: Option<&[(usize, usize, u64)]>,
-    had: &[Had<'_>],
+    control: &str,
+    entries: &str,
     rt: &impl Abort,
-) -> MemoryTree {
+) -> Result<MemoryTree, Fail> {
     let mut tree = MemoryTree::new(alloc);
     for folder in ["t", "t/global"] {
         make_folder(alloc, &mut tree, folder, rt);
     }
-    if let Some(edits) = control {
-        let bytes = control_bytes(edits);
+    if control != "none" {
+        let bytes = control_bytes(&fields_of(alloc, control)?);
         make_file(alloc, &mut tree, "t/global/pg_control", &bytes, rt);
     }
-    for one in had {
-        put_had(alloc, &mut tree, *one, rt);
+    for entry in entries.split(", ") {
+        if !entry.is_empty() {
+            put_entry(alloc, &mut tree, entry, rt)?;
+        }
     }
-    tree
+    Ok(tree)
 }

@@ -1,7 +1,8 @@
 // A device that fails at each call in turn: the answer is of that call's kind, and what stands is what the
 // calls before it left, under the mark from the first of them on until the last but one.
 use crate::cluster::{cluster, path, sum_of};
-use crate::resets::{PLAIN, bytes_of};
+use crate::options::PLAIN;
+use crate::resets::bytes_of;
 use crate::told::said;
 use cluster_tree::{ChangeCall, FailPlan, FailingTree, Kind, MemoryTree, Tree};
 use std::alloc::Global;

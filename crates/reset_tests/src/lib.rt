@@ -8,6 +8,8 @@ mod faults;
 #[cfg(test)]
 mod numbers;
 #[cfg(test)]
+mod options;
+#[cfg(test)]
 mod refusals;
 #[cfg(test)]
 mod resets;

@@ -2,63 +2,15 @@
 // from a script of its own that follows the formats (the checksum of the first 288 bytes of the control
 // file).
 use crate::cluster::{cluster, path, sum_of};
+use crate::options::{PLAIN, cut_at, options_of};
 use cluster_tree::Tree;
 use clusters::control_at;
 use control_file::write_control;
 use reset_numbers::{ResetOptions, is_fit, is_segment, is_status, new_control, new_segment};
 use std::alloc::Global;
 use std::process::Abort;
-
-const PLAIN: ResetOptions = ResetOptions {
-    commit_ts: None,
-    epoch: None,
-    force: None,
-    log: None,
-    multi: None,
-    dry: None,
-    oid: None,
-    multi_offset: None,
-    oldest_xid: None,
-    xid: None,
-    segment_mb: None,
-};
-
-// One option, or two that go together.
-#[derive(Clone, Copy)]
-enum Given {
-    Nothing,
-    Megabytes(u32),
-    Log(u32, u64, u64),
-    Ends(u32, u32),
-    Epoch(u32),
-    Xid(u32),
-    Next(u32, u32),
-    OldestXid(u32),
-    Multi(u32, u32),
-    Oid(u32),
-    Offset(u32),
-}
-
-fn options(given: Given) -> ResetOptions {
-    let mut options = PLAIN;
-    match given {
-        Given::Nothing => (),
-        Given::Megabytes(mb) => options.segment_mb = Some(mb),
-        Given::Log(tli, high, low) => options.log = Some((tli, high, low)),
-        Given::Ends(oldest, newest) => options.commit_ts = Some((oldest, newest)),
-        Given::Epoch(epoch) => options.epoch = Some(epoch),
-        Given::Xid(xid) => options.xid = Some(xid),
-        Given::Next(epoch, xid) => {
-            options.epoch = Some(epoch);
-            options.xid = Some(xid);
-        }
-        Given::OldestXid(xid) => options.oldest_xid = Some(xid),
-        Given::Multi(next, oldest) => options.multi = Some((next, oldest)),
-        Given::Oid(oid) => options.oid = Some(oid),
-        Given::Offset(offset) => options.multi_offset = Some(offset),
-    }
-    options
-}
+use std::test::Fail;
+use wal_base::Lsn;
 
 const NAMES: [&str; 3] = [
     "t/pg_wal/000000010000000000000001",
@@ -93,89 +45,110 @@ fn said(
     Some((segment.tli, segment.number, at, sum_of(&bytes, 288)))
 }
 
-#[test]
-fn each_option_changes_what_it_names(rt: HostRuntime) {
-    let alloc = rt.alloc();
-    let table = [
-        (Given::Nothing, (1, 4, 0x40_0028, 0xB40D_4A1B)),
-        (Given::Megabytes(16), (1, 1, 0x100_0028, 0x2040_9FD8)),
-        (Given::Log(2, 0, 16), (2, 16, 0x100_0028, 0x2771_EE8B)),
-        (Given::Log(1, 0, 2), (1, 4, 0x40_0028, 0xB40D_4A1B)),
-        (Given::Ends(0, 20), (1, 4, 0x40_0028, 0xEEE6_DAC9)),
-        (Given::Ends(21, 0), (1, 4, 0x40_0028, 0x27DC_D0A5)),
-        (Given::Epoch(7), (1, 4, 0x40_0028, 0xEB85_D42E)),
-        (Given::Xid(1000), (1, 4, 0x40_0028, 0x58F4_FD99)),
-        (Given::Next(8, 2000), (1, 4, 0x40_0028, 0x9CE3_A02F)),
-        (Given::OldestXid(600), (1, 4, 0x40_0028, 0x9A23_98D3)),
-        (Given::Multi(50, 40), (1, 4, 0x40_0028, 0xFD7A_19D0)),
-        (Given::Oid(20000), (1, 4, 0x40_0028, 0xB1E5_1A13)),
-        (Given::Offset(123), (1, 4, 0x40_0028, 0x12E7_BF67)),
-    ];
-    for (given, wanted) in table {
-        let found = said(alloc, &[], &NAMES, &options(given), &rt);
-        assert_eq!(rt; found, Some(wanted));
+// What is said with some options of a cluster with the names: the new segment's timeline and number, its
+// checkpoint's place, and the checksum of the new control file.
+const TABLE: &str = "\
+- = 1 4 0/400028 B40D4A1B
+s 16 = 1 1 0/1000028 20409FD8
+l 2 0 16 = 2 16 0/1000028 2771EE8B
+l 1 0 2 = 1 4 0/400028 B40D4A1B
+c 0 20 = 1 4 0/400028 EEE6DAC9
+c 21 0 = 1 4 0/400028 27DCD0A5
+e 7 = 1 4 0/400028 EB85D42E
+x 1000 = 1 4 0/400028 58F4FD99
+e 8, x 2000 = 1 4 0/400028 9CE3A02F
+u 600 = 1 4 0/400028 9A2398D3
+m 50 40 = 1 4 0/400028 FD7A19D0
+o 20000 = 1 4 0/400028 B1E51A13
+O 123 = 1 4 0/400028 12E7BF67";
+
+// A segment that is given lies below the limit.
+const LIMITS: &str = "\
+l 2 2147483647 4095 = 2 8796093022207 7FFFFFFF/FFF00028 C8FDECBF
+l 2 0 4096 = none
+l 2 2147483648 0 = none";
+
+fn said_text(alloc: Global, options: &str, rt: &impl Abort) -> Result<String, Fail> {
+    let options = options_of(options)?;
+    match said(alloc, &[], &NAMES, &options, rt) {
+        Some((tli, number, at, sum)) => Ok(format!(in alloc;
+            "{tli} {number} {} {sum:08X}",
+            Lsn(at)
+        )?),
+        None => Ok(String::from_str(alloc, "none")?),
     }
 }
 
-#[test]
-fn a_segment_that_is_given_lies_below_the_limit(rt: HostRuntime) {
-    let alloc = rt.alloc();
-    let last = options(Given::Log(2, 0x7FFF_FFFF, 0xFFF));
-    let found = said(alloc, &[], &NAMES, &last, &rt);
-    let wanted = (2, 0x7FF_FFFF_FFFF, 0x7FFF_FFFF_FFF0_0028, 0xC8FD_ECBF);
-    assert_eq!(rt; found, Some(wanted));
-    for given in [Given::Log(2, 0, 0x1000), Given::Log(2, 0x8000_0000, 0)] {
-        assert_eq!(rt; said(alloc, &[], &NAMES, &options(given), &rt), None);
+fn check<R: AllocGlobal + Abort>(rt: &R, text: &str) -> Result<(), Fail> {
+    for line in text.split('\n') {
+        let (options, wanted) = cut_at(line, " = ");
+        let found = said_text(rt.alloc(), options, rt)?;
+        assert_eq!(rt; found.as_str(), wanted, "{line}");
     }
+    Ok(())
 }
 
 #[test]
-fn the_new_segment_is_behind_all_others(rt: HostRuntime) {
+fn each_option_changes_what_it_names(rt: HostRuntime) -> Result<(), Fail> {
+    check(&rt, TABLE)
+}
+
+#[test]
+fn a_segment_that_is_given_lies_below_the_limit(rt: HostRuntime) -> Result<(), Fail> {
+    check(&rt, LIMITS)
+}
+
+#[test]
+fn the_new_segment_is_behind_all_others(rt: HostRuntime) -> Result<(), Fail> {
     let alloc = rt.alloc();
     let large = [(228, 4, 0x400_0000), (40, 8, 0x400_0028)];
-    let small = options(Given::Megabytes(1));
+    let small = options_of("s 1")?;
     let files = ["t/pg_wal/000000010000000000000002", "t/pg_wal/x"];
     let found = said(alloc, &large, &files, &small, &rt);
     assert_eq!(rt; found, Some((1, 0xC0, 0xC00_0028, 0xED9C_7A2F)));
     let found = said(alloc, &[(40, 8, 0x90_0028)], &NAMES, &PLAIN, &rt);
     assert_eq!(rt; found, Some((1, 10, 0xA0_0028, 0x56FA_596F)));
+    Ok(())
+}
+
+const FAULTY: &str = "\
+c 1 2
+c 2 1
+x 2
+u 0
+m 0 1
+m 1 0
+o 0
+O 4294967295
+l 1 4294967296 0
+l 1 0 4294967296
+s 0
+s 3
+s 2048
+s 4097";
+
+const FITTING: &str = "\
+c 0 2
+x 3
+u 3
+m 1 1
+o 1
+O 4294967294
+l 0 4294967295 4294967295
+s 1
+s 1024";
+
+fn check_fit(rt: &impl Abort, text: &str, fits: bool) -> Result<(), Fail> {
+    for line in text.split('\n') {
+        assert_eq!(rt; is_fit(&options_of(line)?), fits, "{line}");
+    }
+    Ok(())
 }
 
 #[test]
-fn options_fit_unless_they_are_faulty_words(rt: HostRuntime) {
-    let faulty = [
-        Given::Ends(1, 2),
-        Given::Ends(2, 1),
-        Given::Xid(2),
-        Given::OldestXid(0),
-        Given::Multi(0, 1),
-        Given::Multi(1, 0),
-        Given::Oid(0),
-        Given::Offset(0xFFFF_FFFF),
-        Given::Log(1, 0x1_0000_0000, 0),
-        Given::Log(1, 0, 0x1_0000_0000),
-        Given::Megabytes(0),
-        Given::Megabytes(3),
-        Given::Megabytes(2048),
-        Given::Megabytes(4097),
-    ];
-    for given in faulty {
-        assert!(rt; !is_fit(&options(given)));
-    }
-    let fitting = [
-        Given::Ends(0, 2),
-        Given::Xid(3),
-        Given::OldestXid(3),
-        Given::Multi(1, 1),
-        Given::Oid(1),
-        Given::Offset(0xFFFF_FFFE),
-        Given::Log(0, 0xFFFF_FFFF, 0xFFFF_FFFF),
-        Given::Megabytes(1),
-        Given::Megabytes(1024),
-    ];
-    for given in fitting {
-        assert!(rt; is_fit(&options(given)));
-    }
+fn options_fit_unless_they_are_faulty_words(rt: HostRuntime) -> Result<(), Fail> {
+    check_fit(&rt, FAULTY, false)?;
+    check_fit(&rt, FITTING, true)
 }
 
 #[test]

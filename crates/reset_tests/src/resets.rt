@@ -1,38 +1,12 @@
 // Whole resets of clusters in memory, each option once. Names, places and checksums come from a script
 // of its own that follows the formats.
 use crate::cluster::{cluster, path, sum_of};
+use crate::options::{cut_at, options_of};
 use crate::told::{names_text, said};
 use cluster_tree::{MemoryTree, Path, Tree};
-use reset_cleanup::ResetOptions;
 use std::alloc::Global;
 use std::process::Abort;
 use std::test::Fail;
-
-/// No option.
-pub(crate) const PLAIN: ResetOptions = ResetOptions {
-    commit_ts: None,
-    epoch: None,
-    force: None,
-    log: None,
-    multi: None,
-    dry: None,
-    oid: None,
-    multi_offset: None,
-    oldest_xid: None,
-    xid: None,
-    segment_mb: None,
-};
-
-// A reset, and what it leaves.
-struct Row<'a> {
-    options: ResetOptions,
-    // The name of the new segment.
-    name: &'a str,
-    // The place of its checkpoint.
-    at: &'a str,
-    // The checksums of the control file's first 288 bytes, and of the segment's first page.
-    sums: (u32, u32),
-}
 
 // The log of the rows' cluster, whose redo is in segment 1.
 const FILES: [&str; 6] = [
@@ -44,137 +18,26 @@ const FILES: [&str; 6] = [
     "t/pg_wal/archive_status/00000001.history.done",
 ];
 
-// Where the log begins.
-const SEGMENTS: [Row<'static>; 5] = [
-    Row {
-        options: PLAIN,
-        name: "000000010000000000000004",
-        at: "0/400028",
-        sums: (0xB40D_4A1B, 0x17BC_3CE9),
-    },
-    Row {
-        options: ResetOptions {
-            segment_mb: Some(16),
-            ..PLAIN
-        },
-        name: "000000010000000000000001",
-        at: "0/1000028",
-        sums: (0x2040_9FD8, 0xADB3_571A),
-    },
-    Row {
-        options: ResetOptions {
-            log: Some((2, 0, 16)),
-            ..PLAIN
-        },
-        name: "000000020000000000000010",
-        at: "0/1000028",
-        sums: (0x2771_EE8B, 0xC285_6849),
-    },
-    Row {
-        options: ResetOptions {
-            log: Some((1, 0, 2)),
-            ..PLAIN
-        },
-        name: "000000010000000000000004",
-        at: "0/400028",
-        sums: (0xB40D_4A1B, 0x17BC_3CE9),
-    },
-    Row {
-        options: ResetOptions {
-            log: Some((2, 0x7FFF_FFFF, 0xFFF)),
-            ..PLAIN
-        },
-        name: "000000027FFFFFFF00000FFF",
-        at: "7FFFFFFF/FFF00028",
-        sums: (0xC8FD_ECBF, 0x2D27_5E20),
-    },
-];
+// Each row has the options; the name of the new segment, the place of its checkpoint, and the checksums of the
+// control file's first 288 bytes and of the segment's first page. Where the log begins:
+const SEGMENTS: &str = "\
+- = 000000010000000000000004 0/400028 B40D4A1B 17BC3CE9
+s 16 = 000000010000000000000001 0/1000028 20409FD8 ADB3571A
+l 2 0 16 = 000000020000000000000010 0/1000028 2771EE8B C2856849
+l 1 0 2 = 000000010000000000000004 0/400028 B40D4A1B 17BC3CE9
+l 2 2147483647 4095 = 000000027FFFFFFF00000FFF 7FFFFFFF/FFF00028 C8FDECBF 2D275E20";
 
-// What the control file says.
-const OPTIONS: [Row<'static>; 9] = [
-    Row {
-        options: ResetOptions {
-            commit_ts: Some((0, 20)),
-            ..PLAIN
-        },
-        name: "000000010000000000000004",
-        at: "0/400028",
-        sums: (0xEEE6_DAC9, 0x5F31_2ED3),
-    },
-    Row {
-        options: ResetOptions {
-            commit_ts: Some((21, 0)),
-            ..PLAIN
-        },
-        name: "000000010000000000000004",
-        at: "0/400028",
-        sums: (0x27DC_D0A5, 0x42FF_C611),
-    },
-    Row {
-        options: ResetOptions {
-            epoch: Some(7),
-            ..PLAIN
-        },
-        name: "000000010000000000000004",
-        at: "0/400028",
-        sums: (0xEB85_D42E, 0x4DBF_E981),
-    },
-    Row {
-        options: ResetOptions {
-            xid: Some(1000),
-            ..PLAIN
-        },
-        name: "000000010000000000000004",
-        at: "0/400028",
-        sums: (0x58F4_FD99, 0xC57E_5B32),
-    },
-    Row {
-        options: ResetOptions {
-            epoch: Some(8),
-            xid: Some(2000),
-            ..PLAIN
-        },
-        name: "000000010000000000000004",
-        at: "0/400028",
-        sums: (0x9CE3_A02F, 0xFF8B_1BDB),
-    },
-    Row {
-        options: ResetOptions {
-            oldest_xid: Some(600),
-            ..PLAIN
-        },
-        name: "000000010000000000000004",
-        at: "0/400028",
-        sums: (0x9A23_98D3, 0xC087_DD03),
-    },
-    Row {
-        options: ResetOptions {
-            multi: Some((50, 40)),
-            ..PLAIN
-        },
-        name: "000000010000000000000004",
-        at: "0/400028",
-        sums: (0xFD7A_19D0, 0xF8EB_C8C9),
-    },
-    Row {
-        options: ResetOptions {
-            oid: Some(20000),
-            ..PLAIN
-        },
-        name: "000000010000000000000004",
-        at: "0/400028",
-        sums: (0xB1E5_1A13, 0x5A3D_D650),
-    },
-    Row {
-        options: ResetOptions {
-            multi_offset: Some(123),
-            ..PLAIN
-        },
-        name: "000000010000000000000004",
-        at: "0/400028",
-        sums: (0x12E7_BF67, 0x506D_918B),
-    },
-];
+// What the control file says:
+const OPTIONS: &str = "\
+c 0 20 = 000000010000000000000004 0/400028 EEE6DAC9 5F312ED3
+c 21 0 = 000000010000000000000004 0/400028 27DCD0A5 42FFC611
+e 7 = 000000010000000000000004 0/400028 EB85D42E 4DBFE981
+x 1000 = 000000010000000000000004 0/400028 58F4FD99 C57E5B32
+e 8, x 2000 = 000000010000000000000004 0/400028 9CE3A02F FF8B1BDB
+u 600 = 000000010000000000000004 0/400028 9A2398D3 C087DD03
+m 50 40 = 000000010000000000000004 0/400028 FD7A19D0 F8EBC8C9
+o 20000 = 000000010000000000000004 0/400028 B1E51A13 5A3DD650
+O 123 = 000000010000000000000004 0/400028 12E7BF67 506D918B";
 
 // The bytes of a file from an offset on, so many, and none where it has none.
 fn part_of(
@@ -207,71 +70,81 @@ pub(crate) fn bytes_of(
 fn is_sealed(
     alloc: Global,
     tree: &mut MemoryTree,
-    sum: u32,
+    wanted: &str,
     rt: &impl Abort,
 ) -> Result<bool, Fail> {
     let bytes = bytes_of(alloc, tree, "t/global/pg_control", rt)?;
+    let sum = sum_of(&bytes, 288);
     let said = bytes.get(288..292) == Some(&sum.to_le_bytes()[..]);
     let zeros = bytes.iter().skip(292).all(|byte| *byte == 0);
-    Ok(bytes.len() == 8192 && sum_of(&bytes, 288) == sum && said && zeros)
+    let shown = format!(in alloc; "{sum:08X}")?;
+    Ok(bytes.len() == 8192 && shown.as_str() == wanted && said && zeros)
 }
 
 // Whether the new segment has so many megabytes, a first page of this checksum, and zeros at its end.
 fn is_new(
     alloc: Global,
     tree: &mut MemoryTree,
-    row: &Row<'_>,
+    name: &str,
+    megabytes: u32,
+    wanted: &str,
     rt: &impl Abort,
 ) -> Result<bool, Fail> {
-    let text = format!(in alloc; "t/pg_wal/{}", row.name)?;
+    let text = format!(in alloc; "t/pg_wal/{name}")?;
     let file = path(alloc, text.as_str(), rt);
-    let size = u64::from(row.options.segment_mb.unwrap_or(1)).saturating_mul(1048576);
+    let size = u64::from(megabytes).saturating_mul(1048576);
     let page = part_of(alloc, tree, &file, 0, 8192)?;
     let last = part_of(alloc, tree, &file, size.saturating_sub(8192), 8192)?;
     let zeros = last.iter().all(|byte| *byte == 0);
-    Ok(
-        tree.size(&file) == Ok(size)
-            && sum_of(&page, 8192) == row.sums.1
-            && last.len() == 8192
-            && zeros,
-    )
+    let shown = format!(in alloc; "{:08X}", sum_of(&page, 8192))?;
+    let whole = tree.size(&file) == Ok(size) && last.len() == 8192 && zeros;
+    Ok(whole && shown.as_str() == wanted)
+}
+
+// The names in the folders of a cluster.
+fn all_names(alloc: Global, tree: &mut MemoryTree, rt: &impl Abort) -> Result<String, Fail> {
+    let mut text = String::new(alloc);
+    for folder in ["t", "t/global", "t/pg_wal", "t/pg_wal/archive_status"] {
+        let names = names_text(alloc, tree, folder, rt)?;
+        write!(text, "{}; ", names.as_str())?;
+    }
+    Ok(text)
 }
 
 // Whether a reset goes so.
-fn goes(alloc: Global, row: &Row<'_>, rt: &impl Abort) -> Result<bool, Fail> {
+fn goes(alloc: Global, row: &str, meant: &str, rt: &impl Abort) -> Result<bool, Fail> {
+    let options = options_of(row)?;
+    let (name, behind) = cut_at(meant, " ");
+    let (at, behind) = cut_at(behind, " ");
+    let (sealed, page) = cut_at(behind, " ");
     let mut tree = cluster(alloc, &[], &FILES, rt);
-    let told = said(alloc, &mut tree, &row.options, rt)?;
-    let wal = format!(in alloc; "00000001.history {} archive_status", row.name)?;
+    let told = said(alloc, &mut tree, &options, rt)?;
+    let names = format!(in alloc;
+        "global pg_wal; pg_control; 00000001.history {name} archive_status; 00000001.history.done; "
+    )?;
+    let megabytes = options.segment_mb.unwrap_or(1);
     Ok(
-        told.as_str() == row.at
-            && is_sealed(alloc, &mut tree, row.sums.0, rt)?
-            && is_new(alloc, &mut tree, row, rt)?
-            && names_text(alloc, &mut tree, "t", rt)?.as_str() == "global pg_wal"
-            && names_text(alloc, &mut tree, "t/global", rt)?.as_str() == "pg_control"
-            && names_text(alloc, &mut tree, "t/pg_wal", rt)? == wal
-            && names_text(alloc, &mut tree, "t/pg_wal/archive_status", rt)?.as_str()
-                == "00000001.history.done",
+        told.as_str() == at
+            && is_sealed(alloc, &mut tree, sealed, rt)?
+            && is_new(alloc, &mut tree, name, megabytes, page, rt)?
+            && all_names(alloc, &mut tree, rt)? == names,
     )
 }
 
-// The number of the first of these that goes otherwise, from 0 on.
-fn first_odd(alloc: Global, rows: &[Row<'_>], rt: &impl Abort) -> Result<Option<usize>, Fail> {
-    for (number, row) in rows.iter().enumerate() {
-        if !goes(alloc, row, rt)? {
-            return Ok(Some(number));
-        }
+fn check<R: AllocGlobal + Abort>(rt: &R, text: &str) -> Result<(), Fail> {
+    for line in text.split('\n') {
+        let (row, meant) = cut_at(line, " = ");
+        assert!(rt; goes(rt.alloc(), row, meant, rt)?, "{line}");
     }
-    Ok(None)
+    Ok(())
 }
 
 #[test]
 fn the_log_begins_where_it_should(rt: HostRuntime) -> Result<(), Fail> {
-    assert_eq!(rt; first_odd(rt.alloc(), &SEGMENTS, &rt)?, None);
-    Ok(())
+    check(&rt, SEGMENTS)
 }
 
 #[test]
 fn each_option_changes_what_it_names(rt: HostRuntime) -> Result<(), Fail> {
-    assert_eq!(rt; first_odd(rt.alloc(), &OPTIONS, &rt)?, None);
-    Ok(())
+    check(&rt, OPTIONS)
 }
