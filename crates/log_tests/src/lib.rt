@@ -16,4 +16,6 @@ mod record_rows;
 #[cfg(test)]
 mod records;
 #[cfg(test)]
+mod texts;
+#[cfg(test)]
 mod written;

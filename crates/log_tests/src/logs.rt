@@ -1,6 +1,7 @@
 // The logs that are read, put together field by field.
 ghost use Rattle.std.specs.Prelude.{◌≤◌, length, IfOk};
 
+use crate::texts::{bytes_of, cut_at, half, number, position};
 use cluster_tree::{MemoryTree, Path, Tree};
 use std::alloc::Global;
 use std::test::Fail;
@@ -23,22 +24,6 @@ const SECOND_NAME: &str = "log/000000010000000000000002";
 const LAST_NAME: &str = "log/00000001FFFFFFFF00000FFF";
 
 pub const LAST_PAGE: u64 = u64::MAX - 8191;
-
-/// What stands in a tree with a log.
-#[derive(Clone, Copy)]
-pub enum Cell<'a> {
-    /// The file of the segment at a position: so many bytes of zeros.
-    File(u64, u32),
-    Folder(&'a str),
-    Link(&'a str),
-    /// The header of a page: where it begins, its flags, and how many bytes are to come.
-    Page(u64, u16, u32),
-    /// A record of a length, with a link back, whose body is of bytes 5A. What doesn't fit on its
-    /// page stands behind the short header of the next one.
-    Record(u64, u32, u64),
-    /// Bytes.
-    Bytes(u64, &'a [u8]),
-}
 
 /// The name of the file of the segment at a position.
 fn name_at(at: u64) -> &'static str {
@@ -65,35 +50,62 @@ pub fn page(at: u64, info: u16, remaining: u32) -> [u8; 40] {
     header
 }
 
-/// A tree with the folder `log`, and in it what stands there.
-pub fn tree_of(alloc: Global, cells: &[Cell]) -> Result<MemoryTree, Fail> {
+/// A tree with the folder `log`, and in it what stands there, or nothing.
+pub fn tree_of(alloc: Global, cells: &str) -> Result<MemoryTree, Fail> {
     let mut tree = MemoryTree::new(alloc);
     tree.make_folder(&Path::parse(alloc, "log")?)?;
-    for cell in cells {
-        put(alloc, &mut tree, *cell)?;
+    for cell in cells.split(", ") {
+        if !cell.is_empty() {
+            put(alloc, &mut tree, cell)?;
+        }
     }
     Ok(tree)
 }
 
-/// Puts something into a tree.
-fn put(alloc: Global, tree: &mut MemoryTree, cell: Cell) -> Result<(), Fail> {
-    match cell {
-        Cell::File(at, size) => add_file(alloc, tree, name_at(at), size),
-        Cell::Folder(name) => Ok(tree.make_folder(&Path::parse(alloc, name)?)?),
-        Cell::Link(name) => Ok(tree.add_link(&Path::parse(alloc, name)?)?),
-        Cell::Page(at, info, remaining) => {
-            let header = page(at, info, remaining);
-            let size = if at % FIRST == 0 { 40 } else { 24 };
-            write(alloc, tree, at, &header[..size])
-        }
-        Cell::Record(at, total, prev) => put_record(
-            alloc,
-            tree,
-            at,
-            &record_of(alloc, total, prev)?,
-        ),
-        Cell::Bytes(at, bytes) => write(alloc, tree, at, bytes),
+/// Puts something into a tree: `folder PATH`, `link PATH`, or what lies at a position of the log.
+fn put(alloc: Global, tree: &mut MemoryTree, cell: &str) -> Result<(), Fail> {
+    let (kind, behind) = cut_at(cell, " ");
+    let (at, words) = cut_at(behind, " ");
+    match kind {
+        "folder" => Ok(tree.make_folder(&Path::parse(alloc, at)?)?),
+        "link" => Ok(tree.add_link(&Path::parse(alloc, at)?)?),
+        _ => put_at(alloc, tree, kind, position(at)?, words),
     }
+}
+
+/// Puts at a position: `file SIZE`, the segment's file of so many zeros; `page FLAGS REMAINING`, the header of a
+/// page with how many bytes are to come; `record TOTAL LINK`, of a length, with a link back, whose body is of
+/// bytes 5A, and of which what doesn't fit on its page stands behind the short header of the next one; or bytes.
+fn put_at(
+    alloc: Global,
+    tree: &mut MemoryTree,
+    kind: &str,
+    at: u64,
+    words: &str,
+) -> Result<(), Fail> {
+    let (first, second) = cut_at(words, " ");
+    match kind {
+        "file" => add_file(alloc, tree, name_at(at), number(first)?),
+        "page" => put_page(alloc, tree, at, half(first)?, number(second)?),
+        "record" => {
+            let record = record_of(alloc, number(first)?, position(second)?)?;
+            put_record(alloc, tree, at, &record)
+        }
+        _ => write(alloc, tree, at, &bytes_of(alloc, words)?),
+    }
+}
+
+/// Writes the header of a page, which is long at a segment's start.
+fn put_page(
+    alloc: Global,
+    tree: &mut MemoryTree,
+    at: u64,
+    info: u16,
+    remaining: u32,
+) -> Result<(), Fail> {
+    let header = page(at, info, remaining);
+    let size = if at % FIRST == 0 { 40 } else { 24 };
+    write(alloc, tree, at, &header[..size])
 }
 
 /// Adds a file of so many bytes of zeros.

@@ -1,107 +1,87 @@
-// Pages of a log, as a table of acts on a cursor over them.
-use crate::logs::{Cell, FIRST, add_file, page, path_of, tree_of, write};
-use crate::page_rows::{ANY_POSITION, BAD, CASES};
-use cluster_tree::{FailPlan, FailingTree, MemoryTree, Path, Tree};
+// Pages of a log, as texts of acts on a cursor over them.
+use crate::logs::{FIRST, SYSTEM, add_file, page, path_of, tree_of, write};
+use crate::page_rows::{BAD, CASES, TWO_PAGES};
+use crate::texts::{bytes_of, cut_at, plan_of, position};
+use cluster_tree::{FailingTree, MemoryTree, Path, Tree};
 use std::alloc::Global;
 use std::test::Fail;
 use wal_base::{Lsn, Spans};
 use wal_pages::{PageCursor, PageFault, PageField, PageHeader};
 
-/// What a page has to be: its flags, its timeline, where it begins, and how many bytes are to come;
-/// or why there is none.
-#[derive(Clone, Copy)]
-pub enum Want {
-    Page(u16, u32, u64, u32),
-    Missing(u64),
-    Short(u64),
-    Bad(u64, PageField),
-    Failed,
+/// What an answer says: `page FLAGS TIMELINE AT REMAINING`, or why there is none.
+fn told(alloc: Global, answer: &Result<PageHeader, PageFault>) -> Result<String, Fail> {
+    Ok(match answer {
+        Ok(page) => {
+            format!(in alloc;
+                "page {} {} {} {}",
+                page.info, page.tli, page.address, page.remaining
+            )?
+        }
+        Err(PageFault::SegmentMissing(segment)) => {
+            format!(in alloc; "missing {} {}", segment.tli, segment.number)?
+        }
+        Err(PageFault::ShortSegment(segment)) => {
+            format!(in alloc; "short {} {}", segment.tli, segment.number)?
+        }
+        Err(PageFault::BadPage(place, field)) => format!(in alloc; "bad {place} {field:?}")?,
+        Err(PageFault::ReadFault) => String::from_str(alloc, "failed")?,
+        Err(_) => return Err("another fault".into()),
+    })
 }
 
-/// What is done with a tree and a cursor over its pages.
-#[derive(Clone, Copy)]
-pub enum Act<'a> {
-    Put(u64, &'a [u8]),
-    Forget,
-    Read(u64, Want),
-    Turn(u64, Want),
-}
-
-/// What a tree has, the system that is wanted, which reads fail, and what is done.
-#[derive(Clone, Copy)]
-pub struct Case<'a> {
-    pub cells: &'a [Cell<'a>],
-    pub system: Option<u64>,
-    pub plan: FailPlan,
-    pub acts: &'a [Act<'a>],
-}
-
-/// Whether an answer is the one that is wanted.
-fn is_wanted(answer: Result<PageHeader, PageFault>, want: Want) -> bool {
-    match (answer, want) {
-        (Ok(header), Want::Page(info, tli, at, remaining)) => {
-            header.info == info
-                && header.tli == tli
-                && header.address.0 == at
-                && header.remaining == remaining
-        }
-        (Err(PageFault::SegmentMissing(segment)), Want::Missing(number)) => {
-            segment.number == number && segment.tli == 1
-        }
-        (Err(PageFault::ShortSegment(segment)), Want::Short(number)) => {
-            segment.number == number && segment.tli == 1
-        }
-        (Err(PageFault::BadPage(place, field)), Want::Bad(at, wanted)) => {
-            place.0 == at && field == wanted
-        }
-        (Err(PageFault::ReadFault), Want::Failed) => true,
-        _ => false,
-    }
-}
-
-/// Whether a cursor holds the page that is wanted, or none.
-fn holds(cursor: &PageCursor, want: Want) -> bool {
-    match want {
-        Want::Page(info, _, at, remaining) => {
-            let header = page(at, info, remaining);
+/// Whether a cursor holds the page that was answered, or none.
+fn holds(cursor: &PageCursor, answer: &Result<PageHeader, PageFault>) -> bool {
+    match answer {
+        Ok(answered) => {
+            let header = page(answered.address.0, answered.info, answered.remaining);
             cursor.page().len() == 8192
                 && cursor.page().starts_with(&header[..4])
                 && cursor.page()[8..20] == header[8..20]
         }
-        _ => cursor.page().is_empty(),
+        Err(_) => cursor.page().is_empty(),
     }
 }
 
-/// Whether an act comes out as it has to.
+/// Whether an act comes out as it has to: `put AT BYTES`, `forget`, `read AT: ANSWER` or `turn AT: ANSWER`.
 fn is_done(
     alloc: Global,
     tree: &mut FailingTree,
     cursor: &mut PageCursor,
-    act: Act,
+    act: &str,
 ) -> Result<bool, Fail> {
-    let (answer, want) = match act {
-        Act::Put(at, bytes) => {
-            write(alloc, tree, at, bytes)?;
-            return Ok(true);
-        }
-        Act::Forget => {
-            cursor.forget();
-            return Ok(cursor.page().is_empty());
-        }
-        Act::Read(at, want) => (cursor.read_page(tree, Lsn(at)), want),
-        Act::Turn(at, want) => (cursor.turn_to(tree, Lsn(at)), want),
+    let (verb, behind) = cut_at(act, " ");
+    if verb == "forget" {
+        cursor.forget();
+        return Ok(cursor.page().is_empty());
+    }
+    if verb == "put" {
+        let (at, bytes) = cut_at(behind, " ");
+        write(alloc, tree, position(at)?, &bytes_of(alloc, bytes)?)?;
+        return Ok(true);
+    }
+    let (at, wanted) = cut_at(behind, ": ");
+    let at = Lsn(position(at)?);
+    let answer = if verb == "read" {
+        cursor.read_page(tree, at)
+    } else {
+        cursor.turn_to(tree, at)
     };
-    Ok(is_wanted(answer, want) && holds(cursor, want))
+    Ok(told(alloc, &answer)?.as_str() == wanted && holds(cursor, &answer))
 }
 
-/// The number of the first act of a case that comes out otherwise, if there is one.
-fn first_other(alloc: Global, case: Case) -> Result<Option<usize>, Fail> {
-    let mut tree = FailingTree::new(tree_of(alloc, case.cells)?, case.plan);
-    let log = path_of(alloc, Spans::one(alloc, 1)?, case.system)?;
+/// The first act of a case that comes out otherwise, if there is one: `CELL, .. | SYSTEM | PLAN | ACT; ..`, where
+/// the system is its own or any.
+fn first_other<'a>(alloc: Global, case: &'a str) -> Result<Option<&'a str>, Fail> {
+    let (cells, behind) = cut_at(case, " | ");
+    let (system, behind) = cut_at(behind, " | ");
+    let (plan, acts) = cut_at(behind, " | ");
+    let system = if system == "own" { Some(SYSTEM) } else { None };
+    let mut tree = FailingTree::new(tree_of(alloc, cells)?, plan_of(plan)?);
+    let log = path_of(alloc, Spans::one(alloc, 1)?, system)?;
     let mut cursor = PageCursor::new(alloc, log)?;
-    for (number, act) in case.acts.iter().enumerate() {
-        if !is_done(alloc, &mut tree, &mut cursor, *act)? {
-            return Ok(Some(number));
+    for act in acts.split("; ") {
+        if !is_done(alloc, &mut tree, &mut cursor, act)? {
+            return Ok(Some(act));
         }
     }
     Ok(None)
@@ -109,23 +89,26 @@ fn first_other(alloc: Global, case: Case) -> Result<Option<usize>, Fail> {
 
 #[test]
 fn pages_are_read_held_and_refused(rt: HostRuntime) -> Result<(), Fail> {
-    for case in CASES {
-        assert_eq!(rt; first_other(rt.alloc(), case)?, None);
+    for case in CASES.split('\n') {
+        if !case.starts_with('#') {
+            assert_eq!(rt; first_other(rt.alloc(), case)?, None, "{case}");
+        }
     }
     Ok(())
 }
 
+/// What a row's case is: the two pages, with its bytes put over them.
+fn bad_case(alloc: Global, row: &str) -> Result<String, Fail> {
+    let (put, bad) = cut_at(row, " = ");
+    let (at, _) = cut_at(bad, " ");
+    Ok(format!(in alloc; "{TWO_PAGES} | own | never | put {put}; read {at}: bad {bad}")?)
+}
+
 #[test]
 fn a_bad_page_is_told_by_the_first_rule_that_it_breaks(rt: HostRuntime) -> Result<(), Fail> {
-    for (offset, bytes, at, field) in BAD {
-        let case = Case {
-            acts: &[
-                Act::Put(FIRST.saturating_add(offset), bytes),
-                Act::Read(at, Want::Bad(at, field)),
-            ],
-            ..ANY_POSITION
-        };
-        assert_eq!(rt; first_other(rt.alloc(), case)?, None, "{offset}");
+    for row in BAD.split('\n') {
+        let case = bad_case(rt.alloc(), row)?;
+        assert_eq!(rt; first_other(rt.alloc(), case.as_str())?, None, "{row}");
     }
     Ok(())
 }
@@ -143,7 +126,7 @@ fn put_timeline(alloc: Global, tree: &mut MemoryTree, name: &str, tli: u8) -> Re
 #[test]
 fn a_segment_is_read_from_the_timeline_that_reaches_its_end(rt: HostRuntime) -> Result<(), Fail> {
     let name = "log/000000020000000000000001";
-    let mut tree = tree_of(rt.alloc(), &[])?;
+    let mut tree = tree_of(rt.alloc(), "")?;
     add_file(rt.alloc(), &mut tree, name, 16_384)?;
     let mut spans = Spans::one(rt.alloc(), 1)?;
     spans.end_and_add(Lsn(0x18_0000), 2)?;

@@ -1,7 +1,5 @@
 // Logs of records, and what is read of them. The expected positions are worked by hand from the
 // format: 40 bytes of header on a segment's first page and 24 on each other page.
-use crate::logs::{Cell, FIRST, SECOND};
-use wal_records::Why;
 
 /// A shutdown checkpoint as PostgreSQL 16 writes it, of redo 0/100028, timeline 1, next transaction
 /// 700 and time 1700000000; its sum comes from an independent script.
@@ -13,249 +11,87 @@ pub const CHECKPOINT: [u8; 114] = [
 ];
 
 /// Records at 0/100028 and at 0/100060, and a page whose first bytes go on with a record.
-pub const TWO: [Cell; 5] = [
-    Cell::File(FIRST, 16_384),
-    Cell::Page(FIRST, 2, 0),
-    Cell::Record(0x10_0028, 50, 0),
-    Cell::Record(0x10_0060, 40, 0x10_0028),
-    Cell::Page(0x10_2000, 1, 106),
-];
+pub const TWO: &str = "\
+file 0/100000 16384, page 0/100000 2 0, record 0/100028 50 0/0, record 0/100060 40 0/100028, page \
+    0/102000 1 106";
 
 /// A record at 0/101FF8 of which 106 bytes are to come on the next page.
-pub const OVER: [Cell; 4] = [
-    Cell::File(FIRST, 16_384),
-    Cell::Page(FIRST, 2, 0),
-    Cell::Page(0x10_2000, 1, 106),
-    Cell::Record(0x10_1FF8, 114, 0x10_0028),
-];
+pub const OVER: &str = "\
+file 0/100000 16384, page 0/100000 2 0, page 0/102000 1 106, record 0/101FF8 114 0/100028";
 
 /// A record at 0/101F00 of which 44 bytes are to come on the next page.
-pub const BODY_OVER: [Cell; 4] = [
-    Cell::File(FIRST, 16_384),
-    Cell::Page(FIRST, 2, 0),
-    Cell::Page(0x10_2000, 1, 44),
-    Cell::Record(0x10_1F00, 300, 0x10_0028),
-];
+pub const BODY_OVER: &str = "\
+file 0/100000 16384, page 0/100000 2 0, page 0/102000 1 44, record 0/101F00 300 0/100028";
 
 /// The record at 0/101FF8 was dropped, and the one on the next page links to that before it.
-pub const DROPPED: [Cell; 6] = [
-    Cell::File(FIRST, 16_384),
-    Cell::Page(FIRST, 2, 0),
-    Cell::Record(0x10_1F00, 248, 0x10_0028),
-    Cell::Record(0x10_1FF8, 40, 0x10_1F00),
-    Cell::Page(0x10_2000, 8, 0),
-    Cell::Record(0x10_2018, 42, 0x10_1F00),
-];
+pub const DROPPED: &str = "\
+file 0/100000 16384, page 0/100000 2 0, record 0/101F00 248 0/100028, record 0/101FF8 40 \
+    0/101F00, page 0/102000 8 0, record 0/102018 42 0/101F00";
 
-/// Bytes put into a log at a position, and where reading starts; where the last record begins and
-/// ends, or 0 and 0, the place at which the log ends, and why.
-pub type Row<'a> = (u64, &'a [u8], u64, (u64, u64), u64, Why);
+/// Records at 0/101F00, at 0/101F40, which ends where its page does, and behind the next page's
+/// header.
+pub const TO_THE_END: &str = "\
+file 0/100000 16384, page 0/100000 2 0, page 0/102000 0 0, record 0/101F00 64 0/100028, record \
+    0/101F40 192 0/101F00, record 0/102018 24 0/101F40";
 
-pub const NONE: (u64, u64) = (0, 0);
-
-const RECORD: (u64, u64) = (0x10_0028, 0x10_0060);
+// Rows: bytes put into a log at a position, and where reading starts; where the last record begins and
+// ends, if there is one, the place at which the log ends, and why.
 
 /// What is wrong with a start, with its page, and with a first record.
-pub const OF_FIRST: [Row; 11] = [
-    (FIRST, &[], 0x10_002C, NONE, 0x10_002C, Why::Place),
-    (FIRST, &[], 0x10_0020, NONE, 0x10_0020, Why::Place),
-    (FIRST, &[], 0x10_2008, NONE, 0x10_2008, Why::Place),
-    (FIRST, &[], 0x10_2000, NONE, 0x10_2018, Why::Continuation),
-    (FIRST, &[], 0x10_4000, NONE, 0x10_4018, Why::ShortSegment),
-    (FIRST, &[], SECOND, NONE, 0x20_0028, Why::NoSegment),
-    (FIRST, &[], u64::MAX - 7, NONE, u64::MAX - 7, Why::NoSegment),
-    (FIRST, &[0x12], FIRST, NONE, 0x10_0028, Why::Page),
-    (
-        0x10_0030,
-        &[0x28, 0, 0x10],
-        FIRST,
-        NONE,
-        0x10_0028,
-        Why::Prev,
-    ),
-    (
-        0x10_0030,
-        &[0x30, 0, 0x10],
-        FIRST,
-        NONE,
-        0x10_0028,
-        Why::Prev,
-    ),
-    (
-        FIRST,
-        &[],
-        0x10_0060,
-        (0x10_0060, 0x10_0088),
-        0x10_0088,
-        Why::ZeroLength,
-    ),
-];
+pub const OF_FIRST: &str = "\
+0/100000 - 0/10002C = none, 0/10002C Place
+0/100000 - 0/100020 = none, 0/100020 Place
+0/100000 - 0/102008 = none, 0/102008 Place
+0/100000 - 0/102000 = none, 0/102018 Continuation
+0/100000 - 0/104000 = none, 0/104018 ShortSegment
+0/100000 - 0/200000 = none, 0/200028 NoSegment
+0/100000 - FFFFFFFF/FFFFFFF8 = none, FFFFFFFF/FFFFFFF8 NoSegment
+0/100000 12 0/100000 = none, 0/100028 Page
+0/100030 280010 0/100000 = none, 0/100028 Prev
+0/100030 300010 0/100000 = none, 0/100028 Prev
+0/100000 - 0/100060 = 0/100060 0/100088, 0/100088 ZeroLength";
 
 /// What is wrong with a second record; last, two things: its manager and its link, its manager and
 /// its sum.
-pub const OF_SECOND: [Row; 10] = [
-    (
-        0x10_0060,
-        &[0, 0, 0, 0],
-        FIRST,
-        RECORD,
-        0x10_0060,
-        Why::ZeroLength,
-    ),
-    (
-        0x10_0060,
-        &[23, 0, 0, 0],
-        FIRST,
-        RECORD,
-        0x10_0060,
-        Why::ShortLength,
-    ),
-    (
-        0x10_0060,
-        &[1, 0, 0xC0, 0x3F],
-        FIRST,
-        RECORD,
-        0x10_0060,
-        Why::TooLong,
-    ),
-    (0x10_0071, &[22], FIRST, RECORD, 0x10_0060, Why::Manager),
-    (0x10_0071, &[127], FIRST, RECORD, 0x10_0060, Why::Manager),
-    (
-        0x10_0068,
-        &[0x60, 0, 0x10],
-        FIRST,
-        RECORD,
-        0x10_0060,
-        Why::Prev,
-    ),
-    (0x10_0087, &[0x5B], FIRST, RECORD, 0x10_0060, Why::Crc),
-    (0x10_0064, &[1], FIRST, RECORD, 0x10_0060, Why::Crc),
-    (0x10_0068, &[22; 10], FIRST, RECORD, 0x10_0060, Why::Manager),
-    (0x10_0071, &[22; 7], FIRST, RECORD, 0x10_0060, Why::Manager),
-];
+pub const OF_SECOND: &str = "\
+0/100060 00000000 0/100000 = 0/100028 0/100060, 0/100060 ZeroLength
+0/100060 17000000 0/100000 = 0/100028 0/100060, 0/100060 ShortLength
+0/100060 0100C03F 0/100000 = 0/100028 0/100060, 0/100060 TooLong
+0/100071 16 0/100000 = 0/100028 0/100060, 0/100060 Manager
+0/100071 7F 0/100000 = 0/100028 0/100060, 0/100060 Manager
+0/100068 600010 0/100000 = 0/100028 0/100060, 0/100060 Prev
+0/100087 5B 0/100000 = 0/100028 0/100060, 0/100060 Crc
+0/100064 01 0/100000 = 0/100028 0/100060, 0/100060 Crc
+0/100068 16*10 0/100000 = 0/100028 0/100060, 0/100060 Manager
+0/100071 16*7 0/100000 = 0/100028 0/100060, 0/100060 Manager";
 
 /// What a page says of the record that goes on there. Where both bits stand, that of a dropped record
 /// counts; then the page's first bytes still go on with one, so that none starts there. Last, the
 /// manager, which stands on that page, and both at once.
-pub const OF_PAGE: [Row; 9] = [
-    (
-        0x10_2002,
-        &[1],
-        0x10_1FF8,
-        (0x10_1FF8, 0x10_2088),
-        0x10_2088,
-        Why::ZeroLength,
-    ),
-    (
-        0x10_2002,
-        &[5],
-        0x10_1FF8,
-        (0x10_1FF8, 0x10_2088),
-        0x10_2088,
-        Why::ZeroLength,
-    ),
-    (
-        0x10_2002,
-        &[0],
-        0x10_1FF8,
-        NONE,
-        0x10_1FF8,
-        Why::Continuation,
-    ),
-    (0x10_2002, &[3], 0x10_1FF8, NONE, 0x10_1FF8, Why::Page),
-    (
-        0x10_2002,
-        &[9],
-        0x10_1FF8,
-        NONE,
-        0x10_2018,
-        Why::Continuation,
-    ),
-    (
-        0x10_2010,
-        &[105],
-        0x10_1FF8,
-        NONE,
-        0x10_1FF8,
-        Why::Continuation,
-    ),
-    (
-        0x10_2010,
-        &[107],
-        0x10_1FF8,
-        NONE,
-        0x10_1FF8,
-        Why::Continuation,
-    ),
-    (0x10_2021, &[22], 0x10_1FF8, NONE, 0x10_1FF8, Why::Manager),
-    (0x10_2002, &[22; 32], 0x10_1FF8, NONE, 0x10_1FF8, Why::Page),
-];
+pub const OF_PAGE: &str = "\
+0/102002 01 0/101FF8 = 0/101FF8 0/102088, 0/102088 ZeroLength
+0/102002 05 0/101FF8 = 0/101FF8 0/102088, 0/102088 ZeroLength
+0/102002 00 0/101FF8 = none, 0/101FF8 Continuation
+0/102002 03 0/101FF8 = none, 0/101FF8 Page
+0/102002 09 0/101FF8 = none, 0/102018 Continuation
+0/102010 69 0/101FF8 = none, 0/101FF8 Continuation
+0/102010 6B 0/101FF8 = none, 0/101FF8 Continuation
+0/102021 16 0/101FF8 = none, 0/101FF8 Manager
+0/102002 16*32 0/101FF8 = none, 0/101FF8 Page";
 
 /// The link and the page that the body goes on at are wrong.
-pub const OF_BODY: [Row; 1] = [(0x10_1F08, &[16; 264], 0x10_1F00, NONE, 0x10_1F00, Why::Prev)];
+pub const OF_BODY: &str = "\
+0/101F08 10*264 0/101F00 = none, 0/101F00 Prev";
 
 /// A record that was dropped is passed over.
-pub const OF_DROPPED: [Row; 1] = [(
-    FIRST,
-    &[],
-    0x10_1F00,
-    (0x10_2018, 0x10_2048),
-    0x10_2048,
-    Why::ZeroLength,
-)];
-
-/// Records at 0/101F00, at 0/101F40, which ends where its page does, and behind the next page's
-/// header.
-pub const TO_THE_END: [Cell; 6] = [
-    Cell::File(FIRST, 16_384),
-    Cell::Page(FIRST, 2, 0),
-    Cell::Page(0x10_2000, 0, 0),
-    Cell::Record(0x10_1F00, 64, 0x10_0028),
-    Cell::Record(0x10_1F40, 192, 0x10_1F00),
-    Cell::Record(0x10_2018, 24, 0x10_1F40),
-];
+pub const OF_DROPPED: &str = "\
+0/100000 - 0/101F00 = 0/102018 0/102048, 0/102048 ZeroLength";
 
 /// What lies on one page up to its end. The second record as it is, one byte longer than the page,
 /// with another link, another manager and another sum.
-pub const OF_PAGE_END: [Row; 5] = [
-    (
-        FIRST,
-        &[],
-        0x10_1F00,
-        (0x10_2018, 0x10_2030),
-        0x10_2030,
-        Why::ZeroLength,
-    ),
-    (
-        0x10_1F40,
-        &[193],
-        0x10_1F00,
-        (0x10_1F00, 0x10_1F40),
-        0x10_1F40,
-        Why::Continuation,
-    ),
-    (
-        0x10_1F48,
-        &[0x28],
-        0x10_1F00,
-        (0x10_1F00, 0x10_1F40),
-        0x10_1F40,
-        Why::Prev,
-    ),
-    (
-        0x10_1F51,
-        &[22],
-        0x10_1F00,
-        (0x10_1F00, 0x10_1F40),
-        0x10_1F40,
-        Why::Manager,
-    ),
-    (
-        0x10_1FFF,
-        &[0x5B],
-        0x10_1F00,
-        (0x10_1F00, 0x10_1F40),
-        0x10_1F40,
-        Why::Crc,
-    ),
-];
+pub const OF_PAGE_END: &str = "\
+0/100000 - 0/101F00 = 0/102018 0/102030, 0/102030 ZeroLength
+0/101F40 C1 0/101F00 = 0/101F00 0/101F40, 0/101F40 Continuation
+0/101F48 28 0/101F00 = 0/101F00 0/101F40, 0/101F40 Prev
+0/101F51 16 0/101F00 = 0/101F00 0/101F40, 0/101F40 Manager
+0/101FFF 5B 0/101F00 = 0/101F00 0/101F40, 0/101F40 Crc";

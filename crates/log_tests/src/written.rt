@@ -1,13 +1,14 @@
 // Logs that are written, and read again. The expected positions are worked out by hand from the
 // format: 40 bytes of header on a segment's first page and 24 on each other page.
-use crate::logs::{Cell, FIRST, FIRST_NAME, SECOND, SYSTEM, tree_of, write};
+use crate::logs::{FIRST, FIRST_NAME, SECOND, SYSTEM, tree_of, write};
 use crate::record_rows::CHECKPOINT;
-use crate::records::{Given, Way, is_read};
+use crate::records::{Way, is_read};
+use crate::texts::{byte, cut_at, number};
 use cluster_tree::{MemoryTree, Path, Tree};
 use std::alloc::Global;
 use std::test::*;
 use wal_base::{Lsn, SegSize};
-use wal_records::{LogWriter, Why};
+use wal_records::LogWriter;
 
 /// A record that is appended: the operation and its manager, and how many bytes it has in all.
 pub type New = (u8, u8, u32);
@@ -42,8 +43,7 @@ pub fn log_of(alloc: Global, records: &[New]) -> Result<(LogWriter, Vec<u64>), F
 
 /// A tree with that log in its segment files, which go on in zeros.
 pub fn tree_with(alloc: Global, writer: &LogWriter) -> Result<MemoryTree, Fail> {
-    let cells = [Cell::File(FIRST, 0x10_0000), Cell::File(SECOND, 0x10_0000)];
-    let mut tree = tree_of(alloc, &cells)?;
+    let mut tree = tree_of(alloc, "file 0/100000 1048576, file 0/200000 1048576")?;
     let bytes = writer.bytes();
     let first = bytes.len().min(0x10_0000);
     write(alloc, &mut tree, FIRST, &bytes[..first])?;
@@ -57,84 +57,60 @@ pub fn log_tree(alloc: Global, records: &[New]) -> Result<MemoryTree, Fail> {
     tree_with(alloc, &writer)
 }
 
-/// A log of such records; where the last one starts and ends, the place where the log ends, and why.
-type Row<'a> = (&'a [New], (u64, u64), u64, Why);
+/// Records as text.
+pub fn news_of(alloc: Global, text: &str) -> Result<Vec<New>, Fail> {
+    let mut news = Vec::new(alloc);
+    if text == "-" {
+        return Ok(news);
+    }
+    for new in text.split(", ") {
+        let (info, behind) = cut_at(new, " ");
+        let (manager, total) = cut_at(behind, " ");
+        news.push((byte(info)?, byte(manager)?, number(total)?))?;
+    }
+    Ok(news)
+}
 
-const ROWS: [Row; 8] = [
-    (&[], (0, FIRST), 0x10_0028, Why::ZeroLength),
-    // 8 bytes stand on the first page, 106 on the second
-    (
-        &[(0, 10, 8144), (0, 10, 114)],
-        (0x10_1FF8, 0x10_2088),
-        0x10_2088,
-        Why::ZeroLength,
-    ),
-    // the rest stands behind the long header of the next segment
-    (
-        &[(0, 10, 1_045_480), (0, 10, 114)],
-        (0x1F_FFF8, 0x20_0098),
-        0x20_0098,
-        Why::ZeroLength,
-    ),
-    // 256 bytes stand on the first page, 8168 on the second and 7976 on the third
-    (
-        &[(0, 10, 16_064), (0, 10, 16_400)],
-        (0x10_3F00, 0x10_7F40),
-        0x10_7F40,
-        Why::ZeroLength,
-    ),
-    // the second record begins behind the header of a page
-    (
-        &[(0, 10, 8152), (0, 10, 25)],
-        (0x10_2018, 0x10_2038),
-        0x10_2038,
-        Why::ZeroLength,
-    ),
-    // the next page has not begun
-    (
-        &[(0, 10, 8128), (0, 10, 24)],
-        (0x10_1FE8, 0x10_2000),
-        0x10_2018,
-        Why::Page,
-    ),
-    // a switch ends its segment
-    (
-        &[(0, 10, 1240), (0x40, 0, 24)],
-        (0x10_0500, 0x20_0000),
-        0x20_0028,
-        Why::Page,
-    ),
-    (
-        &[(0x40, 0, 24), (0, 10, 26)],
-        (0x20_0028, 0x20_0048),
-        0x20_0048,
-        Why::ZeroLength,
-    ),
-];
+/// A log of such records; where the last one starts and ends, the place where the log ends, and why.
+const ROWS: &str = "\
+- = 0/0 0/100000, 0/100028 ZeroLength
+# 8 bytes stand on the first page, 106 on the second
+0 10 8144, 0 10 114 = 0/101FF8 0/102088, 0/102088 ZeroLength
+# the rest stands behind the long header of the next segment
+0 10 1045480, 0 10 114 = 0/1FFFF8 0/200098, 0/200098 ZeroLength
+# 256 bytes stand on the first page, 8168 on the second and 7976 on the third
+0 10 16064, 0 10 16400 = 0/103F00 0/107F40, 0/107F40 ZeroLength
+# the second record begins behind the header of a page
+0 10 8152, 0 10 25 = 0/102018 0/102038, 0/102038 ZeroLength
+# the next page has not begun
+0 10 8128, 0 10 24 = 0/101FE8 0/102000, 0/102018 Page
+# a switch ends its segment
+0 10 1240, 64 0 24 = 0/100500 0/200000, 0/200028 Page
+64 0 24, 0 10 26 = 0/200028 0/200048, 0/200048 ZeroLength";
 
 /// Whether a log is written, and read again, as its row says.
-fn is_so(alloc: Global, row: Row) -> Result<bool, Fail> {
-    let (records, last, place, why) = row;
+fn is_so(alloc: Global, records: &[New], wanted: &str) -> Result<bool, Fail> {
     let (writer, starts) = log_of(alloc, records)?;
-    let start = starts.last().copied().unwrap_or(0);
-    let read = if records.is_empty() { (0, 0) } else { last };
-    let wanted = Given {
-        last: read,
-        place,
-        why,
-    };
+    let start = Lsn(starts.last().copied().unwrap_or(0));
+    let (last, end) = cut_at(wanted, ", ");
+    let read = if records.is_empty() { "none" } else { last };
+    let read = format!(in alloc; "{read}, {end}")?;
+    let written = format!(in alloc; "{start} {}", writer.position())?;
     let mut tree = tree_with(alloc, &writer)?;
     Ok(
-        (start, writer.position().0) == last
-            && is_read(alloc, &mut tree, FIRST, Way::Anew, wanted)?
-            && is_read(alloc, &mut tree, FIRST, Way::Unchanged, wanted)?,
+        written.as_str() == last
+            && is_read(alloc, &mut tree, FIRST, Way::Anew, read.as_str())?
+            && is_read(alloc, &mut tree, FIRST, Way::Unchanged, read.as_str())?,
     )
 }
 
 #[test]
 fn what_was_written_is_read_again(rt: HostRuntime) -> Result<(), Fail> {
-    for row in ROWS {
-        assert!(rt; is_so(rt.alloc(), row)?);
+    for row in ROWS.split('\n') {
+        if let Some((records, wanted)) = row.split_once(" = ") {
+            let records = news_of(rt.alloc(), records)?;
+            assert!(rt; is_so(rt.alloc(), &records, wanted)?, "{row}");
+        }
     }
     Ok(())
 }
@@ -156,12 +132,9 @@ fn a_segment_is_written_as_it_was_stored(rt: HostRuntime) -> Result<(), Fail> {
     assert_eq!(rt; start, 0x10_0028);
     assert_eq!(rt; writer.position(), Lsn(0x10_00A0));
     assert_eq!(rt; writer.bytes().len(), 8192);
-    let cells = [
-        Cell::File(FIRST, 0x10_0000),
-        Cell::Page(FIRST, 2, 0),
-        Cell::Bytes(0x10_0028, &CHECKPOINT),
-    ];
-    let stored = segment_of(rt.alloc(), &mut tree_of(rt.alloc(), &cells)?)?;
+    let mut stored = tree_of(rt.alloc(), "file 0/100000 1048576, page 0/100000 2 0")?;
+    write(rt.alloc(), &mut stored, 0x10_0028, &CHECKPOINT)?;
+    let stored = segment_of(rt.alloc(), &mut stored)?;
     let written = segment_of(rt.alloc(), &mut tree_with(rt.alloc(), &writer)?)?;
     assert!(rt; written.as_slice() == stored.as_slice());
     Ok(())
