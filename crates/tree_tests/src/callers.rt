@@ -6,23 +6,26 @@ ghost use Rattle.cluster_tree.specs.Frame.{Came};
 use cluster_tree::{Path, Tree, TreeFault};
 use std::alloc::Global;
 
-// How the call of this number on a path ends, one of each kind.
+/// The verbs of the calls, one of each kind.
+pub(crate) const VERBS: &str = "kind list size read write_x cut make_file make_folder remove sync";
+
+// How a call on a path ends, by its verb.
 pub(crate) fn ended<F: Tree>(
     alloc: Global,
     tree: &mut F,
-    number: u8,
+    verb: &str,
     path: &Path,
 ) -> Result<(), TreeFault> {
-    match number {
-        0 => tree.kind(path).map(|_| ()),
-        1 => tree.list(alloc, path).map(|_| ()),
-        2 => tree.size(path).map(|_| ()),
-        3 => tree.read_at(path, 0, &mut [0; 5]),
-        4 => tree.write_at(path, 0, b"x"),
-        5 => tree.cut(path, 9),
-        6 => tree.make_file(path),
-        7 => tree.make_folder(path),
-        8 => tree.remove(path),
+    match verb {
+        "kind" => tree.kind(path).map(|_| ()),
+        "list" => tree.list(alloc, path).map(|_| ()),
+        "size" => tree.size(path).map(|_| ()),
+        "read" => tree.read_at(path, 0, &mut [0; 5]),
+        "write_x" => tree.write_at(path, 0, b"x"),
+        "cut" => tree.cut(path, 9),
+        "make_file" => tree.make_file(path),
+        "make_folder" => tree.make_folder(path),
+        "remove" => tree.remove(path),
         _ => tree.sync(),
     }
 }

@@ -10,4 +10,8 @@ mod fakes;
 #[cfg(test)]
 mod paths;
 #[cfg(test)]
+mod rows;
+#[cfg(test)]
 mod silent;
+#[cfg(test)]
+mod trees;

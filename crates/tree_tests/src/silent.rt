@@ -2,7 +2,7 @@
 ghost use Rattle.std.specs.Prelude.{◌≡◌, ◌≤◌};
 ghost use Rattle.cluster_tree.specs.Causes.{Rose};
 
-use crate::callers::ended;
+use crate::callers::{VERBS, ended};
 use cluster_tree::{Kind, Names, Path, Tree, TreeFault};
 use std::alloc::Global;
 use std::test::Fail;
@@ -102,11 +102,10 @@ fn a_tree_that_tells_nothing_fails_each_call(rt: HostRuntime) -> Result<(), Fail
         failed_changes: 0,
     };
     let file = Path::parse(rt.alloc(), "f")?;
-    for number in 0..10 {
-        let end = ended(rt.alloc(), &mut tree, number, &file);
-        assert_eq!(rt; end, Err(TreeFault::Failed), "{number}");
+    for verb in VERBS.split(' ') {
+        let end = ended(rt.alloc(), &mut tree, verb, &file);
+        assert_eq!(rt; end, Err(TreeFault::Failed), "{verb}");
     }
-    assert_eq!(rt; tree.failed_reads, 4);
-    assert_eq!(rt; tree.failed_changes, 6);
+    assert_eq!(rt; (tree.failed_reads, tree.failed_changes), (4, 6));
     Ok(())
 }
