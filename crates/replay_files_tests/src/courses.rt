@@ -1,23 +1,37 @@
 // A device that fails at each call in turn: the answer is of that call's own count, and the changes made are the first.
-use crate::calls::{Call, answer};
-use crate::trees::{Had, tree_with};
+use crate::calls::answer;
+use crate::texts::cut_at;
+use crate::trees::tree_of;
 use cluster_tree::{ChangeCall, FailPlan, FailingTree, MemoryTree};
 use std::alloc::Global;
+use std::process::Abort;
 use std::test::Fail;
 
 /// A call, and how it goes.
 #[derive(Clone, Copy)]
-pub(crate) struct Course<'a> {
+struct Course<'a> {
+    call: &'a str,
     /// What the tree has.
-    pub(crate) had: &'a [Had<'a>],
-    pub(crate) root: &'a str,
-    pub(crate) call: Call<'a>,
-    /// The calls of the device in order: `r` reads, `w` changes.
-    pub(crate) device: &'a str,
-    /// The changes in order, each with its path.
-    pub(crate) changes: &'a [&'a str],
+    had: &'a str,
+    /// The calls of the device in order, none for a dash: `r` reads, `w` changes.
+    device: &'a str,
     /// The answer where none fails.
-    pub(crate) ends: &'a str,
+    ends: &'a str,
+    /// The changes in order, each with its path.
+    changes: &'a str,
+}
+
+fn course_of<'a>(row: &'a str, meant: &'a str) -> Course<'a> {
+    let (call, had) = cut_at(row, ": ");
+    let (told, changes) = cut_at(meant, ": ");
+    let (device, ends) = cut_at(told, " ");
+    Course {
+        call,
+        had,
+        device: if device == "-" { "" } else { device },
+        ends,
+        changes,
+    }
 }
 
 fn change_text(alloc: Global, call: &ChangeCall) -> Result<String, Fail> {
@@ -37,14 +51,14 @@ fn are_first(
     tree: &MemoryTree,
     from: usize,
     count: usize,
-    changes: &[&str],
+    changes: &str,
 ) -> Result<bool, Fail> {
     let mut made = 0;
-    for expected in changes.iter().take(count) {
+    for expected in changes.split(", ").take(count) {
         let Some(call) = tree.change(from.saturating_add(made)) else {
             return Ok(false);
         };
-        if change_text(alloc, call)?.as_str() != *expected {
+        if change_text(alloc, call)?.as_str() != expected {
             return Ok(false);
         }
         made = made.saturating_add(1);
@@ -60,10 +74,10 @@ fn goes(
     ends: &str,
     count: usize,
 ) -> Result<bool, Fail> {
-    let within = tree_with(alloc, course.had)?;
+    let within = tree_of(alloc, course.had, "")?;
     let from = within.changes();
     let mut tree = FailingTree::new(within, FailPlan::At(number));
-    let told = answer(alloc, &mut tree, course.root, course.call)?;
+    let told = answer(alloc, &mut tree, course.call)?;
     let within = tree.into_inner();
     Ok(told.as_str() == ends && are_first(alloc, &within, from, count, course.changes)?)
 }
@@ -92,12 +106,13 @@ fn first_wrong(alloc: Global, course: &Course<'_>) -> Result<Option<u64>, Fail> 
     Ok(None)
 }
 
-/// The number of the first row that goes otherwise, from 0 on, and of the device's call.
-pub(crate) fn first_odd(alloc: Global, courses: &[Course<'_>]) -> Result<Option<String>, Fail> {
-    for (row, course) in courses.iter().enumerate() {
-        if let Some(number) = first_wrong(alloc, course)? {
-            return Ok(Some(format!(in alloc; "row {row}, call {number}")?));
+/// Each row's call goes as the row says.
+pub(crate) fn check_courses<R: AllocGlobal + Abort>(rt: &R, text: &str) -> Result<(), Fail> {
+    for line in text.split('\n') {
+        if let Some((row, meant)) = line.split_once(" = ") {
+            let course = course_of(row, meant);
+            assert_eq!(rt; first_wrong(rt.alloc(), &course)?, None, "{line}");
         }
     }
-    Ok(None)
+    Ok(())
 }

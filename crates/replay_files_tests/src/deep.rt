@@ -3,7 +3,6 @@ ghost use Rattle.std.specs.Prelude.{◌≡◌, true, IfOk, IfErr};
 ghost use Rattle.std.specs.List.{list_all};
 ghost use Rattle.cluster_tree.specs.PathValue.{is_part};
 
-use crate::edits::Edit::Clear;
 use crate::edits::answer_edit;
 use cluster_tree::{Kind, Names, Path, Tree, TreeFault};
 use std::alloc::Global;
@@ -88,7 +87,7 @@ fn a_folder_of_64_parts_that_holds_something_is_too_deep(rt: HostRuntime) -> Res
     }
     expected.push_str(" holds a path of more than 64 parts")?;
     let folder = Path::parse(rt.alloc(), "d")?;
-    let told = answer_edit(rt.alloc(), &mut EndlessTree, &folder, &folder, Clear)?;
+    let told = answer_edit(rt.alloc(), &mut EndlessTree, &folder, "clear d")?;
     assert_eq!(rt; told.as_str(), expected.as_str());
     Ok(())
 }

@@ -1,5 +1,9 @@
 // The calls of file_edits at a path below a cluster's root, and what each answers.
+ghost use Rattle.std.specs.Prelude.{◌<◌, length};
+ghost use Rattle.cluster_tree.specs.PathValue.{Holds};
+
 use crate::answers::{count, ended, word};
+use crate::texts::{bytes_of, cut_at, long};
 use cluster_tree::{FileFault, Names, Path, Tree};
 use file_edits::{
     ensure_file, file_size, is_folder, lay, make_way, name_at, names_of, read_or_zeros,
@@ -7,31 +11,6 @@ use file_edits::{
 };
 use std::alloc::Global;
 use std::test::Fail;
-
-/// A call of `file_edits`.
-#[derive(Clone, Copy)]
-pub(crate) enum Edit<'a> {
-    /// `file_size`.
-    Size,
-    /// `is_folder`.
-    IsFolder,
-    /// `names_of`.
-    Names,
-    /// `read_or_zeros` of four bytes from an offset on.
-    Read(u64),
-    /// `make_way`.
-    Way,
-    /// `ensure_file`.
-    Ensure,
-    /// `lay`: the size, the offset and the bytes.
-    Lay(u64, u64, &'a [u8]),
-    /// `shorten` to a size.
-    Shorten(u64),
-    /// `remove_file`.
-    Remove,
-    /// `remove_tree`.
-    Clear,
-}
 
 // Each name with a slash behind it.
 fn joined(alloc: Global, names: &Names) -> Result<String, Fail> {
@@ -52,33 +31,70 @@ fn listed(alloc: Global, names: Result<Names, FileFault>) -> Result<String, Fail
 
 fn read<F: Tree>(alloc: Global, tree: &mut F, path: &Path, at: u64) -> Result<String, Fail> {
     let mut four = [0; 4];
-    let done = read_or_zeros(alloc, tree, path, at, &mut four);
-    let text = str::from_utf8(&four)?;
-    word(alloc, done.map(|()| text))
+    match read_or_zeros(alloc, tree, path, at, &mut four) {
+        Ok(()) => Ok(hex::encode(alloc, four)?),
+        Err(fault) => word(alloc, Err(fault)),
+    }
 }
 
-// What a call that asks, cuts or removes answers.
+// What a call that asks answers.
 fn answer_asked<F: Tree>(
     alloc: Global,
     tree: &mut F,
     path: &Path,
-    call: Edit<'_>,
+    verb: &str,
+    words: &str,
 ) -> Result<String, Fail> {
-    match call {
-        Edit::Size => count(alloc, file_size(alloc, tree, path)),
-        Edit::IsFolder => {
+    match verb {
+        "size" => count(alloc, file_size(alloc, tree, path)),
+        "is_folder" => {
             let there = is_folder(alloc, tree, path);
             word(
                 alloc,
                 there.map(|there| if there { "a folder" } else { "none" }),
             )
         }
-        Edit::Names => listed(alloc, names_of(alloc, tree, path)),
-        Edit::Read(at) => read(alloc, tree, path, at),
-        Edit::Shorten(size) => ended(alloc, shorten(alloc, tree, path, size)),
-        Edit::Clear if path.len() > 0 => ended(alloc, remove_tree(alloc, tree, path)),
-        _ => ended(alloc, remove_file(alloc, tree, path)),
+        "names" => listed(alloc, names_of(alloc, tree, path)),
+        "read" => read(alloc, tree, path, long(words)?),
+        _ => Err("no such call".into()),
     }
+}
+
+// What a call that cuts or removes answers, or else one that asks.
+fn answer_cut<F: Tree>(
+    alloc: Global,
+    tree: &mut F,
+    path: &Path,
+    verb: &str,
+    words: &str,
+) -> Result<String, Fail> {
+    match verb {
+        "shorten" => ended(alloc, shorten(alloc, tree, path, long(words)?)),
+        "clear" if path.len() > 0 => ended(alloc, remove_tree(alloc, tree, path)),
+        "remove" => ended(alloc, remove_file(alloc, tree, path)),
+        _ => answer_asked(alloc, tree, path, verb, words),
+    }
+}
+
+// What is laid into a file at a path below the root: the size, the offset and the bytes.
+fn laid<F: Tree>(
+    alloc: Global,
+    tree: &mut F,
+    root: &Path,
+    path: &Path,
+    words: &str,
+) -> Result<String, Fail>
+    requires held { Holds root.now path.now }
+    requires deeper { length root.now.parts < length path.now.parts }
+{
+    let (size, behind) = cut_at(words, " ");
+    let (at, digits) = cut_at(behind, " ");
+    let (size, at) = (long(size)?, long(at)?);
+    if at > size {
+        return Err("past the size".into());
+    }
+    let bytes = bytes_of(alloc, digits)?;
+    ended(alloc, lay(alloc, tree, root, path, size, at, &bytes))
 }
 
 /// What a call at a path answers.
@@ -86,22 +102,21 @@ pub(crate) fn answer_edit<F: Tree>(
     alloc: Global,
     tree: &mut F,
     root: &Path,
-    path: &Path,
-    call: Edit<'_>,
+    call: &str,
 ) -> Result<String, Fail> {
-    let below = root.holds(path) && root.len() < path.len();
-    match call {
-        Edit::Way if below => ended(alloc, make_way(alloc, tree, root, path)),
-        Edit::Ensure if below => {
-            let size = ensure_file(alloc, tree, root, path);
+    let (verb, behind) = cut_at(call, " ");
+    let (text, words) = cut_at(behind, " ");
+    let path = Path::parse(alloc, text)?;
+    if !root.holds(&path) || root.len() >= path.len() {
+        return answer_cut(alloc, tree, &path, verb, words);
+    }
+    match verb {
+        "way" => ended(alloc, make_way(alloc, tree, root, &path)),
+        "ensure" => {
+            let size = ensure_file(alloc, tree, root, &path);
             count(alloc, size.map(Some))
         }
-        Edit::Lay(size, at, bytes) if below && at <= size => {
-            ended(alloc, lay(alloc, tree, root, path, size, at, bytes))
-        }
-        Edit::Way | Edit::Ensure | Edit::Lay(..) => Err(
-            "not below the root, or past the size".into(),
-        ),
-        _ => answer_asked(alloc, tree, path, call),
+        "lay" => laid(alloc, tree, root, &path, words),
+        _ => answer_cut(alloc, tree, &path, verb, words),
     }
 }

@@ -1,31 +1,23 @@
 // The calls of storage_databases, and what each answers.
 use crate::answers::{ended, whole};
 use crate::records::{MainRecord, cursor_with};
+use crate::texts::{bytes_of, cut_at, number};
 use block_refs::split_record;
 use cluster_tree::{Path, Tree};
 use std::alloc::Global;
 use std::test::Fail;
 use storage_databases::{drop_database, make_database, write_relation_map};
 
-/// A call of `storage_databases`.
-#[derive(Clone, Copy)]
-pub(crate) enum FolderCall<'a> {
-    /// `make_database`.
-    Make(u32),
-    /// `drop_database`.
-    Drop(u32),
-    /// `write_relation_map` by a record of these main bytes.
-    Map(&'a [u8]),
-}
-
-fn map<F: Tree>(alloc: Global, tree: &mut F, root: &Path, main: &[u8]) -> Result<String, Fail> {
+// A relation map by the main bytes of its record.
+fn map<F: Tree>(alloc: Global, tree: &mut F, root: &Path, digits: &str) -> Result<String, Fail> {
     if root.len() > 61 {
         return Err("too deep".into());
     }
+    let main = bytes_of(alloc, digits)?;
     let rec = MainRecord {
         info: 0,
         manager: 7,
-        main,
+        main: &main,
     };
     let cursor = cursor_with(alloc, rec)?;
     let rec = cursor.current().ok_or("no record")?;
@@ -38,15 +30,15 @@ pub(crate) fn answer_folder<F: Tree>(
     alloc: Global,
     tree: &mut F,
     root: &Path,
-    call: FolderCall<'_>,
+    call: &str,
 ) -> Result<String, Fail> {
     if root.len() > 61 {
         return Err("too deep".into());
     }
-    let done = match call {
-        FolderCall::Make(database) => make_database(alloc, tree, root, database),
-        FolderCall::Drop(database) => drop_database(alloc, tree, root, database),
-        FolderCall::Map(main) => return map(alloc, tree, root, main),
-    };
-    ended(alloc, done)
+    let (verb, words) = cut_at(call, " ");
+    match verb {
+        "make" => ended(alloc, make_database(alloc, tree, root, number(words)?)),
+        "drop" => ended(alloc, drop_database(alloc, tree, root, number(words)?)),
+        _ => map(alloc, tree, root, words),
+    }
 }

@@ -3,6 +3,7 @@ ghost use Rattle.std.specs.Prelude.{◌<◌, ◌≤◌};
 ghost use Rattle.storage_replay.specs.Files.{AreFit};
 
 use crate::answers::{count, ended, word};
+use crate::texts::{byte, cut_at, number};
 use block_refs::{BlockName, Fork, RelName};
 use cluster_tree::{Path, Tree};
 use page_layout::Page;
@@ -12,34 +13,21 @@ use storage_replay::{
     Files, Found, create, drop_relation, length, map_bits, read_block, truncate, write_block,
 };
 
-/// A call of `storage_replay` on the files of relation 16384 of database 5, or of another that is named.
-#[derive(Clone, Copy)]
-pub(crate) enum ForkCall {
-    /// `length` of a fork.
-    Length(Fork),
-    /// `read_block`: a fork and the number of a block.
-    Read(Fork, u32),
-    /// `write_block` of a page of this byte.
-    Write(Fork, u32, u8),
-    /// `truncate`: blocks and flags.
-    Truncate(u32, u32),
-    /// `create` of a fork.
-    Create(Fork),
-    /// `drop_relation` of a number.
-    Drop(u32),
-    /// `map_bits`: a heap block and the bits that are cleared.
-    Bits(u32, u8),
-    /// `write_block` to a shared relation of this number.
-    Shared(u32),
-    /// `write_block` of block 3 in files of 131072 blocks, and then `read_block` of 1 and of 4.
-    Sparse,
-}
-
 const REL: RelName = RelName {
     space: 1663,
     database: 5,
     relation: 16384,
 };
+
+fn fork_of(text: &str) -> Result<Fork, Fail> {
+    match text {
+        "main" => Ok(Fork::Main),
+        "fsm" => Ok(Fork::FreeSpace),
+        "vm" => Ok(Fork::Visibility),
+        "init" => Ok(Fork::Init),
+        _ => Err("no fork".into()),
+    }
+}
 
 const fn block_of(fork: Fork, block: u32) -> BlockName {
     BlockName {
@@ -47,6 +35,12 @@ const fn block_of(fork: Fork, block: u32) -> BlockName {
         fork,
         block,
     }
+}
+
+// A block by its fork and its number.
+fn named(words: &str) -> Result<BlockName, Fail> {
+    let (fork, block) = cut_at(words, " ");
+    Ok(block_of(fork_of(fork)?, number(block)?))
 }
 
 // A page of one byte.
@@ -112,60 +106,78 @@ const fn shared_block(relation: u32) -> BlockName {
     }
 }
 
+// Writes a block, by its name and the byte of its page.
+fn write_named<F: Tree>(
+    alloc: Global,
+    tree: &mut F,
+    at: &Files,
+    words: &str,
+) -> Result<String, Fail>
+    requires fit { AreFit at.now }
+{
+    let (name, filling) = words.rsplit_once(' ').ok_or("no byte")?;
+    write(alloc, tree, at, named(name)?, byte(filling)?)
+}
+
 // What a call on a block answers, or on a length.
 fn on_block<F: Tree>(
     alloc: Global,
     tree: &mut F,
     at: &Files,
-    call: ForkCall,
+    verb: &str,
+    words: &str,
 ) -> Result<String, Fail>
     requires fit { AreFit at.now }
 {
-    match call {
-        ForkCall::Read(fork, block) => read(alloc, tree, at, block_of(fork, block)),
-        ForkCall::Write(fork, block, byte) => write(alloc, tree, at, block_of(fork, block), byte),
-        ForkCall::Shared(relation) => write(alloc, tree, at, shared_block(relation), 1),
-        ForkCall::Length(fork) => {
-            let blocks = length(alloc, tree, at, REL, fork);
+    match verb {
+        "read" => read(alloc, tree, at, named(words)?),
+        "write" => write_named(alloc, tree, at, words),
+        "shared" => write(alloc, tree, at, shared_block(number(words)?), 1),
+        "length" => {
+            let blocks = length(alloc, tree, at, REL, fork_of(words)?);
             count(alloc, blocks.map(|blocks| blocks.map(u64::from)))
         }
-        _ => sparse(alloc, tree, at),
+        "sparse" => sparse(alloc, tree, at),
+        _ => Err("no such call".into()),
     }
 }
 
-fn run<F: Tree>(alloc: Global, tree: &mut F, at: &Files, call: ForkCall) -> Result<String, Fail>
+fn run<F: Tree>(alloc: Global, tree: &mut F, at: &Files, call: &str) -> Result<String, Fail>
     requires fit { AreFit at.now }
 {
-    let done = match call {
-        ForkCall::Truncate(blocks, flags) => truncate(alloc, tree, at, REL, blocks, flags),
-        ForkCall::Create(fork) => create(alloc, tree, at, REL, fork),
-        ForkCall::Drop(relation) => {
-            let rel = RelName { relation, ..REL };
-            drop_relation(alloc, tree, at, rel)
+    let (verb, words) = cut_at(call, " ");
+    let (first, second) = cut_at(words, " ");
+    let done = match verb {
+        "truncate" => truncate(alloc, tree, at, REL, number(first)?, number(second)?),
+        "create" => create(alloc, tree, at, REL, fork_of(words)?),
+        "drop" => {
+            let relation = number(words)?;
+            drop_relation(alloc, tree, at, RelName { relation, ..REL })
         }
-        ForkCall::Bits(block, clear) => map_bits(alloc, tree, at, REL, block, clear % 4),
-        _ => return on_block(alloc, tree, at, call),
+        "bits" => map_bits(alloc, tree, at, REL, number(first)?, byte(second)? % 4),
+        _ => return on_block(alloc, tree, at, verb, words),
     };
     ended(alloc, done)
 }
 
 // How many blocks a file has: two, but in the one row.
-fn per_file(call: ForkCall) -> u32
+fn per_file(call: &str) -> u32
     ensures some { 0 < result }
     ensures most { result ≤ 131072 }
 {
     match call {
-        ForkCall::Sparse => 131_072,
+        "sparse" => 131_072,
         _ => 2,
     }
 }
 
 /// What a call on the cluster at a root answers, whose files have two blocks each but in one row.
+/// It is about relation 16384 of database 5, or another that is named.
 pub(crate) fn answer_fork<F: Tree>(
     alloc: Global,
     tree: &mut F,
     root: &Path,
-    call: ForkCall,
+    call: &str,
 ) -> Result<String, Fail> {
     let at = Files {
         root: root.copy(alloc)?,

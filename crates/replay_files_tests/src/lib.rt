@@ -46,4 +46,6 @@ mod storage_faults;
 #[cfg(test)]
 mod storage_kinds;
 #[cfg(test)]
+mod texts;
+#[cfg(test)]
 mod trees;

@@ -1,175 +1,73 @@
 // What stands in the way of each call of storage_replay and of storage_databases, and each answer that tells of it.
-use crate::calls::Call::{Base, Rel};
-use crate::folders::FolderCall::{self, Make, Map};
-use crate::forks::ForkCall::{Bits, Create, Drop, Length, Read, Shared, Truncate, Write};
-use crate::rows::{Told, first_untold};
-use crate::trees::Had::{self, BadName, File, Filled, Folder, Link};
-use block_refs::Fork::{FreeSpace, Init, Main, Visibility};
+use crate::rows::check;
 use std::test::Fail;
 
 // Clusters with entries of wrong kinds among the files of relation 16384, and where databases lie.
-const FILES: &[Had<'static>] = &[
-    Filled("c/base/5/16384", 2, 16384),
-    Folder("c/base/5/16384.1"),
-    Link("c/base/5/16384_fsm"),
-    Folder("c/base/5/16384_vm"),
-    Link("c/base/5/16384_init"),
-    File("c/base/5/1638", b"x"),
-    Link("c/base/5/1638_vm"),
-    Folder("c/base/5/163_vm"),
-    Folder("c/base/5/PG_VERSION"),
-    Folder("c/base/5/pg_filenode.map"),
-    Link("c/base/6/PG_VERSION"),
-    Link("c/global"),
-    Link("d/base/5"),
-    File("e/base/5", b"x"),
-    BadName("g/base/5"),
-    Filled("g/base/5/16384", 2, 16384),
-    Link("h/base/5/16384"),
-    Link("h/base/5/16384_vm"),
-    Filled("k/base/5/16384", 2, 16384),
-    Link("k/base/5/16384.2"),
-    Folder("k/global/1262"),
-    Link("k/global/pg_filenode.map"),
-];
+const FILES: &str = "\
+filled c/base/5/16384 16384 2, folder c/base/5/16384.1, link c/base/5/16384_fsm, folder \
+    c/base/5/16384_vm, link c/base/5/16384_init, file c/base/5/1638 78, link c/base/5/1638_vm, \
+    folder c/base/5/163_vm, folder c/base/5/PG_VERSION, folder c/base/5/pg_filenode.map, link \
+    c/base/6/PG_VERSION, link c/global, link d/base/5, file e/base/5 78, bad g/base/5, filled \
+    g/base/5/16384 16384 2, link h/base/5/16384, link h/base/5/16384_vm, filled k/base/5/16384 \
+    16384 2, link k/base/5/16384.2, folder k/global/1262, link k/global/pg_filenode.map";
 
-// Maps of one byte: of database 5, and the shared one.
-const OWN: &[u8] = &[5, 0, 0, 0, 0x7F, 6, 0, 0, 1, 0, 0, 0, 9];
+const FORKS: &str = "\
+c rel length main = c/base/5/16384.1 is a folder
+c rel length fsm = c/base/5/16384_fsm is a link or a special file
+c rel read main 2 = c/base/5/16384.1 is a folder
+c rel read init 0 = c/base/5/16384_init is a link or a special file
+# Only the files up to the block's are asked.
+c rel read main 1 = page 2 2
+c rel write main 2 7 = c/base/5/16384.1 is a folder
+h rel write main 4 7 = h/base/5/16384 is a link or a special file
+e rel write main 0 7 = e/base/5 is not a folder
+d rel write main 0 7 = d/base/5 is a link or a special file
+n rel write main 0 7 = n is not a folder
+k rel shared 1262 = k/global/1262 is a folder
+c rel truncate 1 1 = c/base/5/16384.1 is a folder
+# Behind the cut a link stands in a gap.
+k rel truncate 1 1 = k/base/5/16384.2 is a link or a special file
+g rel truncate 1 1 = g/base/5 holds a name that is not UTF-8
+e rel truncate 1 1 = e/base/5 is not a folder
+c rel truncate 1 2 = c/base/5/16384_vm is a folder
+c rel create vm = c/base/5/16384_vm is a folder
+h rel create main = h/base/5/16384 is a link or a special file
+d rel create main = d/base/5 is a link or a special file
+e rel create main = e/base/5 is not a folder
+e rel drop 1638 = e/base/5 is not a folder
+d rel drop 1638 = d/base/5 is a link or a special file
+g rel drop 1638 = g/base/5 holds a name that is not UTF-8
+c rel drop 1638 = c/base/5/1638_vm is a link or a special file
+c rel drop 163 = c/base/5/163_vm is a folder
+c rel bits 0 3 = c/base/5/16384_vm is a folder
+h rel bits 0 3 = h/base/5/16384_vm is a link or a special file
+# No file of the map stands, though its folder isn't one.
+e rel bits 0 3 = done";
 
-const SHARED: &[u8] = &[0, 0, 0, 0, 0x80, 6, 0, 0, 1, 0, 0, 0, 9];
-
-const FORKS: [Told<'static>; 28] = [
-    ("c", Rel(Length(Main)), "c/base/5/16384.1 is a folder"),
-    (
-        "c",
-        Rel(Length(FreeSpace)),
-        "c/base/5/16384_fsm is a link or a special file",
-    ),
-    ("c", Rel(Read(Main, 2)), "c/base/5/16384.1 is a folder"),
-    (
-        "c",
-        Rel(Read(Init, 0)),
-        "c/base/5/16384_init is a link or a special file",
-    ),
-    // Only the files up to the block's are asked.
-    ("c", Rel(Read(Main, 1)), "page 2 2"),
-    ("c", Rel(Write(Main, 2, 7)), "c/base/5/16384.1 is a folder"),
-    (
-        "h",
-        Rel(Write(Main, 4, 7)),
-        "h/base/5/16384 is a link or a special file",
-    ),
-    ("e", Rel(Write(Main, 0, 7)), "e/base/5 is not a folder"),
-    (
-        "d",
-        Rel(Write(Main, 0, 7)),
-        "d/base/5 is a link or a special file",
-    ),
-    ("n", Rel(Write(Main, 0, 7)), "n is not a folder"),
-    ("k", Rel(Shared(1262)), "k/global/1262 is a folder"),
-    ("c", Rel(Truncate(1, 1)), "c/base/5/16384.1 is a folder"),
-    // Behind the cut a link stands in a gap.
-    (
-        "k",
-        Rel(Truncate(1, 1)),
-        "k/base/5/16384.2 is a link or a special file",
-    ),
-    (
-        "g",
-        Rel(Truncate(1, 1)),
-        "g/base/5 holds a name that is not UTF-8",
-    ),
-    ("e", Rel(Truncate(1, 1)), "e/base/5 is not a folder"),
-    ("c", Rel(Truncate(1, 2)), "c/base/5/16384_vm is a folder"),
-    (
-        "c",
-        Rel(Create(Visibility)),
-        "c/base/5/16384_vm is a folder",
-    ),
-    (
-        "h",
-        Rel(Create(Main)),
-        "h/base/5/16384 is a link or a special file",
-    ),
-    (
-        "d",
-        Rel(Create(Main)),
-        "d/base/5 is a link or a special file",
-    ),
-    ("e", Rel(Create(Main)), "e/base/5 is not a folder"),
-    ("e", Rel(Drop(1638)), "e/base/5 is not a folder"),
-    ("d", Rel(Drop(1638)), "d/base/5 is a link or a special file"),
-    (
-        "g",
-        Rel(Drop(1638)),
-        "g/base/5 holds a name that is not UTF-8",
-    ),
-    (
-        "c",
-        Rel(Drop(1638)),
-        "c/base/5/1638_vm is a link or a special file",
-    ),
-    ("c", Rel(Drop(163)), "c/base/5/163_vm is a folder"),
-    ("c", Rel(Bits(0, 3)), "c/base/5/16384_vm is a folder"),
-    (
-        "h",
-        Rel(Bits(0, 3)),
-        "h/base/5/16384_vm is a link or a special file",
-    ),
-    // No file of the map stands, though its folder isn't one.
-    ("e", Rel(Bits(0, 3)), "done"),
-];
-
-const DATABASES: [Told<'static>; 15] = [
-    ("c", Base(Make(5)), "c/base/5/PG_VERSION is a folder"),
-    (
-        "c",
-        Base(Make(6)),
-        "c/base/6/PG_VERSION is a link or a special file",
-    ),
-    ("e", Base(Make(5)), "e/base/5 is not a folder"),
-    ("d", Base(Make(5)), "d/base/5 is a link or a special file"),
-    ("n", Base(Make(5)), "n is not a folder"),
-    ("e", Base(FolderCall::Drop(5)), "e/base/5 is not a folder"),
-    (
-        "d",
-        Base(FolderCall::Drop(5)),
-        "d/base/5 is a link or a special file",
-    ),
-    (
-        "g",
-        Base(FolderCall::Drop(5)),
-        "g/base/5 holds a name that is not UTF-8",
-    ),
-    (
-        "k",
-        Base(FolderCall::Drop(5)),
-        "k/base/5/16384.2 is a link or a special file",
-    ),
-    ("n", Base(FolderCall::Drop(5)), "done"),
-    ("c", Base(Map(OWN)), "c/base/5/pg_filenode.map is a folder"),
-    (
-        "k",
-        Base(Map(SHARED)),
-        "k/global/pg_filenode.map is a link or a special file",
-    ),
-    (
-        "c",
-        Base(Map(SHARED)),
-        "c/global is a link or a special file",
-    ),
-    ("e", Base(Map(OWN)), "e/base/5 is not a folder"),
-    ("n", Base(Map(OWN)), "n is not a folder"),
-];
+// The maps are of one byte: of database 5, and the shared one.
+const DATABASES: &str = "\
+c base make 5 = c/base/5/PG_VERSION is a folder
+c base make 6 = c/base/6/PG_VERSION is a link or a special file
+e base make 5 = e/base/5 is not a folder
+d base make 5 = d/base/5 is a link or a special file
+n base make 5 = n is not a folder
+e base drop 5 = e/base/5 is not a folder
+d base drop 5 = d/base/5 is a link or a special file
+g base drop 5 = g/base/5 holds a name that is not UTF-8
+k base drop 5 = k/base/5/16384.2 is a link or a special file
+n base drop 5 = done
+c base map 050000007f0600000100000009 = c/base/5/pg_filenode.map is a folder
+k base map 00000000800600000100000009 = k/global/pg_filenode.map is a link or a special file
+c base map 00000000800600000100000009 = c/global is a link or a special file
+e base map 050000007f0600000100000009 = e/base/5 is not a folder
+n base map 050000007f0600000100000009 = n is not a folder";
 
 #[test]
 fn each_wrong_kind_is_told_by_the_calls_on_forks(rt: HostRuntime) -> Result<(), Fail> {
-    assert_eq!(rt; first_untold(rt.alloc(), FILES, &FORKS)?, None);
-    Ok(())
+    check(&rt, FILES, FORKS)
 }
 
 #[test]
 fn each_wrong_kind_is_told_by_the_calls_on_databases(rt: HostRuntime) -> Result<(), Fail> {
-    assert_eq!(rt; first_untold(rt.alloc(), FILES, &DATABASES)?, None);
-    Ok(())
+    check(&rt, FILES, DATABASES)
 }
