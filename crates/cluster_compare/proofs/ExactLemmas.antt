@@ -15,7 +15,7 @@ use Rattle.cluster_compare.specs.Same.{IsSameCluster, differ_at, is_left_out, un
 use Rattle.cluster_compare.specs.Compared.{pair_difference, verdict}
 use Rattle.cluster_compare.specs.declared.compared.Compared.{Compared}
 use Rattle.cluster_compare.specs.declared.compared.Compared.TheVariants.{Same, Differs}
-use Rattle.cluster_compare.proofs.StandLemmas.{is-among, more_than_none, not-there, own-path, root-folder}
+use Rattle.file_walk.proofs.StandLemmas.{is-among, more_than_none, not-there, own-path, root-folder}
 
 or_cases : (a b : Bool) → (a || b) ≡ true → (a ≡ true) ⊎ (b ≡ true)
 or_cases true b h = inl refl

@@ -1,4 +1,3 @@
-pub mod StandLemmas
 pub mod PlaceLemmas
 pub mod BlockLemmas
 pub mod ByteLemmas

@@ -15,7 +15,8 @@ use Rattle.cluster_compare.specs.declared.compared.Compared.TheVariants.{Same, D
 use Rattle.cluster_compare.specs.Compared.{pair_difference, verdict}
 use Rattle.cluster_compare.specs.Looks.{AreToldPairs, IsTold, IsToldPair}
 use Rattle.cluster_compare.specs.Same.{differ_at, unlogged_in}
-use Rattle.cluster_compare.proofs.StandLemmas.{IsOwn, is-among, kind-told, no-link, not-deep, own-path}
+use Rattle.file_walk.specs.Laws.{IsOwn}
+use Rattle.file_walk.proofs.StandLemmas.{is-among, kind-told, no-link, not-deep, own-path}
 
 or_cases : (a b : Bool) → (a || b) ≡ true → (a ≡ true) ⊎ (b ≡ true)
 or_cases true b h = inl refl

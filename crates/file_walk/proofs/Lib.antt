@@ -20,3 +20,4 @@ pub mod ListedLemmas
 pub mod InOrderLemmas
 pub mod MergeLemmas
 pub mod EachLemmas
+pub mod StandLemmas

@@ -19,7 +19,9 @@ pub use entries::Entries;
 pub use entry::{Entry, EntryKind};
 pub use excluding::excluded;
 pub use fault::WalkFault;
-pub use laws::{excluded_below, relation_files_lie_there, walks_are_in_order};
+pub use laws::{
+    excluded_below, paths_are_of_either, relation_files_lie_there, walks_are_in_order, walks_tell_all,
+};
 pub use pair::{Pair, pair_up};
 pub use relation::is_relation_file;
 pub use walking::walk;

@@ -15,37 +15,13 @@ use Rattle.cluster_tree.specs.PathValue.{PathValue, path_cmp, path_of, path_text
 use Rattle.cluster_tree.proofs.OrderLemmas.{path_cmp_total, path_eq-other, path_eq-own, same_path}
 use Rattle.file_walk.specs.declared.entry.Entry.{Entry}
 use Rattle.file_walk.specs.declared.entry.EntryKind.{EntryKind}
+use Rattle.file_walk.specs.Laws.{IsOwn}
 use Rattle.file_walk.specs.Pairs.{kind_at, kind_in, pair_at, paths_of}
 use Rattle.file_walk.proofs.ClosedLemmas.{front_less}
 use Rattle.file_walk.proofs.PlaceLemmas.{text_below}
 use Rattle.file_walk.proofs.QueueLemmas.{text_cmp}
 use Rattle.rewind_plan.specs.Sides.{AreInTurn, is_at}
 use Rattle.rewind_plan.proofs.SideLemmas.{Ended, ended, parent-of}
-use Rattle.rewind_plan.proofs.WalkLemmas.{IsOwn}
-
--- ---- a path is of both where it is of one
-
-find_either : {X : Type 0} (q : PathValue) (xs ys : List (PathValue × X)) → is_some (find path_cmp q (xs ++ ys)) ≡ (is_some (find path_cmp q xs) || is_some (find path_cmp q ys))
-unfolding path_eq
-find_either q [] ys = refl
-find_either q (x ∷ xs) ys = by (path_eq q x.0) (find_either q xs ys)
-  where
-    by : (b : Bool) → is_some (find path_cmp q (xs ++ ys)) ≡ (is_some (find path_cmp q xs) || is_some (find path_cmp q ys))
-        → is_some (cond b (Some x.1) (find path_cmp q (xs ++ ys))) ≡ (is_some (cond b (Some x.1) (find path_cmp q xs)) || is_some (find path_cmp q ys))
-    by true rest = refl
-    by false rest = rest
-
-both_kinds : (ts ss : List Entry) → map kind_at (ts ++ ss) ≡ map kind_at ts ++ map kind_at ss
-both_kinds [] ss = refl
-both_kinds (t ∷ ts) ss = ap (λ l. kind_at t ∷ l) (both_kinds ts ss)
-
-pub is-among : (ts ss : List Entry) (q : PathValue) → list_any (path_eq q) (paths_of ts ss) ≡ (is_some (kind_in ts q) || is_some (kind_in ss q))
-unfolding path_eq
-is-among ts ss q =
-    sym (contains_key-keys (from_entries {R = path_cmp} (map kind_at (ts ++ ss))) q)
-    ∙ ap is_some (get-from_entries path_cmp_total (map kind_at (ts ++ ss)) q ∙ ap (find path_cmp q) (both_kinds ts ss))
-    ∙ find_either q (map kind_at ts) (map kind_at ss)
-    ∙ sym (ap₂ (λ (a b : Option EntryKind). is_some a || is_some b) (get-from_entries path_cmp_total (map kind_at ts) q) (get-from_entries path_cmp_total (map kind_at ss) q))
 
 -- a pair stands at its path
 pub at-paths : (ts ss : List Entry) (q : PathValue) (ks : List PathValue) → list_any (is_at q) (map (pair_at ts ss) ks) ≡ list_any (path_eq q) ks

@@ -9,15 +9,17 @@ use Rattle.cluster_tree.proofs.OrderLemmas.{path_eq-own, same_path}
 use Rattle.control_file.specs.declared.control.Control.{Control}
 use Rattle.file_walk.specs.declared.entry.Entry.{Entry}
 use Rattle.file_walk.specs.declared.pair.Pair.{Pair}
+use Rattle.file_walk.specs.Laws.{IsOwn}
 use Rattle.file_walk.specs.Pairs.{kind_in, pair_at, pairs_of, paths_of}
+use Rattle.file_walk.proofs.StandLemmas.{is-among, own-path}
 use Rattle.rewind_plan.specs.Checks.{first_difference, first_path, is_difference}
 use Rattle.rewind_plan.specs.Planned.{Between, action_of}
 use Rattle.rewind_plan.specs.Sides.{AllPaired, IsKind, IsPaired, Sides, is_at}
 use Rattle.rewind_plan.specs.Walks.{IsWalked}
 use Rattle.rewind_plan.proofs.FoundOutLemmas.{control-read, kept-there, no-mark}
 use Rattle.rewind_plan.proofs.PlaceLemmas.{there_kind}
-use Rattle.rewind_plan.proofs.TurnLemmas.{at-paths, in-turn, is-among}
-use Rattle.rewind_plan.proofs.WalkLemmas.{IsOwn, kind-stands, own-path, root-folder, whole-blocks}
+use Rattle.rewind_plan.proofs.TurnLemmas.{at-paths, in-turn}
+use Rattle.rewind_plan.proofs.WalkLemmas.{folder-stands, kind-stands, whole-blocks}
 
 or_cases : (a b : Bool) → (a || b) ≡ true → (a ≡ true) ⊎ (b ≡ true)
 or_cases true b h = inl refl
@@ -64,7 +66,7 @@ module _ (c : Contents) (w : Between) (target source : Control) (ts ss : List En
         source = subst (λ p. IsKind (kind_in ss p) (entry_at c (below w.source k.parts))) whole (source_kind k.parts its.1);
         some = one_of k among;
         agreed = λ e. true≢false (sym (ap is_difference e) ∙ alike);
-        blocks = λ is. (whole-blocks c w.target ts seen.walk k is, whole-blocks c w.source ss other.walk k is);
+        blocks = λ is. (whole-blocks c w.target ts seen.walk seen.parts k is, whole-blocks c w.source ss other.walk other.parts k is);
       }
 
   abbrev differs : Pair → Bool
@@ -97,8 +99,8 @@ module _ (c : Contents) (w : Between) (target source : Control) (ts ss : List En
   walks-fit tree apart none = record {
     apart = apart;
     tree = tree;
-    target_root = root-folder c w.target ts seen.walk;
-    source_root = root-folder c w.source ss other.walk;
+    target_root = folder-stands c w.target ts seen.walk;
+    source_root = folder-stands c w.source ss other.walk;
     paired = paired_from (paths_of ts ss) (λ k among. among) none;
     turn = in-turn ts ss own;
     whole = whole_at;

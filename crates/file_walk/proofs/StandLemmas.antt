@@ -15,6 +15,7 @@ use Rattle.file_walk.specs.declared.entry.EntryKind.{EntryKind}
 use Rattle.file_walk.specs.declared.entry.EntryKind.TheVariants as kind
 use Rattle.file_walk.specs.declared.fault.WalkFault.{WalkFault}
 use Rattle.file_walk.specs.declared.fault.WalkFault.TheVariants as fault
+use Rattle.file_walk.specs.Laws.{IsOwn, IsSound, TellsAll}
 use Rattle.file_walk.specs.Pairs.{kind_at, kind_in, paths_of}
 use Rattle.file_walk.specs.Walk.{HasParts, entry_flaw, flaw_at, found_below, from_root, kind_of_entry, kind_there, lies_below, root_flaw, walk_of, walked}
 use Rattle.file_walk.proofs.AscendLemmas.{deeper, found, found_by, proper_below}
@@ -100,9 +101,6 @@ found_there c root proper parts deep = by (list_all is_part (below root parts).p
     by false is = find_none root parts is (entries c) ∙ sym (none_there (entry_at c (below root parts)) (λ there. true≢false (sym (proper parts there) ∙ is)))
 
 -- all that is found has a path from the root on, with a part or more
-abbrev pub IsOwn : PathValue → Type 0
-IsOwn path = (path.absolute ≡ false) × (length path.parts == 0 ≡ false)
-
 not_zero : (n m k : ℕ) → n < m → k ≡ m - n → k == 0 ≡ false
 not_zero n m k h e = grind (arith, nat_tests, h, e)
 
@@ -134,6 +132,10 @@ first_none (Some e) rest h = absurd (cc h)
 abbrev IsFlawless : (depth : ℕ) → PathValue → Option Entry → Type 0
 IsFlawless depth q None = Unit {0}
 IsFlawless depth q (Some e) = (entry_flaw q e ≡ None) × (depth + length q.parts ≤ 64)
+
+sound_of : (depth : ℕ) (q : PathValue) (o : Option Entry) → IsFlawless depth q o → IsSound q o
+sound_of depth q None flawless = tt
+sound_of depth q (Some e) flawless = flawless.0
 
 not_less : (n : ℕ) → nat_lt 64 n ≡ false → n ≤ 64
 not_less n h = grind (arith, nat_tests, h)
@@ -220,9 +222,6 @@ module _ (c : Contents) (root : PathValue) (es : List Walked) (walk : walk_of c 
       ∙ ap (λ l. find path_cmp q (map kind_at l)) (sym read.entries_are)
       ∙ told_at (length root.parts) (found_below c root) q read.flawless
 
-  pub root-folder : entry_at c root ≡ Some (FolderEntry false)
-  root-folder = clean_root root (entry_at c root) read.folder
-
   -- each path of it is one from the root on, with a part or more
   pub own-path : (q : PathValue) → is_some (kind_in es q) ≡ true → IsOwn q
   unfolding found_below
@@ -239,22 +238,32 @@ module _ (c : Contents) (root : PathValue) (es : List Walked) (walk : walk_of c 
       by None flawless h = absurd (true≢false (sym h))
       by (Some e) flawless h = flawless.1
 
+  pub root-folder : entry_at c root ≡ Some (FolderEntry false)
+  root-folder = clean_root root (entry_at c root) read.folder
+
   module _ (proper : HasParts c root) (parts : List (List ℕ)) (deep : length parts == 0 ≡ false) where
     -- it has the kind of what stands there
     pub kind-told : kind_in es (path_of false parts) ≡ kind_there (entry_at c (below root parts))
     kind-told = kind_is (path_of false parts) ∙ ap kind_there (found_there c root proper parts deep)
 
-    -- which is no link
+    -- which has no flaw
+    pub sound-there : IsSound (path_of false parts) (entry_at c (below root parts))
+    sound-there =
+        subst (IsSound (path_of false parts)) (found_there c root proper parts deep)
+        (sound_of (length root.parts) (path_of false parts) (find path_cmp (path_of false parts) (found_below c root)) (flawless_there (path_of false parts)))
+
+    -- and is no link
     pub no-link : entry_at c (below root parts) ≢ Some LinkEntry
-    no-link link =
-        let flawless = subst (IsFlawless (length root.parts) (path_of false parts)) (found_there c root proper parts deep ∙ link) (flawless_there (path_of false parts)) in
-        absurd (let no_way : Some (fault.Link (path_of false parts)) ≡ None = flawless.0 in cc)
+    no-link link = absurd (let no_way : Some (fault.Link (path_of false parts)) ≡ None = subst (IsSound (path_of false parts)) link sound-there in cc)
 
     -- what it doesn't have isn't there
     pub not-there : is_some (kind_in es (path_of false parts)) ≡ false → entry_at c (below root parts) ≡ None
     not-there h = kindless (entry_at c (below root parts)) (sym (ap is_some kind-told) ∙ h) no-link
 
--- ---- a path is of both where it is of one
+  pub tells-all : TellsAll c root es
+  tells-all = record { folder = root-folder; own = λ q h. (own-path q h, not-deep q h); kind = kind-told; sound = sound-there }
+
+-- ---- a path is one of both walks' where either has it
 
 find_either : {X : Type 0} (q : PathValue) (xs ys : List (PathValue × X)) → is_some (find path_cmp q (xs ++ ys)) ≡ (is_some (find path_cmp q xs) || is_some (find path_cmp q ys))
 unfolding path_eq
