@@ -30,6 +30,7 @@ module _ (c : Contents) (n : Needing) (plan : Plan) (is : IsPlanFor c n plan) wh
 
   left : {k l : List ChangeCall} (c' : Contents) → Runs (plan_changes c plan.writes) k l c c' true → IsRewound c n c'
   left c' runs = record {
+    sides = is.sides;
     inside = λ parts. ap (λ c. entry_at c (below n.aim.between.target parts)) (runs.after refl)
         ∙ plan-leaves-all c n.aim.between n.pairs n.aim.control n.aim.label plan.writes is.sides is.writes parts;
     elsewhere = λ path out. runs.elsewhere path (plan-below c n.aim.between n.pairs n.aim.control n.aim.label plan.writes is.sides is.writes path out);

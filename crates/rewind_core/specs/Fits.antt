@@ -75,8 +75,9 @@ IsFitPlanned planned.SameTimeline = Unit {0}
 IsFitPlanned (planned.EndsAtFork at) = Unit {0}
 IsFitPlanned (planned.Needed plan) = AllAreFit plan.writes.steps.items
 
--- below the target's root stands the rewound tree, path by path, and all that lies elsewhere stays
+-- the clusters were walked, side by side; below the target's root stands the rewound tree, path by path, and all that lies elsewhere stays
 pub record IsRewound (c : Contents) (n : Needing) (c' : Contents) : Type 0 where
+  pub sides : Sides c n.aim.between n.pairs
   pub inside : (parts : List (List ℕ)) → entry_at c' (below n.aim.between.target parts) ≡ rewound (rewinding c n.aim.between n.aim.control n.aim.label) parts
   pub elsewhere : (path : PathValue) → (Holds n.aim.between.target path → ⊥) → entry_at c' path ≡ entry_at c path
 
