@@ -1,0 +1,8 @@
+//! A rewound target, and a whole copy of its source: replay of the source's log over both.
+#![tactic(auto)]
+
+mod alike;
+mod needed;
+
+pub use alike::rewound_is_alike;
+pub use needed::{needed_has_sides, planned_is_needed};
