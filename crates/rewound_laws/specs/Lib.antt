@@ -1,3 +1,5 @@
 pub mod Needed
 pub mod Copy
 pub mod Alike
+pub mod Grew
+pub mod Blocks

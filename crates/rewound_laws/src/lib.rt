@@ -2,7 +2,9 @@
 #![tactic(auto)]
 
 mod alike;
+mod blocks;
 mod needed;
 
 pub use alike::rewound_is_alike;
+pub use blocks::{blocks_fit, copies_have_kinds, rewound_blocks};
 pub use needed::{needed_has_sides, planned_is_needed};
