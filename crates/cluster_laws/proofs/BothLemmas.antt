@@ -1,5 +1,5 @@
 -- Two alike clusters of the kinds that servers leave are both replayed to the end.
-use Rattle.std.proofs.Common.{◌≡◌, ℕ, true, false, List, [], length, Option, Result, Ok, Err, refl, sym, ap, subst, ◌∙◌, true≢false, arith}
+use Rattle.std.proofs.Common.{◌≡◌, ℕ, List, [], length, Option, Result, Ok, Err, refl, sym, ap, subst, ◌∙◌, arith}
 use Rattle.alike_clusters.specs.Clusters.{AlikeClusters}
 use Rattle.block_refs.specs.declared.names.BlockName.{BlockName}
 use Rattle.block_replay.specs.declared.faults.RecordFault.{RecordFault}
@@ -18,8 +18,6 @@ use Rattle.replay_core.specs.Replayed.{After, after_replay, closed, closed_or, e
 use Rattle.replay_laws.specs.Log.{AreTaken, HoldsBytes}
 use Rattle.replay_laws.specs.Refusals.{SomeLacksLayout}
 use Rattle.replay_laws.proofs.CheckedLemmas.{start-taken}
-use Rattle.replay_laws.proofs.ConvergeLemmas.{blocks-converge}
-use Rattle.replay_laws.proofs.RefusalLemmas.{not-refused_at}
 use Rattle.replay_start.specs.Checked.{Start, start_of}
 use Rattle.replay_start.specs.declared.fault.ReplayFault.{ReplayFault}
 use Rattle.replay_world.specs.Records.{records_after}
@@ -28,9 +26,9 @@ use Rattle.page_layout.specs.declared.refusal.RedoWhy.{RedoWhy}
 use Rattle.wal_base.specs.declared.lsn.Lsn.{Lsn}
 use Rattle.cluster_laws.specs.Converging.{IsBased}
 use Rattle.cluster_laws.specs.Replays.{BothEnd}
+use Rattle.cluster_laws.proofs.BasedLemmas.{based-goes, none-left}
 use Rattle.cluster_laws.proofs.EndLemmas.{mark_parts}
 use Rattle.cluster_laws.proofs.ReplayLemmas.{ends-as}
-use Rattle.cluster_laws.proofs.SkippedLemmas.{log-main, none-skipped}
 
 abbrev OkAfter : After → Result After ReplayFault
 OkAfter a = Ok a
@@ -52,7 +50,7 @@ module _ (base : BlockName → Option (List ℕ)) (redo : ℕ) (c d : Contents) 
       subst (HasKinds root) (sym (written-new c (below root mark_parts) mark_text)) (put-kinds root mark_parts (FileEntry mark_text) c (omega arith) tt kinds)
 
   refused : (at : Lsn) (name : BlockName) (why : RedoWhy) → records_after root per s.records first ≡ Err (RedoFailed at name why) → ⊥
-  refused at name why is = not-refused_at root per s.label.start.0 redo base s.records at name why first taken enough one.begins (λ block main. (one.life block main, one.fits block main)) is
+  refused at name why is = based-goes base s.label.start.0 redo s.records root per first taken one enough at name why is
 
   record Left : Type 0 where
     world : World
@@ -67,9 +65,7 @@ module _ (base : BlockName → Option (List ℕ)) (redo : ℕ) (c d : Contents) 
   left = left_by (records_after root per s.records first) refl (log-finds root per s.records first begun_kinds)
 
   none : left.world.skipped ≡ []
-  none =
-      none-skipped left.world.skipped (log-main root per s.label.start.0 s.records first left.world taken (λ name among. absurd (true≢false (sym among))) left.is)
-      (λ name main. (blocks-converge name s.label.start.0 redo (base name) s.records root root per per first left.world first left.world main taken (one.life name main) one.begins (one.fits name main) one.begins (one.fits name main) left.is left.is).0)
+  none = none-left base s.label.start.0 redo s.records root per first taken one left.world left.is
 
   abbrev after : After
   after = closed root (timeline_of s.control) (length s.records) (end_of s) left.world

@@ -1,5 +1,5 @@
 -- What a replay does before its first record and behind its last one leaves alike clusters alike, and blocks as they were.
-use Rattle.std.proofs.Common.{◌≡◌, ◌≢◌, ℕ, ◌<◌, ◌≤◌, ◌==◌, ◌%◌, ◌/◌, Bool, true, false, decimal, List, [], ◌∷◌, ◌++◌, codes, length, Option, None, Some, is_some, inl, inr, ⊎_elim, refl, sym, ap, subst, ◌∙◌, true≢false, arith}
+use Rattle.std.proofs.Common.{◌≡◌, ◌≢◌, ℕ, ◌^◌, ◌<◌, ◌≤◌, ◌==◌, ◌%◌, ◌/◌, Bool, true, false, decimal, List, [], ◌∷◌, ◌++◌, codes, length, Option, None, Some, is_some, inl, inr, ⊎_elim, refl, sym, ap, subst, ◌∙◌, true≢false, arith}
 use Rattle.std.specs.Prelude.{if◌then◌else◌}
 use Rattle.std.proofs.lemmas.List.{append_cancel_left, length-append}
 use Rattle.std.specs.FinMap.{get, insert, remove}
@@ -8,10 +8,12 @@ use Rattle.alike_clusters.proofs.LikeLemmas.{like-plain, same-bytes}
 use Rattle.alike_clusters.proofs.NameLemmas.{file-lies, file_parts, main-unmarked}
 use Rattle.alike_clusters.proofs.StepLemmas.{Shrinks, shrinks-shallow}
 use Rattle.block_refs.specs.declared.names.BlockName.{BlockName}
-use Rattle.block_refs.specs.declared.names.Fork.TheVariants.{Main}
+use Rattle.block_refs.specs.declared.names.Fork.{Fork}
+use Rattle.block_refs.specs.declared.names.Fork.TheVariants.{Init, Main}
 use Rattle.block_refs.specs.declared.names.RelName.{RelName}
+use Rattle.cluster_compare.specs.Same.{has_init}
 use Rattle.cluster_tree.specs.Change.{all_changed}
-use Rattle.cluster_tree.specs.Contents.{Contents, Entry, FileEntry, entry_at}
+use Rattle.cluster_tree.specs.Contents.{Contents, Entry, FileEntry, entry_at, is_file}
 use Rattle.cluster_tree.specs.PathValue.{PathValue, below, path_of}
 use Rattle.cluster_tree.specs.Tree.{bytes_at, bytes_in, written}
 use Rattle.cluster_tree.proofs.ContentsLemmas.{entry-put, entry-put_other, entry-removed_other, get-removed, get-removed_other, written-new}
@@ -24,10 +26,14 @@ use Rattle.file_walk.specs.Relations.{relation_of}
 use Rattle.layout.specs.Splice.{splice}
 use Rattle.relation_files.specs.Names.{name_of}
 use Rattle.relation_files.specs.Paths.{database_parts, global_parts, relation_file}
+use Rattle.relation_files.specs.Reading.{file_named}
+use Rattle.relation_files.specs.declared.file_name.FileName.{FileName}
 use Rattle.relation_files.proofs.CutLemmas.{without}
 use Rattle.replay_core.specs.Replayed.{beginning, closing, mark_text}
 use Rattle.replay_laws.specs.Held.{IsMainBlock}
 use Rattle.storage_laws.specs.States.{page_in, page_or_none, whole_block}
+use Rattle.storage_laws.proofs.FileLemmas.{file-named}
+use Rattle.wal_base.specs.Decimal.{decimal_number}
 use Rattle.std.specs.Option.{option_and_then}
 use Rattle.cluster_laws.proofs.StartLemmas.{control-no_version, control-not_main, control-path}
 
@@ -122,33 +128,46 @@ module _ (per : ℕ) (root other : PathValue) where
       (ap (λ b. is_alike per control_parts (splice (bytes_at c (below root control_parts)) 0 (control_bytes v)) (splice b 0 (control_bytes v))) (sym (bytes_same c d both))
       ∙ like-plain per control_parts control-not_main (splice (bytes_at c (below root control_parts)) 0 (control_bytes v))) both))))
 
--- ---- none of these is a file of a main fork
+-- ---- none of these is a file of a relation
 
+-- a name of a main fork has no underscore, and one of an init fork is read as a file's
 control_marked : without 95 (codes "pg_control") ≡ false
 unfolding without
 control_marked = refl
+
+control_unnamed : file_named (codes "pg_control") ≡ None
+unfolding file_named decimal_number
+control_unnamed = refl
+
+main_other : (relation segment : ℕ) → name_of relation Main segment ≢ codes "pg_control"
+main_other relation segment same = true≢false (sym (main-unmarked relation segment) ∙ ap (without 95) same ∙ control_marked)
+
+some_none : {file : FileName} → Some file ≡ None → ⊥
+some_none e = absurd cc
+
+init_other : (relation : ℕ) → relation < 2 ^ 32 → name_of relation Init 0 ≢ codes "pg_control"
+init_other relation small same = some_none (sym (file-named relation Init 0 small (omega arith)) ∙ ap file_named same ∙ control_unnamed)
 
 one_part : (t : Bool) (database : ℕ) (name x : List ℕ) → (if t then global_parts else database_parts database) ++ name ∷ [] ≡ x ∷ [] → ⊥
 one_part true database name x e = let more : name ∷ [] ≡ [] = cc in absurd cc
 one_part false database name x e = let more : decimal database ∷ name ∷ [] ≡ [] = cc in absurd cc
 
-two_parts : (t : Bool) (database relation segment : ℕ) → (if t then global_parts else database_parts database) ++ name_of relation Main segment ∷ [] ≡ control_parts → ⊥
-two_parts true database relation segment e =
-    let same : name_of relation Main segment ≡ codes "pg_control" = cc in
-    true≢false (sym (main-unmarked relation segment) ∙ ap (without 95) same ∙ control_marked)
-two_parts false database relation segment e = let more : name_of relation Main segment ∷ [] ≡ [] = cc in absurd cc
+two_parts : (t : Bool) (database : ℕ) (name : List ℕ) → name ≢ codes "pg_control" → (if t then global_parts else database_parts database) ++ name ∷ [] ≡ control_parts → ⊥
+two_parts true database name other e = let same : name ≡ codes "pg_control" = cc in other same
+two_parts false database name other e = let more : name ∷ [] ≡ [] = cc in absurd cc
 
-apart_from : (root : PathValue) (rel : RelName) (segment : ℕ) (special : List (List ℕ)) → (file_parts rel Main segment ≡ special → ⊥) → relation_file root rel Main segment ≢ below root special
-apart_from root rel segment special apart e = apart (append_cancel_left root.parts (file_parts rel Main segment) special (ap (λ (p : PathValue). p.parts) (sym (file-lies root rel Main segment) ∙ e)))
+apart_from : (root : PathValue) (rel : RelName) (fork : Fork) (segment : ℕ) (special : List (List ℕ)) → (file_parts rel fork segment ≡ special → ⊥) → relation_file root rel fork segment ≢ below root special
+apart_from root rel fork segment special apart e = apart (append_cancel_left root.parts (file_parts rel fork segment) special (ap (λ (p : PathValue). p.parts) (sym (file-lies root rel fork segment) ∙ e)))
 
-module _ (per : ℕ) (root : PathValue) (c : Contents) (v : Control) (rel : RelName) (segment : ℕ) where
-  pub entry-closed : entry_at (all_changed c (closing root v)) (relation_file root rel Main segment) ≡ entry_at c (relation_file root rel Main segment)
-  entry-closed =
-      let path = relation_file root rel Main segment in
+module _ (per : ℕ) (root : PathValue) (c : Contents) (v : Control) (rel : RelName) (fork : Fork) (segment : ℕ) (other : name_of rel.relation fork segment ≢ codes "pg_control") where
+  entry_closed : entry_at (all_changed c (closing root v)) (relation_file root rel fork segment) ≡ entry_at c (relation_file root rel fork segment)
+  entry_closed =
+      let path = relation_file root rel fork segment in
+      let name = name_of rel.relation fork segment in
       let put : Contents = insert c (below root control_parts) (FileEntry (splice (bytes_at c (below root control_parts)) 0 (control_bytes v))) in
-      let control_apart : path ≢ below root control_parts = apart_from root rel segment control_parts (two_parts (rel.space == 1664) rel.database rel.relation segment) in
-      let label_apart : path ≢ below root label_parts = apart_from root rel segment label_parts (one_part (rel.space == 1664) rel.database (name_of rel.relation Main segment) (codes "backup_label")) in
-      let mark_apart : path ≢ below root mark_parts = apart_from root rel segment mark_parts (one_part (rel.space == 1664) rel.database (name_of rel.relation Main segment) (codes "pg_walreplay.unfinished")) in
+      let control_apart : path ≢ below root control_parts = apart_from root rel fork segment control_parts (two_parts (rel.space == 1664) rel.database name other) in
+      let label_apart : path ≢ below root label_parts = apart_from root rel fork segment label_parts (one_part (rel.space == 1664) rel.database name (codes "backup_label")) in
+      let mark_apart : path ≢ below root mark_parts = apart_from root rel fork segment mark_parts (one_part (rel.space == 1664) rel.database name (codes "pg_walreplay.unfinished")) in
       ap (λ e. entry_at e path) (closed_is per root root root c v)
       ∙ entry-removed_other (remove put (below root label_parts)) (below root mark_parts) path mark_apart
       ∙ entry-removed_other put (below root label_parts) path label_apart
@@ -158,4 +177,7 @@ pub page-closed : (root : PathValue) (per : ℕ) (c : Contents) (v : Control) (n
 page-closed root per c v name main =
     subst (λ f. option_and_then page_or_none (whole_block (name.block % per) (bytes_at (all_changed c (closing root v)) (relation_file root name.rel f (name.block / per))))
     ≡ option_and_then page_or_none (whole_block (name.block % per) (bytes_at c (relation_file root name.rel f (name.block / per))))) (sym main.main)
-    (ap (λ o. option_and_then page_or_none (whole_block (name.block % per) (bytes_in o))) (entry-closed per root c v name.rel (name.block / per)))
+    (ap (λ o. option_and_then page_or_none (whole_block (name.block % per) (bytes_in o))) (entry_closed per root c v name.rel Main (name.block / per) (main_other name.rel.relation (name.block / per))))
+
+pub init-closed : (root : PathValue) (per : ℕ) (c : Contents) (v : Control) (rel : RelName) → rel.relation < 2 ^ 32 → has_init (all_changed c (closing root v)) root rel ≡ has_init c root rel
+init-closed root per c v rel small = ap is_file (entry_closed per root c v rel Init 0 (init_other rel.relation small))

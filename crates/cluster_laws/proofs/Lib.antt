@@ -2,10 +2,11 @@ pub mod AgreeLemmas
 pub mod KeptLemmas
 pub mod ChangeLemmas
 pub mod RecordLemmas
+pub mod SkippedLemmas
+pub mod BasedLemmas
 pub mod ConvergeLemmas
 pub mod SameLemmas
 pub mod StartLemmas
-pub mod SkippedLemmas
 pub mod EndLemmas
 pub mod ReplayLemmas
 pub mod BothLemmas

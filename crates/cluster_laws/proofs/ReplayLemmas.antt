@@ -1,9 +1,9 @@
 -- Two alike clusters that are replayed.
-use Rattle.std.proofs.Common.{◌≡◌, ℕ, List, [], ◌∷◌, length, Option, None, Result, Ok, Err, refl, sym, ap, subst, ◌∙◌, true≢false}
+use Rattle.std.proofs.Common.{◌≡◌, ℕ, false, List, [], ◌∷◌, length, Option, None, Result, Ok, Err, refl, sym, ap, subst, ◌∙◌}
 use Rattle.alike_clusters.specs.Clusters.{AlikeClusters}
 use Rattle.block_refs.specs.declared.names.BlockName.{BlockName}
 use Rattle.block_replay.specs.declared.faults.RecordFault.{RecordFault}
-use Rattle.cluster_compare.specs.Same.{IsSameCluster}
+use Rattle.cluster_compare.specs.Same.{IsSameCluster, has_init}
 use Rattle.cluster_tree.specs.Causes.{given, unless}
 use Rattle.cluster_tree.specs.Change.{all_changed}
 use Rattle.cluster_tree.specs.Contents.{Contents}
@@ -31,9 +31,8 @@ use Rattle.cluster_laws.specs.Converging.{AreConverged, EndAlike, IsBased}
 use Rattle.cluster_laws.specs.Replays.{EndsAs}
 use Rattle.cluster_laws.specs.Starts.{StartsAs}
 use Rattle.cluster_laws.proofs.ConvergeLemmas.{converge}
-use Rattle.cluster_laws.proofs.EndLemmas.{begun-both, closed-both, page-closed}
+use Rattle.cluster_laws.proofs.EndLemmas.{begun-both, closed-both, init-closed, page-closed}
 use Rattle.cluster_laws.proofs.SameLemmas.{are-same}
-use Rattle.cluster_laws.proofs.SkippedLemmas.{log-main, none-skipped}
 use Rattle.cluster_laws.proofs.StartLemmas.{starts-as}
 
 abbrev OkWorld : World → Result World RecordFault
@@ -117,11 +116,6 @@ module _ (base : BlockName → Option (List ℕ)) (redo : ℕ) (c d : Contents) 
   abbrev y : World
   y = ended_two.world
 
-  y_none : y.skipped ≡ []
-  y_none =
-      none-skipped y.skipped (log-main other per s.label.start.0 s.records (first_world d other s) y taken (λ name among. absurd (true≢false (sym among))) ended_two.is)
-      (λ name main. (ended_two.converged.blocks name main).1)
-
   abbrev left : Control
   left = control_left (timeline_of s.control) (end_of s) v.control
 
@@ -131,11 +125,12 @@ module _ (base : BlockName → Option (List ℕ)) (redo : ℕ) (c d : Contents) 
   files_alike : AlikeClusters per (all_changed v.files (closing root left)) root (all_changed y.files (closing other left)) other
   files_alike = closed-both per root other v.files y.files left ended_two.converged.alike.files
 
-  pages_match : (name : BlockName) → IsMainBlock name → Matches (view name.block) (page_in root per name (all_changed v.files (closing root left))) (page_in other per name (all_changed y.files (closing other left)))
-  pages_match name main =
+  pages_match : (name : BlockName) → IsMainBlock name → has_init (all_changed v.files (closing root left)) root name.rel ≡ false
+      → Matches (view name.block) (page_in root per name (all_changed v.files (closing root left))) (page_in other per name (all_changed y.files (closing other left)))
+  pages_match name main none =
       subst (λ o. Matches (view name.block) o (page_in other per name (all_changed y.files (closing other left)))) (sym (page-closed root per v.files left name main))
       (subst (λ o. Matches (view name.block) (page_in root per name v.files) o) (sym (page-closed other per y.files left name main))
-      (ended_two.converged.blocks name main).2)
+      (ended_two.converged.pages name main (sym (init-closed root per v.files left name.rel main.block.rel.relation) ∙ none)))
 
   -- the other's closed files are those by its own control file, which is the same
   same_left : all_changed y.files (closing other left) ≡ other_after.files
@@ -150,7 +145,7 @@ module _ (base : BlockName → Option (List ℕ)) (redo : ℕ) (c d : Contents) 
   other_run : replayed_into other (said s there.start.log) (first_world d other s) ≡ Ok other_after
   other_run =
       ap (λ r. given (recorded r) (closed_or other (timeline_of s.control) (length s.records) (end_of s))) ended_two.is
-      ∙ ap (λ o. unless o (OkAfter (closed other (timeline_of s.control) (length s.records) (end_of s) y))) (no_missing y.skipped y_none)
+      ∙ ap (λ o. unless o (OkAfter (closed other (timeline_of s.control) (length s.records) (end_of s) y))) (no_missing y.skipped ended_two.converged.other_none)
 
   other_ends : after_replay d other ≡ Ok other_after
   unfolding after_replay

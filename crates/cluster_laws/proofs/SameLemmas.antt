@@ -3,6 +3,7 @@ use Rattle.std.proofs.Common.{◌≡◌, ℕ, zero, suc, ◌+◌, ◌*◌, ◌/�
 use Rattle.std.specs.Prelude.{if◌then◌else◌, option_map}
 use Rattle.std.specs.Option.{option_and_then}
 use Rattle.std.specs.List.{range_with_len}
+use Rattle.std.proofs.lemmas.Bool.{or_parts}
 use Rattle.std.proofs.lemmas.Bool.Decides.{nat_tests}
 use Rattle.std.proofs.lemmas.Slice.Eq.{bytes_eq-Decides}
 use Rattle.std.proofs.lemmas.List.{length-drop, length-take}
@@ -12,7 +13,7 @@ use Rattle.alike_clusters.proofs.NameLemmas.{file-lies, file_parts}
 use Rattle.block_refs.specs.declared.names.BlockName.{BlockName}
 use Rattle.block_refs.specs.declared.names.Fork.TheVariants.{Main}
 use Rattle.block_refs.specs.declared.names.RelName.{RelName}
-use Rattle.cluster_compare.specs.Same.{IsSameCluster, block_difference, differ_at, files_differ, first_block, fork_block, is_left_out, is_plain, is_same_block, is_unlogged, unlogged_in}
+use Rattle.cluster_compare.specs.Same.{IsSameCluster, block_difference, differ_at, files_differ, first_block, fork_block, has_init, is_left_out, is_plain, is_same_block, is_unlogged, unlogged_in}
 use Rattle.cluster_tree.specs.Causes.{first_of}
 use Rattle.cluster_tree.specs.Contents.{Contents, Entry, FileEntry, entry_at}
 use Rattle.cluster_tree.specs.PathValue.{PathValue, below, path_of}
@@ -31,7 +32,7 @@ use Rattle.replay_laws.specs.Held.{IsMainBlock}
 use Rattle.rewound_tree.specs.Laws.{block_of}
 use Rattle.storage_laws.specs.FileLaws.{IsProper}
 use Rattle.storage_laws.specs.States.{page_in, page_or_none, whole_block}
-use Rattle.storage_laws.proofs.NumberLemmas.{file-of, place-of}
+use Rattle.storage_laws.proofs.NumberLemmas.{by_test, file-of, place-of}
 use Rattle.storage_laws.proofs.WholeLemmas.{whole-there}
 
 -- ---- blocks that match have one mask
@@ -80,8 +81,8 @@ placed_small rel (inl shared) = omega (arith, shared.1)
 placed_small rel (inr in_base) = in_base.1.1
 
 module _ (root other : PathValue) (per : ℕ) (some : 0 < per) (c d : Contents) (both : AlikeClusters per c root d other)
-    (blocks : (name : BlockName) → IsMainBlock name → Matches (view name.block) (page_in root per name c) (page_in other per name d)) where
-  module _ (rel : RelName) (segment : ℕ) (parts : List (List ℕ)) (main : IsMainFile (path_of false parts) rel segment) (a b : List ℕ)
+    (blocks : (name : BlockName) → IsMainBlock name → has_init c root name.rel ≡ false → Matches (view name.block) (page_in root per name c) (page_in other per name d)) where
+  module _ (rel : RelName) (logged : has_init c root rel ≡ false) (segment : ℕ) (parts : List (List ℕ)) (main : IsMainFile (path_of false parts) rel segment) (a b : List ℕ)
       (there : entry_at c (relation_file root rel Main segment) ≡ Some (FileEntry a)) (so_there : entry_at d (relation_file other rel Main segment) ≡ Some (FileEntry b))
       (same : length a ≡ length b) (bounded : Bounded per segment (length a)) where
     some_blocks : (block : ℕ) → block < length a / 8192 → 0 < length a / 8192
@@ -114,7 +115,7 @@ module _ (root other : PathValue) (per : ℕ) (some : 0 < per) (c d : Contents) 
         let match : Matches (view (segment * per + block)) (page_or_none p) (page_or_none q) =
         subst (λ o. Matches (view (segment * per + block)) o (page_or_none q)) (page_is root c a block there few long)
         (subst (λ o. Matches (view (segment * per + block)) (page_in root per (record { rel = rel; fork = Main; block = segment * per + block }) c) o) (page_is other d b block so_there few (omega (arith, long, same)))
-        (blocks (record { rel = rel; fork = Main; block = segment * per + block }) (is_main block l))) in
+        (blocks (record { rel = rel; fork = Main; block = segment * per + block }) (is_main block l) logged)) in
         matched (segment * per + block) p q sizes (is_zero p) (is_zero q) refl refl match
 
     number_is : (block : ℕ) → block < length a / 8192 → fork_block per segment block ≡ segment * per + block
@@ -133,30 +134,37 @@ module _ (root other : PathValue) (per : ℕ) (some : 0 < per) (c d : Contents) 
     no_block : first_block per segment a b ≡ None
     no_block = none_told (block_difference per segment a b) (length a / 8192) 0 block_same
 
+  abbrev unlogged : RelName → Bool
+  unlogged = unlogged_in c root d other
+
   module _ (parts : List (List ℕ)) (a b : List ℕ) (there : entry_at c (below root parts) ≡ Some (FileEntry a)) (so_there : entry_at d (below other parts) ≡ Some (FileEntry b)) where
-    files_same : (at : Option (RelName × ℕ)) → relation_of (path_of false parts) ≡ at → is_alike_file per at a b ≡ true → files_differ per at a b ≡ None
-    files_same None is like = ap (λ t. if t then None else Some None) like
-    files_same (Some (rel, segment)) is like =
+    files_same : (at : Option (RelName × ℕ)) → relation_of (path_of false parts) ≡ at → is_unlogged unlogged at ≡ false → is_alike_file per at a b ≡ true → files_differ per at a b ≡ None
+    files_same None is compared like = ap (λ t. if t then None else Some None) like
+    files_same (Some (rel, segment)) is compared like =
+        let logged : has_init c root rel ≡ false = (or_parts (has_init c root rel) (has_init d other rel) compared).0 in
         let main : IsMainFile (path_of false parts) rel segment = relation_read (path_of false parts) rel segment is in
         let lies : parts ≡ file_parts rel Main segment = ap (λ (p : PathValue). p.parts) (main.lies ∙ file-lies here rel Main segment) in
         let first : entry_at c (relation_file root rel Main segment) ≡ Some (FileEntry a) = ap (entry_at c) (file-lies root rel Main segment ∙ ap (below root) (sym lies)) ∙ there in
         let second : entry_at d (relation_file other rel Main segment) ≡ Some (FileEntry b) = ap (entry_at d) (file-lies other rel Main segment ∙ ap (below other) (sym lies)) ∙ so_there in
         let two = and_parts (length a == length b) (is_bounded per segment (length a)) like in
         ap (λ t. if t then option_map (λ n. Some n) (first_block per segment a b) else Some None) two.0
-        ∙ ap (option_map (λ n. Some n)) (no_block rel segment parts main a b first second (eq_is (length a) (length b) two.0) (bounded-is per segment (length a) two.1))
+        ∙ ap (option_map (λ n. Some n)) (no_block rel logged segment parts main a b first second (eq_is (length a) (length b) two.0) (bounded-is per segment (length a) two.1))
 
-    by_version : (unlogged : RelName → Bool) (v : Bool) → (v || is_alike_file per (relation_of (path_of false parts)) a b) ≡ true
+    by_version : (v : Bool) → (v || is_alike_file per (relation_of (path_of false parts)) a b) ≡ true
         → (if (v || is_unlogged unlogged (relation_of (path_of false parts))) && (is_plain (Some (FileEntry a)) && is_plain (Some (FileEntry b))) then None else files_differ per (relation_of (path_of false parts)) a b) ≡ None
-    by_version unlogged true like = refl
-    by_version unlogged false like =
-        left_or (is_unlogged unlogged (relation_of (path_of false parts)) && true) (files_differ per (relation_of (path_of false parts)) a b) (files_same (relation_of (path_of false parts)) refl like)
+    by_version true like = refl
+    by_version false like = by_test (is_unlogged unlogged (relation_of (path_of false parts)))
+        (λ so. ap (λ t. if t && true then None else files_differ per (relation_of (path_of false parts)) a b) so)
+        (λ compared.
+        ap (λ t. if t && true then None else files_differ per (relation_of (path_of false parts)) a b) compared
+        ∙ files_same (relation_of (path_of false parts)) refl compared like)
 
-  entry_same : (unlogged : RelName → Bool) (parts : List (List ℕ)) (o p : Option Entry) → AlikeEntries (is_alike per parts) o p → entry_at c (below root parts) ≡ o → entry_at d (below other parts) ≡ p
+  entry_same : (parts : List (List ℕ)) (o p : Option Entry) → AlikeEntries (is_alike per parts) o p → entry_at c (below root parts) ≡ o → entry_at d (below other parts) ≡ p
       → differ_at unlogged per (path_of false parts) o p ≡ None
-  entry_same unlogged parts o p Neither is so = left_or (is_left_out unlogged (path_of false parts) o p) None refl
-  entry_same unlogged parts o p (Folders bad) is so = left_or (is_left_out unlogged (path_of false parts) o p) None refl
-  entry_same unlogged parts o p (Files a b like) is so = by_version parts a b is so unlogged (is_version (path_of false parts)) like
-  entry_same unlogged parts o p Links is so = left_or (is_left_out unlogged (path_of false parts) o p) None refl
+  entry_same parts o p Neither is so = left_or (is_left_out unlogged (path_of false parts) o p) None refl
+  entry_same parts o p (Folders bad) is so = left_or (is_left_out unlogged (path_of false parts) o p) None refl
+  entry_same parts o p (Files a b like) is so = by_version parts a b is so (is_version (path_of false parts)) like
+  entry_same parts o p Links is so = left_or (is_left_out unlogged (path_of false parts) o p) None refl
 
   pub are-same : IsSameCluster per c root d other
-  are-same parts = entry_same (unlogged_in c root d other) parts (entry_at c (below root parts)) (entry_at d (below other parts)) (both.alike parts) refl refl
+  are-same parts = entry_same parts (entry_at c (below root parts)) (entry_at d (below other parts)) (both.alike parts) refl refl

@@ -18,8 +18,8 @@ pub record EndsAs (per_file : ℕ) (left : Contents) (root : PathValue) (d : Con
   pub ends : after_replay d other ≡ Ok after
   pub same : IsSameCluster per_file left root after.files other
 
--- Of two alike clusters whose blocks fit one base under the log: where the replay of the one ends, so does that of the other, and they leave
--- the same cluster.
+-- Of two alike clusters whose blocks fit one base under the log, or are of relations that aren't logged: where the replay of the one ends, so
+-- does that of the other, and they leave the same cluster.
 abbrev pub Convergence : Type 0
 Convergence = (base : BlockName → Option (List ℕ)) (redo : ℕ) (c d : Contents) (root other : PathValue) (s : Start) (after : After)
     → AlikeClusters s.control.relseg c root d other → HoldsBytes c → start_of c root ≡ Ok s → ¬ (SomeLacksLayout s.records)

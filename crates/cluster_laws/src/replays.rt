@@ -1,8 +1,8 @@
 // Two clusters that are replayed.
 ghost use Rattle.cluster_laws.specs.Replays.{BothReplay, Convergence};
 
-/// Of two alike clusters whose blocks fit one base under the log, where the replay of the one ends,
-/// so does that of the other, and they leave the same cluster.
+/// Of two alike clusters whose blocks fit one base under the log, but for relations that aren't logged,
+/// where the replay of the one ends, so does that of the other, and they leave the same cluster.
 pub fn convergence()
     ensures { Convergence }
 {}

@@ -2,7 +2,7 @@
 ghost use Rattle.cluster_laws.specs.Same.{AlikeAreSame};
 
 /// Alike clusters are the same, as a comparison of clusters takes it, where the pages of each block
-/// match and no file of a main fork has more blocks than it may.
+/// match, but for relations with an init fork, and no file of a main fork has more blocks than it may.
 pub fn alike_are_same()
     ensures { AlikeAreSame }
 {}

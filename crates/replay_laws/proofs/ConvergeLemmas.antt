@@ -1,5 +1,5 @@
 -- Two clusters that replay one log: each block's run is one of the law of one block.
-use Rattle.std.proofs.Common.{◌≡◌, ℕ, Bool, true, false, List, map, Option, None, Some, Result, Ok, Err, refl, ap, sym, subst, ◌∙◌}
+use Rattle.std.proofs.Common.{◌≡◌, ℕ, Bool, true, false, List, length, map, Option, None, Some, Result, Ok, Err, refl, ap, sym, subst, ◌∙◌}
 use Rattle.std.specs.Prelude.{if◌then◌else◌}
 use Rattle.std.specs.Option.{option_and_then}
 use Rattle.block_effects.specs.Lives.{IsLife}
@@ -14,8 +14,10 @@ use Rattle.record_effects.specs.Managers.{rules_of}
 use Rattle.record_effects.proofs.RuleLemmas.{managers_are}
 use Rattle.replay_law.specs.Effect.{Step}
 use Rattle.replay_law.specs.Law.{AreAlike, EndAlike}
-use Rattle.replay_law.specs.Premises.{IsState}
+use Rattle.replay_law.specs.Premises.{HasNoChange, IsState}
 use Rattle.replay_law.specs.Replay.{Held, found, replay_block}
+use Rattle.replay_law.specs.Stage.{stage}
+use Rattle.replay_law.proofs.Anew.{without_change}
 use Rattle.replay_world.specs.Records.{records_after}
 use Rattle.replay_world.specs.World.{World}
 use Rattle.storage_laws.specs.States.{block_in, page_in, page_or_none}
@@ -76,3 +78,23 @@ pub fitting-goes : (root : PathValue) (per : ℕ) (name : BlockName) (redo : ℕ
 fitting-goes root per name redo base records w why begins life fits refused =
     let ends = found-run root per name w begins records (Err why) refused in
     alike_runs name (steps name records) (page_in root per name w.files) (page_in root per name w.files) (Err why) (Err why) (fitting-alike name redo base records root root per per w w life fits fits) ends ends
+
+-- ---- a block that no record changes
+
+one_held : (a b : Held) → OkHeld a ≡ OkHeld b → a ≡ b
+one_held a b e = cc
+
+pub unchanged-ends : (name : BlockName) (start : ℕ) (records : List LogRecord) (root : PathValue) (per : ℕ) (w v : World) → IsMainBlock name → AreTaken start records → HasNoChange (steps name records) → Begins root per w
+    → records_after root per records w ≡ Ok v → held root per v name ≡ found (stage (page_in root per name w.files) (steps name records) (length (steps name records)))
+unchanged-ends name start records root per w v main taken none begins made =
+    one_held (held root per v name) (found (stage (page_in root per name w.files) (steps name records) (length (steps name records))))
+    (sym (found-run root per name w begins records (OkHeld (held root per v name)) (log-runs root per begins.some start records name w v taken main begins.whole made))
+    ∙ without_change (view name.block) (page_in root per name w.files) (steps name records) none)
+
+-- its run isn't refused either
+pub unchanged-goes : (root : PathValue) (per : ℕ) (name : BlockName) (records : List LogRecord) (w : World) (why : RedoWhy) → Begins root per w → HasNoChange (steps name records)
+    → replay_block (view name.block) (held root per w name) (steps name records) ≡ Err why → ⊥
+unchanged-goes root per name records w why begins none refused =
+    let both : OkHeld (found (stage (page_in root per name w.files) (steps name records) (length (steps name records)))) ≡ Err why =
+    sym (without_change (view name.block) (page_in root per name w.files) (steps name records) none) ∙ found-run root per name w begins records (Err why) refused in
+    absurd cc

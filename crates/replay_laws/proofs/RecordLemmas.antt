@@ -71,11 +71,11 @@ taken-read rec parts is =
 
 -- what a record leaves: its blocks, and then all else
 
-record Done (root : PathValue) (per : ℕ) (rec : LogRecord) (parts : PartsView) (w v : World) : Type 0 where
-  mid : BlockWorld
-  blocks : blocks_after root per rec parts (blocks_of w) ≡ Ok mid
-  files : files_after root per rec parts mid.files ≡ Ok v.files
-  names : v.skipped ≡ without_gone rec parts mid.skipped
+pub record Done (root : PathValue) (per : ℕ) (rec : LogRecord) (parts : PartsView) (w v : World) : Type 0 where
+  pub mid : BlockWorld
+  pub blocks : blocks_after root per rec parts (blocks_of w) ≡ Ok mid
+  pub files : files_after root per rec parts mid.files ≡ Ok v.files
+  pub names : v.skipped ≡ without_gone rec parts mid.skipped
 
 abbrev pub OkWorld : World → Result World RecordFault
 OkWorld w = Ok w
@@ -83,7 +83,7 @@ OkWorld w = Ok w
 pub one-world_of : (w v : World) → OkWorld w ≡ OkWorld v → w ≡ v
 one-world_of w v e = cc
 
-done : (root : PathValue) (per : ℕ) (rec : LogRecord) (parts : PartsView) (w v : World) → record_after root per rec parts w ≡ Ok v → Done root per rec parts w v
+pub done : (root : PathValue) (per : ℕ) (rec : LogRecord) (parts : PartsView) (w v : World) → record_after root per rec parts w ≡ Ok v → Done root per rec parts w v
 unfolding record_after
 done root per rec parts w v made =
     let run = (not-refused (short_refusal rec parts) (given (blocks_after root per rec parts (blocks_of w)) (others_after root per rec parts w)) v made).1 in

@@ -1,8 +1,7 @@
 -- A replay is refused at a block only where the run of the effects on that block is.
-use Rattle.std.proofs.Common.{◌≡◌, ◌⊎◌, ℕ, suc, ◌<◌, Bool, true, false, List, [], ◌∷◌, Option, None, Some, map, Result, Ok, Err, inl, inr, refl, ap, sym, subst, ◌∙◌, true≢false}
+use Rattle.std.proofs.Common.{◌≡◌, ◌⊎◌, ℕ, suc, ◌<◌, Bool, true, false, List, [], ◌∷◌, Option, None, Some, Result, Ok, Err, inl, inr, refl, ap, sym, subst, ◌∙◌, true≢false}
 use Rattle.std.specs.Prelude.{if◌then◌else◌}
 use Rattle.std.proofs.lemmas.Bool.{or_left, or_right}
-use Rattle.block_effects.specs.Lives.{IsLife}
 use Rattle.block_refs.specs.Outcomes.{start_of}
 use Rattle.block_refs.specs.Parts.{ArePartsOf, PartsView}
 use Rattle.block_refs.specs.declared.names.BlockName.{BlockName}
@@ -21,7 +20,7 @@ use Rattle.page_layout.specs.declared.refusal.RedoWhy.{RedoWhy}
 use Rattle.page_layout.specs.declared.refusal.RedoWhy.TheVariants.{Layout}
 use Rattle.page_masks.specs.Law.{view}
 use Rattle.record_effects.specs.Acts.{act_on}
-use Rattle.record_effects.specs.Managers.{effect_on, rules_of}
+use Rattle.record_effects.specs.Managers.{effect_on}
 use Rattle.replay_control.specs.Following.{control_after}
 use Rattle.replay_law.specs.Effect.{Step, At}
 use Rattle.replay_law.specs.Replay.{Held, replay_block, replay_on, replay_step}
@@ -32,12 +31,12 @@ use Rattle.replay_world.specs.World.{World, blocks_of}
 use Rattle.storage_laws.proofs.NumberLemmas.{by_test}
 use Rattle.wal_base.specs.declared.lsn.Lsn.{Lsn}
 use Rattle.wal_records.specs.Reading.{LogRecord}
-use Rattle.replay_laws.specs.Converging.{Begins, FitsBase}
+use Rattle.replay_laws.specs.Converging.{Begins, IsFit}
 use Rattle.replay_laws.specs.Held.{IsMainBlock, held}
-use Rattle.replay_laws.specs.Log.{AreTaken, IsTaken, split_of, steps}
+use Rattle.replay_laws.specs.Log.{AreTaken, IsTaken, steps}
 use Rattle.replay_laws.specs.Refusals.{LacksLayout, SomeLacksLayout}
 use Rattle.replay_laws.specs.Whole.{AreWhole}
-use Rattle.replay_laws.proofs.ConvergeLemmas.{fitting-goes}
+use Rattle.replay_laws.proofs.ConvergeLemmas.{fitting-goes, unchanged-goes}
 use Rattle.replay_laws.proofs.LogLemmas.{first-taken, parts_in}
 use Rattle.replay_laws.proofs.NameLemmas.{AreOwn, name-is}
 use Rattle.replay_laws.proofs.RecordLemmas.{OkWorld, record-steps, record-whole, taken-read}
@@ -149,12 +148,16 @@ module _ (root : PathValue) (per : ℕ) (some : 0 < per) (start : Lsn) (name : B
       by is (inl refused) later = here (record-refused rec (parts_in rec) w is whole refused)
       by is (inr next) later = behind next.0 is next.1 (later next.0 next.1 next.2)
 
--- where each block fits a base none is refused
+-- where each block is fit none is refused
 pub not-refused_at : (root : PathValue) (per from redo : ℕ) (base : BlockName → Option (List ℕ)) (records : List LogRecord) (start : Lsn) (name : BlockName) (why : RedoWhy) (w : World) → AreTaken from records → (SomeLacksLayout records → ⊥) → Begins root per w
-    → ((block : BlockName) → IsMainBlock block → IsLife rules_of block redo (base block) (map split_of records) × FitsBase root per block (base block) records w)
+    → ((block : BlockName) → IsMainBlock block → IsFit root per redo block (base block) records w)
     → records_after root per records w ≡ Err (RedoFailed start name why) → ⊥
 not-refused_at root per from redo base records start name why w taken enough begins fit e = by (log-refused root per begins.some start name why from records w taken begins.whole e)
   where
+    by_fit : IsFit root per redo name (base name) records w → replay_block (view name.block) (held root per w name) (steps name records) ≡ ErrHeld why → ⊥
+    by_fit (inl two) run = fitting-goes root per name redo (base name) records w why begins two.0 two.1 run
+    by_fit (inr none) run = unchanged-goes root per name records w why begins none run
+
     by : SomeLacksLayout records ⊎ (IsMainBlock name × (replay_block (view name.block) (held root per w name) (steps name records) ≡ ErrHeld why)) → ⊥
     by (inl lacks) = enough lacks
-    by (inr run) = fitting-goes root per name redo (base name) records w why begins (fit name run.0).0 (fit name run.0).1 run.1
+    by (inr run) = by_fit (fit name run.0) run.1

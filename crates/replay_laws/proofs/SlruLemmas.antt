@@ -39,7 +39,7 @@ apart false rel Status a b e = absurd cc
 apart false rel Offsets a b e = absurd cc
 apart false rel Members a b e = absurd cc
 
-other_path : (root : PathValue) (rel : RelName) (fork : Fork) (segment : ℕ) (area : Area) (name : List ℕ) → relation_file root rel fork segment ≢ below (folder_of root area) (name ∷ [])
+pub other_path : (root : PathValue) (rel : RelName) (fork : Fork) (segment : ℕ) (area : Area) (name : List ℕ) → relation_file root rel fork segment ≢ below (folder_of root area) (name ∷ [])
 other_path root rel fork segment area name e =
     let text = name_of rel.relation fork segment in
     let parts : (root.parts ++ rel_parts rel) ++ text ∷ [] ≡ (root.parts ++ folder_parts area) ++ name ∷ [] = ap (λ (p : PathValue). p.parts) e in

@@ -1,12 +1,14 @@
 -- Two clusters that replay one log, seen on one block. Own: "The law of one block", "A replay, seen on one block".
-use Rattle.std.specs.Prelude.{◌≡◌, ℕ, ◌<◌, List, [], map, Option, Ok}
+use Rattle.std.specs.Prelude.{◌≡◌, ◌⊎◌, ℕ, ◌<◌, List, [], length, map, Option, Ok}
 use Rattle.block_effects.specs.Lives.{IsLife}
 use Rattle.block_refs.specs.declared.names.BlockName.{BlockName}
 use Rattle.cluster_tree.specs.PathValue.{PathValue}
 use Rattle.page_masks.specs.Law.{view}
 use Rattle.record_effects.specs.Managers.{rules_of}
 use Rattle.replay_law.specs.Law.{AreAlike}
-use Rattle.replay_law.specs.Stage.{Fits}
+use Rattle.replay_law.specs.Premises.{HasNoChange}
+use Rattle.replay_law.specs.Replay.{found}
+use Rattle.replay_law.specs.Stage.{Fits, stage}
 use Rattle.replay_world.specs.Records.{records_after}
 use Rattle.replay_world.specs.World.{World}
 use Rattle.storage_laws.specs.States.{page_in}
@@ -25,6 +27,11 @@ pub record Begins (root : PathValue) (per_file : ℕ) (w : World) : Type 0 where
 abbrev pub FitsBase : PathValue → (per_file : ℕ) → BlockName → (base : Option (List ℕ)) → List LogRecord → World → Type 0
 FitsBase root per_file name base records w = Fits (view name.block) base (page_in root per_file name w.files) (steps name records)
 
+-- a block as a replay is to find it: its state fits a base under the log, which is a life of it; or no record changes it
+abbrev pub IsFit : PathValue → (per_file redo : ℕ) → BlockName → (base : Option (List ℕ)) → List LogRecord → World → Type 0
+IsFit root per_file redo name base records w =
+    (IsLife rules_of name redo base (map split_of records) × FitsBase root per_file name base records w) ⊎ HasNoChange (steps name records)
+
 -- Of two clusters whose states of a block fit one base, replays of one log that aren't refused leave no skipped change of
 -- the block, and pages of it that match.
 abbrev pub BlocksConverge : Type 0
@@ -35,3 +42,10 @@ BlocksConverge = (name : BlockName) (start redo : ℕ) (base : Option (List ℕ)
     → Begins other per_other x → FitsBase other per_other name base records x
     → records_after root per_file records w ≡ Ok v → records_after other per_other records x ≡ Ok y
     → AreAlike (view name.block) (Ok (held root per_file v name)) (Ok (held other per_other y name))
+
+-- Of a block that no record changes a replay that isn't refused leaves the last stage from the block's own state, and no skipped change.
+abbrev pub UnchangedEnds : Type 0
+UnchangedEnds = (name : BlockName) (start : ℕ) (records : List LogRecord) (root : PathValue) (per_file : ℕ) (w v : World)
+    → IsMainBlock name → AreTaken start records → HasNoChange (steps name records) → Begins root per_file w
+    → records_after root per_file records w ≡ Ok v
+    → held root per_file v name ≡ found (stage (page_in root per_file name w.files) (steps name records) (length (steps name records)))

@@ -1,8 +1,7 @@
 -- Why a replay is refused but for its files, seen on one block: PostgreSQL 16, src/backend/access/transam/xlogrecovery.c,
 -- ApplyWalRecord; src/backend/access/heap/heapam.c, heap_xlog_visible. Own: "A replay, seen on one block".
-use Rattle.std.specs.Prelude.{◌≡◌, ◌⊎◌, ℕ, ◌<◌, true, List, map, Option, None, Some, Err}
+use Rattle.std.specs.Prelude.{◌≡◌, ◌⊎◌, ℕ, ◌<◌, true, List, Option, None, Some, Err}
 use Rattle.std.specs.List.{slice_get}
-use Rattle.block_effects.specs.Lives.{IsLife}
 use Rattle.block_refs.specs.Parts.{PartsView}
 use Rattle.block_refs.specs.declared.names.BlockName.{BlockName}
 use Rattle.block_replay.specs.declared.faults.RecordFault.TheVariants.{RedoFailed}
@@ -10,7 +9,7 @@ use Rattle.cluster_tree.specs.PathValue.{PathValue}
 use Rattle.page_layout.specs.declared.refusal.RedoWhy.{RedoWhy}
 use Rattle.page_masks.specs.Law.{view}
 use Rattle.record_effects.specs.Acts.{sets_map_bits}
-use Rattle.record_effects.specs.Managers.{done_by, effect_on, rules_of}
+use Rattle.record_effects.specs.Managers.{done_by, effect_on}
 use Rattle.replay_law.specs.Replay.{replay_block, replay_step}
 use Rattle.replay_profile.specs.Profile.{is_short}
 use Rattle.replay_world.specs.Records.{record_after, records_after}
@@ -18,7 +17,7 @@ use Rattle.replay_world.specs.World.{World}
 use Rattle.storage_pages.specs.MapPage.{visible_block}
 use Rattle.wal_base.specs.declared.lsn.Lsn.{Lsn}
 use Rattle.wal_records.specs.Reading.{LogRecord}
-use Rattle.replay_laws.specs.Converging.{Begins, FitsBase}
+use Rattle.replay_laws.specs.Converging.{Begins, IsFit}
 use Rattle.replay_laws.specs.Held.{IsMainBlock, held}
 use Rattle.replay_laws.specs.Log.{AreTaken, IsTaken, split_of, steps}
 use Rattle.replay_laws.specs.Whole.{AreWhole}
@@ -51,10 +50,11 @@ LogRefusedAtItsBlock = (root : PathValue) (per_file from : ℕ) (records : List 
     → SomeLacksLayout records
     ⊎ (IsMainBlock name × (replay_block (view name.block) (held root per_file w name) (steps name records) ≡ Err why))
 
--- So a cluster of which each block of a main fork fits a base isn't refused at any block by a log whose records say enough.
+-- So a cluster of which each block of a main fork fits a base, or is changed by no record, isn't refused at any block by a log whose
+-- records say enough.
 abbrev pub NotRefused : Type 0
 NotRefused = (root : PathValue) (per_file from redo : ℕ) (base : BlockName → Option (List ℕ)) (records : List LogRecord)
     (start : Lsn) (name : BlockName) (why : RedoWhy) (w : World)
     → AreTaken from records → ¬ (SomeLacksLayout records) → Begins root per_file w
-    → ((block : BlockName) → IsMainBlock block → IsLife rules_of block redo (base block) (map split_of records) × FitsBase root per_file block (base block) records w)
+    → ((block : BlockName) → IsMainBlock block → IsFit root per_file redo block (base block) records w)
     → ¬ (records_after root per_file records w ≡ Err (RedoFailed start name why))

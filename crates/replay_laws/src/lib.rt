@@ -8,7 +8,7 @@ mod records;
 mod refusals;
 
 pub use checked::checked_laws;
-pub use converging::blocks_converge;
+pub use converging::{blocks_converge, unchanged_blocks_end};
 pub use logs::log_laws;
 pub use records::record_laws;
 pub use refusals::refusal_laws;

@@ -88,7 +88,7 @@ two_first xs ys a b e =
     let size : length (xs ++ a ∷ b ∷ []) ≡ length xs + 2 = length-append xs (a ∷ b ∷ []) in
     append_cancel_left xs (take 2 ys) (a ∷ b ∷ []) (sym (take-append-add xs ys 2) ∙ ap (λ n. take n (xs ++ ys)) (sym size) ∙ e)
 
-held_database : (root : PathValue) (rel : RelName) (database : ℕ) (name : List ℕ) → rel.database < 2 ^ 32 → database < 2 ^ 32 → is_held (database_folder root database) (below (relation_folder root rel) (name ∷ [])) ≡ true → is_in_database database rel ≡ true
+pub held_database : (root : PathValue) (rel : RelName) (database : ℕ) (name : List ℕ) → rel.database < 2 ^ 32 → database < 2 ^ 32 → is_held (database_folder root database) (below (relation_folder root rel) (name ∷ [])) ≡ true → is_in_database database rel ≡ true
 held_database root rel database name small few h =
     let held = held-holds (database_folder root database) (below (relation_folder root rel) (name ∷ [])) h in
     let parts : take 2 (folder_parts rel ++ name ∷ []) ≡ database_parts database = two_first root.parts (folder_parts rel ++ name ∷ []) (codes "base") (decimal database) (ap (take (length (database_folder root database).parts)) (sym (append_assoc root.parts (folder_parts rel) (name ∷ []))) ∙ held.prefix) in
