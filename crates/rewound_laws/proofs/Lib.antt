@@ -14,3 +14,4 @@ pub mod BlockControlLemmas
 pub mod BlockStartLemmas
 pub mod BlockKindLemmas
 pub mod BlockLemmas
+pub mod ConvergeLemmas

@@ -3,3 +3,4 @@ pub mod Copy
 pub mod Alike
 pub mod Grew
 pub mod Blocks
+pub mod Converge
