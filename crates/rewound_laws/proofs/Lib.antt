@@ -1,0 +1,17 @@
+pub mod NeededLemmas
+pub mod AlikeLemmas
+pub mod AlikePairs
+pub mod AlikeDepth
+pub mod AlikeWhole
+pub mod BlockPathLemmas
+pub mod BlockFoundLemmas
+pub mod BlockEntryLemmas
+pub mod BlockStateLemmas
+pub mod BlockSideLemmas
+pub mod BlockWorldLemmas
+pub mod BlockTreeLemmas
+pub mod BlockControlLemmas
+pub mod BlockStartLemmas
+pub mod BlockKindLemmas
+pub mod BlockLemmas
+pub mod ConvergeLemmas
