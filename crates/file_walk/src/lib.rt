@@ -20,7 +20,8 @@ pub use entry::{Entry, EntryKind};
 pub use excluding::excluded;
 pub use fault::WalkFault;
 pub use laws::{
-    excluded_below, paths_are_of_either, relation_files_lie_there, walks_are_in_order, walks_tell_all,
+    excluded_below, paths_are_of_either, relation_files_lie_there, walks_are_in_order,
+    walks_tell_all,
 };
 pub use pair::{Pair, pair_up};
 pub use relation::is_relation_file;

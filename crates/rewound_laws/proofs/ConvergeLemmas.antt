@@ -16,6 +16,7 @@ use Rattle.rewound_laws.proofs.AlikeWhole.{rewound-alike}
 use Rattle.rewound_laws.proofs.BlockLemmas.{blocks-fit, copy-kinds}
 use Rattle.rewound_laws.proofs.NeededLemmas.{needed-target, planned-needed}
 use Rattle.rewound_laws.specs.Blocks.{AreReady, IsReady}
+use Rattle.rewound_laws.specs.Converge.{RewoundConverges}
 use Rattle.rewound_laws.specs.Copy.{IsWholeCopy}
 use Rattle.rewound_laws.specs.Grew.{GrewFromOneState}
 use Rattle.rewound_laws.specs.Needed.{IsNeeded}
@@ -46,8 +47,11 @@ module _ (base : BlockName → Option (List ℕ)) (c c' d : Contents) (target so
     unchanged = λ name main unlogged. grew.unlogged name main (sym (is.unlogged name.rel) ∙ unlogged);
   }
 
-  pub rewound-converges : BothEnd d other c' target s
+  rewound-converges : BothEnd d other c' target s
   rewound-converges =
       both-end base s.label.start.0 d c' other target s alike grew.log.bytes (copy-kinds c d n other copied grew.files.kinds grew.room.other_room) grew.log.starts grew.log.enough
       (based d other ready.copy)
       (subst (λ root. IsBased base s.label.start.0 s.records root per (first_world c' root s)) (needed-target c target source now n needed) (based c' n.aim.between.target ready.rewound))
+
+pub follows : RewoundConverges
+follows c c' target source now n planned left base d other s copied grew = rewound-converges base c c' d target source other now n s planned left.sides left copied grew

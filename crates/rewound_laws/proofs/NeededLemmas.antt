@@ -11,11 +11,9 @@ use Rattle.file_walk.specs.Pairs.{pairs_of}
 use Rattle.file_walk.specs.Walk.{walk_of}
 use Rattle.file_walk.specs.declared.entry.Entry.{Entry}
 use Rattle.file_walk.specs.declared.pair.Pair.{Pair}
-use Rattle.rewind_plan.proofs.WalksFit.{walks-fit}
 use Rattle.rewind_plan.specs.Checks.{first_difference}
 use Rattle.rewind_plan.specs.Planned.{Between}
 use Rattle.rewind_plan.specs.Room.{first_lacking}
-use Rattle.rewind_plan.specs.Sides.{Sides}
 use Rattle.rewind_survey.specs.Faults.{of_cluster, told_by}
 use Rattle.rewind_survey.specs.Fitness.{no_hints, not_clean, other_sizes, pair_points, systems_differ}
 use Rattle.rewind_survey.specs.Survey.{Parting, Survey, from_controls, survey_of}
@@ -28,7 +26,7 @@ use Rattle.rewind_core.specs.Faults.{seen}
 use Rattle.rewind_core.specs.Planned.{Aim, Needing, Needs, aim_of, between_of, from_pairs, from_parting, from_size, from_survey, from_walks, pairs_refusal, planned_of}
 use Rattle.wal_base.specs.SizeOfBytes.{size_of_bytes}
 use Rattle.wal_base.specs.declared.seg_size.SegSize.{SegSize}
-use Rattle.rewound_laws.specs.Needed.{IsNeeded, StandInTree}
+use Rattle.rewound_laws.specs.Needed.{IsNeeded}
 
 -- ---- points that didn't refuse
 
@@ -176,12 +174,3 @@ module _ (c : Contents) (target source : PathValue) (now : ℤ) (n : Needing) wh
     -- the control file that is written says how many blocks a segment has
     pub needed-relseg : n.aim.control.relseg ≡ n.aim.between.per_file
     needed-relseg = ap (λ (x : Aim). x.control.relseg) k.aimed ∙ k.one_size ∙ sym (ap (λ (x : Between). x.per_file) between-is)
-
-    pub needed-sides : StandInTree c target source → Sides c n.aim.between n.pairs
-    needed-sides stand =
-        let both : Sides c (between_of target source k.t k.part) (pairs_of k.target_entries k.source_entries) =
-        walks-fit c (between_of target source k.t k.part) k.t k.s k.target_entries k.source_entries
-        (record { finished = k.target_finished; read = k.target_read; parts = stand.target_parts; walk = k.target_walked })
-        (record { finished = k.source_finished; read = k.source_read; parts = stand.source_parts; walk = k.source_walked })
-        stand.tree stand.apart (sym (ap first_difference k.paired) ∙ k.differing) in
-        subst (λ w. Sides c w n.pairs) (sym between-is) (subst (Sides c (between_of target source k.t k.part)) (sym k.paired) both)

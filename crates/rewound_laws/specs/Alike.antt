@@ -9,7 +9,6 @@ use Rattle.file_walk.specs.Relations.{relation_of}
 use Rattle.rewind_core.specs.Fits.{IsRewound}
 use Rattle.rewind_core.specs.Planned.{Needing, Needs, planned_of}
 use Rattle.rewind_plan.specs.Planned.{Between}
-use Rattle.rewind_plan.specs.Sides.{Sides}
 use Rattle.rewound_laws.specs.Copy.{IsWholeCopy}
 
 -- no file of a main fork below a root has more blocks than it may have
@@ -30,5 +29,5 @@ pub record IsRoomy (c : Contents) (w : Between) (d : Contents) (other : PathValu
 
 -- So a whole copy and the rewound target are alike but for the pages of their relations.
 abbrev pub RewoundIsAlike : Type 0
-RewoundIsAlike = (c c' d : Contents) (target source other : PathValue) (now : ℤ) (n : Needing) → planned_of c target source now ≡ Ok (Needs n) → Sides c n.aim.between n.pairs
+RewoundIsAlike = (c c' d : Contents) (target source other : PathValue) (now : ℤ) (n : Needing) → planned_of c target source now ≡ Ok (Needs n)
     → IsRewound c n c' → IsWholeCopy c n d other → IsRoomy c n.aim.between d other → AlikeClusters n.aim.between.per_file d other c' target

@@ -13,14 +13,13 @@ use Rattle.replay_laws.specs.Held.{IsMainBlock}
 use Rattle.replay_start.specs.Checked.{Start}
 use Rattle.rewind_core.specs.Fits.{IsRewound}
 use Rattle.rewind_core.specs.Planned.{Needing, Needs, planned_of}
-use Rattle.rewind_plan.specs.Sides.{Sides}
 use Rattle.storage_laws.specs.States.{block_in}
 use Rattle.rewound_laws.specs.Copy.{IsWholeCopy}
 use Rattle.rewound_laws.specs.Grew.{GrewFromOneState}
 
 -- In a rewound target a block of a main fork is the source's; or else its own that was there, and that isn't wanted of the source.
 abbrev pub RewoundBlocks : Type 0
-RewoundBlocks = (c c' : Contents) (n : Needing) (name : BlockName) → 0 < n.aim.between.per_file → Sides c n.aim.between n.pairs → IsRewound c n c' → IsMainBlock name
+RewoundBlocks = (c c' : Contents) (n : Needing) (name : BlockName) → 0 < n.aim.between.per_file → IsRewound c n c' → IsMainBlock name
     → (block_in n.aim.between.target n.aim.between.per_file name c' ≡ block_in n.aim.between.source n.aim.between.per_file name c)
     ⊎ ((is_some (block_in n.aim.between.target n.aim.between.per_file name c) ≡ true) × (n.aim.between.wanted name.rel name.block ≡ false)
     × (block_in n.aim.between.target n.aim.between.per_file name c' ≡ block_in n.aim.between.target n.aim.between.per_file name c))
@@ -41,7 +40,7 @@ pub record AreReady (base : BlockName → Option (List ℕ)) (c : Contents) (n :
 -- where both clusters grew from one state
 abbrev pub BlocksFit : Type 0
 BlocksFit = (base : BlockName → Option (List ℕ)) (c c' d : Contents) (target source other : PathValue) (now : ℤ) (n : Needing) (s : Start)
-    → planned_of c target source now ≡ Ok (Needs n) → Sides c n.aim.between n.pairs → IsRewound c n c' → IsWholeCopy c n d other
+    → planned_of c target source now ≡ Ok (Needs n) → IsRewound c n c' → IsWholeCopy c n d other
     → GrewFromOneState base c n d other s → AreReady base c n c' d other s
 
 -- the entries of a whole copy are of the kinds that servers leave where the source's are

@@ -8,13 +8,16 @@ use Rattle.cluster_tree.specs.PathValue.{PathValue}
 use Rattle.replay_start.specs.Checked.{Start}
 use Rattle.rewind_core.specs.Fits.{IsRewound}
 use Rattle.rewind_core.specs.Planned.{Needing, Needs, planned_of}
-use Rattle.rewind_plan.specs.Sides.{Sides}
 use Rattle.rewound_laws.specs.Copy.{IsWholeCopy}
 use Rattle.rewound_laws.specs.Grew.{GrewFromOneState}
 
--- Where target and source grew from one state, replay of the source's log from the common checkpoint ends below the rewound target as below
--- a whole copy of the source, and leaves the same cluster.
+-- A target follows its source: where the two grew from one state, which a whole copy of the source and its log tell of, replay of that log from
+-- the common checkpoint ends below the target as below the copy, and leaves the same cluster. The base and the copy are any.
+abbrev pub Follows : Contents → PathValue → Needing → Contents → Type 0
+Follows c target n c' = (base : BlockName → Option (List ℕ)) (d : Contents) (other : PathValue) (s : Start)
+    → IsWholeCopy c n d other → GrewFromOneState base c n d other s → BothEnd d other c' target s
+
+-- so does a rewound one
 abbrev pub RewoundConverges : Type 0
-RewoundConverges = (base : BlockName → Option (List ℕ)) (c c' d : Contents) (target source other : PathValue) (now : ℤ) (n : Needing) (s : Start)
-    → planned_of c target source now ≡ Ok (Needs n) → Sides c n.aim.between n.pairs → IsRewound c n c' → IsWholeCopy c n d other
-    → GrewFromOneState base c n d other s → BothEnd d other c' target s
+RewoundConverges = (c c' : Contents) (target source : PathValue) (now : ℤ) (n : Needing)
+    → planned_of c target source now ≡ Ok (Needs n) → IsRewound c n c' → Follows c target n c'

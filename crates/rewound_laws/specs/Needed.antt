@@ -1,8 +1,7 @@
 -- Two clusters of which one is to follow the other by a rewind: PostgreSQL 16, src/bin/pg_rewind/pg_rewind.c, main and perform_rewind.
 -- Own: "The plan of a rewind".
 use Rattle.std.specs.Prelude.{◌≡◌, ℤ, List, None, Some, Ok}
-use Rattle.cluster_tree.specs.Apart.{AreApart}
-use Rattle.cluster_tree.specs.Contents.{Contents, IsTree}
+use Rattle.cluster_tree.specs.Contents.{Contents}
 use Rattle.cluster_tree.specs.PathValue.{PathValue}
 use Rattle.wal_base.specs.SizeOfBytes.{size_of_bytes}
 use Rattle.wal_base.specs.declared.seg_size.SegSize.{SegSize}
@@ -10,20 +9,12 @@ use Rattle.control_file.specs.declared.control.Control.{Control}
 use Rattle.clusters.specs.Marks.{unfinished}
 use Rattle.clusters.specs.RootControl.{control_at}
 use Rattle.file_walk.specs.Pairs.{pairs_of}
-use Rattle.file_walk.specs.Walk.{HasParts, walk_of}
+use Rattle.file_walk.specs.Walk.{walk_of}
 use Rattle.file_walk.specs.declared.entry.Entry.{Entry}
 use Rattle.rewind_plan.specs.Checks.{first_difference}
 use Rattle.rewind_plan.specs.Room.{first_lacking}
-use Rattle.rewind_plan.specs.Sides.{Sides}
 use Rattle.rewind_survey.specs.Survey.{Parted, Parting, survey_of}
 use Rattle.rewind_core.specs.Planned.{Needing, Needs, aim_of, planned_of}
-
--- in a tree of files two roots of which neither holds the other; below both stand paths of proper parts alone
-pub record StandInTree (c : Contents) (target source : PathValue) : Type 0 where
-  pub tree : IsTree c
-  pub apart : AreApart target source
-  pub target_parts : HasParts c target
-  pub source_parts : HasParts c source
 
 -- what each point of a rewind found, none of which refused
 pub record IsNeeded (c : Contents) (target source : PathValue) (now : ℤ) (n : Needing) : Type 0 where
@@ -52,8 +43,3 @@ pub record IsNeeded (c : Contents) (target source : PathValue) (now : ℤ) (n : 
 
 abbrev pub PlannedIsNeeded : Type 0
 PlannedIsNeeded = (c : Contents) (target source : PathValue) (now : ℤ) (n : Needing) → planned_of c target source now ≡ Ok (Needs n) → IsNeeded c target source now n
-
--- then the two are side by side, path by path
-abbrev pub NeededHasSides : Type 0
-NeededHasSides = (c : Contents) (target source : PathValue) (now : ℤ) (n : Needing) → planned_of c target source now ≡ Ok (Needs n) → StandInTree c target source
-    → Sides c n.aim.between n.pairs

@@ -9,4 +9,4 @@ mod needed;
 pub use alike::rewound_is_alike;
 pub use blocks::{blocks_fit, copies_have_kinds, rewound_blocks};
 pub use converge::rewound_converges;
-pub use needed::{needed_has_sides, planned_is_needed};
+pub use needed::planned_is_needed;

@@ -37,6 +37,8 @@ use Rattle.cmd_walreplay.specs.Walreplay.{IsWalreplay, LeavesReplayed, StaysMark
 use Rattle.cmd_walreplay.proofs.FormLemmas.{answer-form as replay-form, answer-looks as replay-looks}
 use Rattle.commands.specs.declared.walreplay.WalreplayWords.{WalreplayWords}
 use Rattle.wal_tools.specs.Answers.{IsAnswer, answered}
+use Rattle.rewound_laws.proofs.ConvergeLemmas.{follows}
+use Rattle.wal_tools.specs.Converges.{ConvergesAsked}
 use Rattle.wal_tools.specs.Leaves.{LeavesAsked, StaysAsked}
 use Rattle.wal_tools.specs.Words.{IsSeen, MayChange, NeedsNoTree, refused_by_words, words_cause}
 
@@ -163,6 +165,18 @@ rewound_at {k} {words} {n} {m} r tells c c' out out' is same left =
     let P : ℤ → Type 0 = λ x. OnOk r (LeavesRewound words x c c') in
     let Q : Command → Type 0 = λ x. OnOk r (LeavesAsked (Ok x) m tells c c' out out') in
     subst Q (sym is) (subst P same left)
+
+-- and the target follows its source
+pub converges_left : (asked : Result Command CommandFault) (now : ℤ) (tells : Bool) (c c' : Contents) (out out' : List ℕ) → LeavesAsked asked now tells c c' out out' → ConvergesAsked asked now c c'
+converges_left (Ok (command.Rewind words)) now tells c c' out out' left =
+    λ n wet planned. follows c c' words.target words.source now n planned (left n wet planned)
+converges_left (Ok (command.Controldata words)) now tells c c' out out' left = tt
+converges_left (Ok (command.Waldump words)) now tells c c' out out' left = tt
+converges_left (Ok (command.Resetwal words)) now tells c c' out out' left = tt
+converges_left (Ok (command.Archivecleanup words)) now tells c c' out out' left = tt
+converges_left (Ok (command.Walreplay words)) now tells c c' out out' left = tt
+converges_left (Ok (command.Walcompare words)) now tells c c' out out' left = tt
+converges_left (Err e) now tells c c' out out' left = tt
 
 -- what pg_walreplay does is seen where the tree tells
 seen_replay : (T : Type 0) (words : WalreplayWords) → IsSeen T (Ok (command.Walreplay words)) → T

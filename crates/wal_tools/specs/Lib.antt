@@ -1,4 +1,5 @@
 pub mod Words
 pub mod Answers
 pub mod Leaves
+pub mod Converges
 pub mod Runs

@@ -10,6 +10,7 @@ ghost use Rattle.run_acts.specs.Causes.{IsFree, cause_of, is_deep, is_of_text, s
 ghost use Rattle.run_acts.specs.Unseen.{CarriesUnseen};
 ghost use Rattle.cause_lines.specs.Lines.{line_of};
 ghost use Rattle.wal_tools.specs.Answers.{IsAnswer, answered};
+ghost use Rattle.wal_tools.specs.Converges.{ConvergesAsked};
 ghost use Rattle.wal_tools.specs.Leaves.{LeavesAsked, StaysAsked};
 ghost use Rattle.wal_tools.specs.Runs.{Runs};
 ghost use Rattle.wal_tools.specs.Words.{AreFaulty, IsSeen, MayChange, NeedsNoTree, Walks, refused_by_words};
@@ -132,6 +133,10 @@ pub fn run<F: Tree, O: Sink, E: Sink>(
     ensures leaves { IsTrue F.tells → result.cause ≡ Cause.Done → LeavesAsked
         (command_of (map string_bytes words.now)) now O.tells (F.contents tree.old)
         (F.contents tree.new) (O.written out.old) (O.written out.new) }
+    // and the rewound target follows its source: where both grew from one state, replay of the source's
+    // log gives below it what it gives below a whole copy of the source
+    ensures converges { IsTrue F.tells → result.cause ≡ Cause.Done → ConvergesAsked
+        (command_of (map string_bytes words.now)) now (F.contents tree.old) (F.contents tree.new) }
     // whatever its cause, a replay leaves the log, and a refusal behind its first change the mark
     ensures stays { IsTrue F.tells → StaysAsked (command_of (map string_bytes words.now))
         (F.contents tree.old) (F.contents tree.new) result.cause }

@@ -5,7 +5,7 @@ use Rattle.run_acts.proofs.UnseenSteps.{unseen_grow, unseen_told}
 use Rattle.tool_words.specs.Command.{command_of}
 use Rattle.cause_lines.specs.Lines.{line_of}
 use Rattle.wal_tools.specs.Runs.{Says}
-use Rattle.wal_tools.proofs.RunLemmas.{at_time, exact_told, leaves_done, stays_told}
+use Rattle.wal_tools.proofs.RunLemmas.{at_time, converges_left, exact_told, leaves_done, stays_told}
 use Rattle.wal_tools.proofs.program.run.Goals as goal
 
 pub returns-clause-exact : goal.returns-clause-exact
@@ -38,6 +38,11 @@ returns-clause-leaves g c t done =
     leaves_done c.answer-outcome.result (command_of (map string_bytes c.args.words.now)) g.O.Sink.tells (g.F.Tree.contents c.args.tree.now) (g.F.Tree.contents c.answer-outcome.new.tree)
     (g.O.Sink.written c.args.out.now) (g.O.Sink.written c.answer-outcome.new.out) c.answer-outcome.ensures.undone c.cause_of.ensures c.finish.ensures.cause done
     (to_z-of_z w64 c.args.now fits) (c.answer-outcome.ensures.leaves t)
+
+pub returns-clause-converges : goal.returns-clause-converges
+returns-clause-converges g c t done =
+    converges_left (command_of (map string_bytes c.args.words.now)) c.args.now g.O.Sink.tells (g.F.Tree.contents c.args.tree.now) (g.F.Tree.contents c.answer-outcome.new.tree)
+    (g.O.Sink.written c.args.out.now) (g.O.Sink.written c.answer-outcome.new.out) (returns-clause-leaves g c t done)
 
 pub returns-clause-stays : goal.returns-clause-stays
 returns-clause-stays g c t =

@@ -1,0 +1,21 @@
+-- The promise of pg_rewind: PostgreSQL 16 manual, reference page of pg_rewind, "How It Works". Own: "A rewound target and a whole copy", "Clusters that grew
+-- from one state".
+use Rattle.std.specs.Prelude.{◌≡◌, ℤ, false, Result, Ok, Err}
+use Rattle.cluster_tree.specs.Contents.{Contents}
+use Rattle.commands.specs.declared.command.Command.{Command}
+use Rattle.commands.specs.declared.command.Command.TheVariants as command
+use Rattle.commands.specs.declared.fault.CommandFault.{CommandFault}
+use Rattle.rewind_core.specs.Planned.{Needing, Needs, planned_of}
+use Rattle.rewound_laws.specs.Converge.{Follows}
+
+-- A rewind that was asked for and needed, and that is done, leaves a target that follows its source. Of other commands nothing is said.
+abbrev pub ConvergesAsked : Result Command CommandFault → ℤ → (c c' : Contents) → Type 0
+ConvergesAsked (Ok (command.Rewind words)) now c c' =
+    (n : Needing) → words.dry_run ≡ false → planned_of c words.target words.source now ≡ Ok (Needs n) → Follows c words.target n c'
+ConvergesAsked (Ok (command.Controldata words)) now c c' = Unit {0}
+ConvergesAsked (Ok (command.Waldump words)) now c c' = Unit {0}
+ConvergesAsked (Ok (command.Resetwal words)) now c c' = Unit {0}
+ConvergesAsked (Ok (command.Archivecleanup words)) now c c' = Unit {0}
+ConvergesAsked (Ok (command.Walreplay words)) now c c' = Unit {0}
+ConvergesAsked (Ok (command.Walcompare words)) now c c' = Unit {0}
+ConvergesAsked (Err e) now c c' = Unit {0}
