@@ -10,6 +10,7 @@ use Rattle.block_refs.specs.declared.names.Fork.TheVariants.{Init}
 use Rattle.block_refs.specs.declared.names.RelName.{RelName}
 use Rattle.cluster_compare.specs.Same.{has_init}
 use Rattle.cluster_kinds.specs.Kinds.{HasKinds}
+use Rattle.cluster_laws.specs.Converging.{IsBased}
 use Rattle.cluster_tree.specs.Contents.{Contents, entry_at, is_file}
 use Rattle.cluster_tree.specs.PathValue.{PathValue, below, path_of}
 use Rattle.file_walk.specs.Excluded.{is_excluded}
@@ -30,7 +31,7 @@ use Rattle.rewound_tree.specs.Rewound.{Rewinding, rewound, whole_copy}
 use Rattle.storage_laws.specs.Forks.{HasNoGap}
 use Rattle.storage_laws.specs.Names.{IsRel, block_of}
 use Rattle.storage_laws.specs.States.{block_in, page_in, page_or_none}
-use Rattle.rewound_laws.specs.Blocks.{AreReady, IsReady}
+use Rattle.rewound_laws.specs.Blocks.{AreReady}
 use Rattle.rewound_laws.specs.Copy.{IsWholeCopy}
 use Rattle.rewound_laws.specs.Grew.{GrewFrom, GrewFromOneState}
 use Rattle.rewound_laws.specs.Needed.{IsNeeded}
@@ -146,17 +147,19 @@ module _ (base : BlockName → Option (List ℕ)) (c c' d : Contents) (target so
 
   -- ---- both, by the size of files that the copy's control file says
 
-  ready : (root : PathValue) (files : Contents) → AreWhole root per (first_world files root s).files → ((rel : RelName) → has_init (first_world files root s).files root rel ≡ has_init c w.source rel)
-      → ((name : BlockName) → IsMainBlock name → has_init c w.source name.rel ≡ false → FitsBase root per name (base name) s.records (first_world files root s)) → IsReady base c w.source files root s
-  ready root files whole init fits = record {
+  based : (root : PathValue) (files : Contents) → AreWhole root per (first_world files root s).files → ((rel : RelName) → has_init (first_world files root s).files root rel ≡ has_init c w.source rel)
+      → ((name : BlockName) → IsMainBlock name → has_init c w.source name.rel ≡ false → FitsBase root per name (base name) s.records (first_world files root s))
+      → IsBased base s.label.start.0 s.records root s.control.relseg (first_world files root s)
+  based root files whole init fits = record {
     begins = subst (λ k. Begins root k (first_world files root s)) (sym relseg) (record { some = some; whole = whole; none = refl });
-    unlogged = init;
-    fits = λ name main logged. subst (λ k. FitsBase root k name (base name) s.records (first_world files root s)) (sym relseg) (fits name main logged);
+    life = λ name main logged. (grew.logged name main (sym (init name.rel) ∙ logged)).life;
+    fits = λ name main logged. subst (λ k. FitsBase root k name (base name) s.records (first_world files root s)) (sym relseg) (fits name main (sym (init name.rel) ∙ logged));
+    unchanged = λ name main unlogged. grew.unlogged name main (sym (init name.rel) ∙ unlogged);
   }
 
-  pub blocks-fit : AreReady base c n c' d other s
+  pub blocks-fit : AreReady base n c' d other s
   blocks-fit = record {
     relseg = relseg;
-    copy = ready other d copy_whole copy_init copy_fits;
-    rewound = ready w.target c' left_whole left_init left_fits;
+    copy = based other d copy_whole copy_init copy_fits;
+    rewound = based w.target c' left_whole left_init left_fits;
   }

@@ -1,5 +1,5 @@
 -- Replay of one log over a rewound target and over a whole copy of its source.
-use Rattle.std.proofs.Common.{◌≡◌, ℕ, ℤ, List, Option, Ok, sym, subst, ◌∙◌}
+use Rattle.std.proofs.Common.{◌≡◌, ℕ, ℤ, List, Option, Ok, sym, subst}
 use Rattle.alike_clusters.specs.Clusters.{AlikeClusters}
 use Rattle.block_refs.specs.declared.names.BlockName.{BlockName}
 use Rattle.cluster_laws.proofs.BothLemmas.{both-end}
@@ -15,7 +15,7 @@ use Rattle.rewind_plan.specs.Sides.{Sides}
 use Rattle.rewound_laws.proofs.AlikeWhole.{rewound-alike}
 use Rattle.rewound_laws.proofs.BlockLemmas.{blocks-fit, copy-kinds}
 use Rattle.rewound_laws.proofs.NeededLemmas.{needed-target, planned-needed}
-use Rattle.rewound_laws.specs.Blocks.{AreReady, IsReady}
+use Rattle.rewound_laws.specs.Blocks.{AreReady}
 use Rattle.rewound_laws.specs.Converge.{RewoundConverges}
 use Rattle.rewound_laws.specs.Copy.{IsWholeCopy}
 use Rattle.rewound_laws.specs.Grew.{GrewFromOneState}
@@ -30,7 +30,7 @@ module _ (base : BlockName → Option (List ℕ)) (c c' d : Contents) (target so
   needed : IsNeeded c target source now n
   needed = planned-needed c target source now n planned
 
-  ready : AreReady base c n c' d other s
+  ready : AreReady base n c' d other s
   ready = blocks-fit base c c' d target source other now n s planned sides left copied grew
 
   alike : AlikeClusters per d other c' target
@@ -38,20 +38,11 @@ module _ (base : BlockName → Option (List ℕ)) (c c' d : Contents) (target so
       subst (λ per_file. AlikeClusters per_file d other c' target) (sym ready.relseg)
       (rewound-alike c c' d target source other now n needed sides left copied grew.room)
 
-  -- a cluster that is ready to replay the log fits the base as the law of clusters asks it
-  based : (files : Contents) (root : PathValue) → IsReady base c n.aim.between.source files root s → IsBased base s.label.start.0 s.records root per (first_world files root s)
-  based files root is = record {
-    begins = is.begins;
-    life = λ name main logged. (grew.logged name main (sym (is.unlogged name.rel) ∙ logged)).life;
-    fits = λ name main logged. is.fits name main (sym (is.unlogged name.rel) ∙ logged);
-    unchanged = λ name main unlogged. grew.unlogged name main (sym (is.unlogged name.rel) ∙ unlogged);
-  }
-
   rewound-converges : BothEnd d other c' target s
   rewound-converges =
       both-end base s.label.start.0 d c' other target s alike grew.log.bytes (copy-kinds c d n other copied grew.files.kinds grew.room.other_room) grew.log.starts grew.log.enough
-      (based d other ready.copy)
-      (subst (λ root. IsBased base s.label.start.0 s.records root per (first_world c' root s)) (needed-target c target source now n needed) (based c' n.aim.between.target ready.rewound))
+      ready.copy
+      (subst (λ root. IsBased base s.label.start.0 s.records root per (first_world c' root s)) (needed-target c target source now n needed) ready.rewound)
 
 pub follows : RewoundConverges
 follows c c' target source now n planned left base d other s copied grew = rewound-converges base c c' d target source other now n s planned left.sides left copied grew

@@ -2,13 +2,11 @@
 -- and pg_rewind.c. Own: "Clusters that grew from one state", "The law of one block".
 use Rattle.std.specs.Prelude.{◌≡◌, ◌⊎◌, ℕ, ℤ, ◌<◌, ◌≤◌, true, false, List, length, Option, Ok, is_some}
 use Rattle.block_refs.specs.declared.names.BlockName.{BlockName}
-use Rattle.block_refs.specs.declared.names.RelName.{RelName}
-use Rattle.cluster_compare.specs.Same.{has_init}
 use Rattle.cluster_kinds.specs.Kinds.{HasKinds}
+use Rattle.cluster_laws.specs.Converging.{IsBased}
 use Rattle.cluster_tree.specs.Contents.{Contents}
 use Rattle.cluster_tree.specs.PathValue.{PathValue}
 use Rattle.replay_core.specs.Replayed.{first_world}
-use Rattle.replay_laws.specs.Converging.{Begins, FitsBase}
 use Rattle.replay_laws.specs.Held.{IsMainBlock}
 use Rattle.replay_start.specs.Checked.{Start}
 use Rattle.rewind_core.specs.Fits.{IsRewound}
@@ -24,24 +22,18 @@ RewoundBlocks = (c c' : Contents) (n : Needing) (name : BlockName) → 0 < n.aim
     ⊎ ((is_some (block_in n.aim.between.target n.aim.between.per_file name c) ≡ true) × (n.aim.between.wanted name.rel name.block ≡ false)
     × (block_in n.aim.between.target n.aim.between.per_file name c' ≡ block_in n.aim.between.target n.aim.between.per_file name c))
 
--- A cluster under the mark of a replay, before the first record: its forks are whole, the relations that aren't logged are the source's, and
--- each block of the others fits the base.
-pub record IsReady (base : BlockName → Option (List ℕ)) (c : Contents) (source : PathValue) (files : Contents) (root : PathValue) (s : Start) : Type 0 where
-  pub begins : Begins root s.control.relseg (first_world files root s)
-  pub unlogged : (rel : RelName) → has_init (first_world files root s).files root rel ≡ has_init c source rel
-  pub fits : (name : BlockName) → IsMainBlock name → has_init c source name.rel ≡ false → FitsBase root s.control.relseg name (base name) s.records (first_world files root s)
-
--- both are, and the control file that both have says how many blocks a file may have, as the rewind took it
-pub record AreReady (base : BlockName → Option (List ℕ)) (c : Contents) (n : Needing) (c' d : Contents) (other : PathValue) (s : Start) : Type 0 where
+-- Both clusters, under the mark of a replay and before the first record, fit the base as the convergence law asks it; and the control file that
+-- both have says how many blocks a file may have as the rewind took it.
+pub record AreReady (base : BlockName → Option (List ℕ)) (n : Needing) (c' d : Contents) (other : PathValue) (s : Start) : Type 0 where
   pub relseg : s.control.relseg ≡ n.aim.between.per_file
-  pub copy : IsReady base c n.aim.between.source d other s
-  pub rewound : IsReady base c n.aim.between.source c' n.aim.between.target s
+  pub copy : IsBased base s.label.start.0 s.records other s.control.relseg (first_world d other s)
+  pub rewound : IsBased base s.label.start.0 s.records n.aim.between.target s.control.relseg (first_world c' n.aim.between.target s)
 
 -- where both clusters grew from one state
 abbrev pub BlocksFit : Type 0
 BlocksFit = (base : BlockName → Option (List ℕ)) (c c' d : Contents) (target source other : PathValue) (now : ℤ) (n : Needing) (s : Start)
     → planned_of c target source now ≡ Ok (Needs n) → IsRewound c n c' → IsWholeCopy c n d other
-    → GrewFromOneState base c n d other s → AreReady base c n c' d other s
+    → GrewFromOneState base c n d other s → AreReady base n c' d other s
 
 -- the entries of a whole copy are of the kinds that servers leave where the source's are
 abbrev pub CopyHasKinds : Type 0
