@@ -14,6 +14,7 @@ use Rattle.control_file.specs.Writing.{checkpoint_bytes}
 use Rattle.control_file.specs.declared.checkpoint.Checkpoint.{Checkpoint}
 use Rattle.control_file.proofs.WritingLemmas.{copy_again}
 use Rattle.layout.specs.Rows.{RowFits}
+use Rattle.layout.specs.Writing.{value_bytes}
 use Rattle.layout.proofs.LaidLemmas.{length-laid}
 use Rattle.pair_maker.specs.Inserts.{insert_block, insert_body, insert_main}
 use Rattle.pair_maker.specs.Logs.{common_checkpoint, last_checkpoint, made_at}
@@ -50,13 +51,14 @@ unfolding checkpoint_bytes checkpoint_rows
 checkpoint-long cp fits = length-laid 0 (checkpoint_rows 0 cp) (replicate 88 0) refl fits
 
 main_only : (main : List ℕ) → length main ≡ 88 → body_bytes [] main ≡ 255 ∷ 88 ∷ main
+unfolding value_bytes
 main_only main long = rw long refl
 
-pub no_blocks : PartsView
+abbrev pub no_blocks : PartsView
 no_blocks = record { start = 2; blocks = []; main = 2 }
 
 parts_only : (main : List ℕ) → length main ≡ 88 → written_parts [] main ≡ no_blocks
-unfolding no_blocks
+unfolding value_bytes
 parts_only main long = rw long refl
 
 pub checkpoint-parts : (cp : Checkpoint) → AllByRecursion RowFits (checkpoint_rows 0 cp) → parts_of (255 ∷ 88 ∷ checkpoint_bytes cp) ≡ Ok no_blocks
@@ -67,5 +69,4 @@ checkpoint-parts cp fits =
     ∙ ap (λ p. Ok p) (parts_only (checkpoint_bytes cp) long)
 
 pub checkpoint-said : (cp : Checkpoint) → AllByRecursion RowFits (checkpoint_rows 0 cp) → checkpoint_of (main_bytes (255 ∷ 88 ∷ checkpoint_bytes cp) no_blocks) ≡ Some cp
-unfolding no_blocks
 checkpoint-said cp fits = copy_again cp fits

@@ -3,3 +3,9 @@ pub mod PlaceLemmas
 pub mod HistoryLemmas
 pub mod ControlLemmas
 pub mod BodyLemmas
+pub mod RecordLemmas
+pub mod StepLemmas
+pub mod WalkLemmas
+pub mod FlawLemmas
+pub mod NamesLemmas
+pub mod SurveyLemmas
