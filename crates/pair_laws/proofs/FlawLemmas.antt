@@ -55,19 +55,15 @@ module _ (root : PathValue) (flaw : PathValue × Entry → Option WalkFault) whe
   first_found : (es : List (PathValue × Entry)) → T (is_sorted path_cmp es) → AreSound es → first_of (map flaw (found root es)) ≡ None
   unfolding first_of path_eq
   first_found [] sorted sound = refl
-  first_found (x ∷ es) sorted sound = by (lies_below root x.0) refl
+  first_found (x ∷ es) sorted sound =
+      let above = first (below_all path_cmp x.0 es) (is_sorted path_cmp es) sorted in
+      by (first_found es (second (below_all path_cmp x.0 es) (is_sorted path_cmp es) sorted) (λ q e is low. sound q e (behind x es q e above is) low)) (lies_below root x.0) refl
     where
-      above : T (below_all path_cmp x.0 es)
-      above = first (below_all path_cmp x.0 es) (is_sorted path_cmp es) sorted
-
-      rest : first_of (map flaw (found root es)) ≡ None
-      rest = first_found es (second (below_all path_cmp x.0 es) (is_sorted path_cmp es) sorted) (λ q e is low. sound q e (behind x es q e above is) low)
-
-      by : (b : Bool) → lies_below root x.0 ≡ b → first_of (map flaw (found_by root b x es)) ≡ None
-      by true low =
+      by : first_of (map flaw (found root es)) ≡ None → (b : Bool) → lies_below root x.0 ≡ b → first_of (map flaw (found_by root b x es)) ≡ None
+      by rest true low =
           let here : flaw (from_root root x.0, x.1) ≡ None = sound x.0 x.1 (ap (λ b. cond b (Some x.1) (find path_cmp x.0 es)) (path_eq-own x.0)) low in
           ap (λ o. first_of (o ∷ map flaw (found root es))) here ∙ rest
-      by false low = rest
+      by rest false low = rest
 
 some_there : (c : Contents) (p : PathValue) (e : Entry) → get c p ≡ Some e → entry_at c p ≡ Some e
 some_there c p e is = ap (λ o. or_root p.parts o) is

@@ -9,3 +9,5 @@ pub mod WalkLemmas
 pub mod FlawLemmas
 pub mod NamesLemmas
 pub mod SurveyLemmas
+pub mod PageLemmas
+pub mod ThereLemmas

@@ -67,19 +67,17 @@ others rel block same (b ∷ bs) none =
 
 in_filter : (p : ℕ → Bool) (block : ℕ) → p block ≡ true → (from n : ℕ) → from ≤ block → block < from + n → AllByRecursion (λ b. (b == block) ≡ false) (filter p (range_with_len from n)) → ⊥
 in_filter p block is from zero low high all = absurd (omega (arith, low, high))
-in_filter p block is from (suc n) low high all = by (p from) refl (from == block) refl all
+in_filter p block is from (suc n) low high all = by (λ a. in_filter p block is (from + 1) n (omega (arith, low, a)) (omega (arith, high))) (p from) refl (from == block) refl all
   where
-    later : (from == block) ≡ false → AllByRecursion (λ b. (b == block) ≡ false) (filter p (range_with_len (from + 1) n)) → ⊥
-    later other rest =
-        let apart : from ≡ block → ⊥ = λ e. true≢false (sym (eq-eqb from block e) ∙ other) in
-        in_filter p block is (from + 1) n (omega (arith, low, apart)) (omega (arith, high)) rest
+    apart : (from == block) ≡ false → from ≡ block → ⊥
+    apart other e = true≢false (sym (eq-eqb from block e) ∙ other)
 
-    by : (b : Bool) → p from ≡ b → (same : Bool) → (from == block) ≡ same
+    by : ((from ≡ block → ⊥) → AllByRecursion (λ b. (b == block) ≡ false) (filter p (range_with_len (from + 1) n)) → ⊥) → (b : Bool) → p from ≡ b → (same : Bool) → (from == block) ≡ same
         → AllByRecursion (λ b. (b == block) ≡ false) (cond b (from ∷ filter p (range_with_len (from + 1) n)) (filter p (range_with_len (from + 1) n))) → ⊥
-    by true its true same all = true≢false (sym same ∙ all.0)
-    by true its false other all = later other all.1
-    by false its false other all = later other all
-    by false its true same all = true≢false (sym is ∙ ap p (sym (eqb-true from block same)) ∙ its)
+    by later true its true same all = true≢false (sym same ∙ all.0)
+    by later true its false other all = later (apart other) all.1
+    by later false its false other all = later (apart other) all
+    by later false its true same all = true≢false (sym is ∙ ap p (sym (eqb-true from block same)) ∙ its)
 
 pub unnamed-block : (side : Side) (seed blocks : ℕ) (rel : RelName) (block : ℕ) → is_rel pair_relation rel ≡ true → block < blocks
     → any_covers rel block (names_of_log side seed blocks) ≡ false → inserts_into side seed block ≡ false
