@@ -11,3 +11,5 @@ pub mod NamesLemmas
 pub mod SurveyLemmas
 pub mod PageLemmas
 pub mod ThereLemmas
+pub mod KindLemmas
+pub mod PlannedLemmas

@@ -1,5 +1,5 @@
 -- The pages of a pair's relation, and where each lies in its file.
-use Rattle.std.proofs.Common.{◌≡◌, ℕ, zero, suc, ◌+◌, ◌-◌, ◌*◌, ◌%◌, ◌<◌, ◌≤◌, List, [], ◌∷◌, ◌++◌, length, take, drop, Option, None, Some, Result, Ok, Err, refl, sym, ap, ◌∙◌, subst, arith}
+use Rattle.std.proofs.Common.{◌≡◌, ℕ, zero, suc, ◌+◌, ◌-◌, ◌*◌, ◌%◌, ◌<◌, ◌≤◌, List, [], ◌∷◌, ◌++◌, length, take, drop, Option, None, Some, Result, Ok, Err, refl, sym, ap, ◌∙◌, subst, true, arith}
 use Rattle.std.proofs.Math.Seq.{drop-append-add, take-append_seam}
 use Rattle.std.proofs.lemmas.List.{length-append}
 use Rattle.std.specs.List.{flat_map, range_with_len}
@@ -19,7 +19,7 @@ use Rattle.pair_maker.specs.Files.{relation_bytes}
 use Rattle.pair_maker.specs.Inserts.{transaction, tuple_of}
 use Rattle.pair_maker.specs.Logs.{block_end}
 use Rattle.pair_maker.specs.declared.side.Side.{Side}
-use Rattle.pair_maker.proofs.BlockLemmas.{first_place, insert-on_empty}
+use Rattle.pair_maker.proofs.BlockLemmas.{insert-on_empty}
 
 -- ---- a page has 8192 bytes
 

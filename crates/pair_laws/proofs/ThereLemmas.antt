@@ -3,9 +3,11 @@ use Rattle.std.proofs.Common.{◌≡◌, ℕ, ◌+◌, ◌%◌, ◌==◌, ◌≤
 use Rattle.std.proofs.lemmas.Bool.Decides.{nat_tests}
 use Rattle.std.specs.Cmp.Lexicographic.{pointwise}
 use Rattle.std.specs.List.{list_all, list_any}
+use Rattle.block_refs.specs.declared.names.Fork.TheVariants.{Main}
 use Rattle.block_refs.specs.declared.names.RelName.{RelName}
 use Rattle.cluster_kinds.specs.Kinds.{IsAt, place_of}
 use Rattle.cluster_tree.specs.Contents.{Entry, FileEntry, FolderEntry, LinkEntry}
+use Rattle.cluster_tree.specs.Folders.{last_part}
 use Rattle.cluster_tree.specs.PathValue.{PathValue, front, is_part, kept_parts, path_of}
 use Rattle.control_file.specs.Writing.{control_bytes}
 use Rattle.file_walk.specs.Excluded.{is_excluded}
@@ -13,6 +15,7 @@ use Rattle.file_walk.specs.Relations.{relation_of}
 use Rattle.file_walk.specs.Walk.{entry_flaw, flaw_at}
 use Rattle.file_walk.specs.declared.fault.WalkFault.TheVariants as fault
 use Rattle.relation_files.specs.Reading.{file_named}
+use Rattle.relation_files.specs.declared.file_name.FileName.{FileName}
 use Rattle.reset_plan.specs.NewSegment.{checkpoint_record}
 use Rattle.wal_base.specs.Decimal.{decimal_number}
 use Rattle.pair_maker.specs.Clusters.{Named, common_entries, control_entry, first_log, second_log, shared_entries, source_entries, target_entries}
@@ -39,6 +42,13 @@ IsOfKind b LinkEntry = ⊥
 abbrev pub IsOnlyRelation : (bytes : List ℕ) → List (List ℕ) → Entry → Type 0
 IsOnlyRelation bytes parts e = (at : RelName × ℕ) → relation_of (path_of false parts) ≡ Some at → (at ≡ (pair_relation, 0)) × (e ≡ FileEntry bytes)
 
+-- so is a file with a relation file's name
+abbrev pub only_file : FileName
+only_file = record { relation = 16384; fork = Main; segment = 0 }
+
+abbrev pub IsOnlyFile : (bytes : List ℕ) → List (List ℕ) → Entry → Type 0
+IsOnlyFile bytes parts e = (file : FileName) (its : List ℕ) → e ≡ FileEntry its → file_named (last_part (path_of false parts)) ≡ Some file → (file ≡ only_file) × (its ≡ bytes)
+
 -- what holds of whatever stands in a cluster of a pair, whose relation has these bytes
 pub record Holds (bytes : List ℕ) (parts : List (List ℕ)) (e : Entry) : Type 0 where
   pub short : length parts ≤ 3
@@ -47,6 +57,7 @@ pub record Holds (bytes : List ℕ) (parts : List (List ℕ)) (e : Entry) : Type
   pub sort : IsOfKind (in_folders parts) e
   pub sound : entry_flaw (path_of false parts) e ≡ None
   pub relation : IsOnlyRelation bytes parts e
+  pub named : IsOnlyFile bytes parts e
   pub kept : is_excluded (path_of false parts) ≡ false
 
 -- ---- which paths are those of a relation's main fork
@@ -93,6 +104,15 @@ whole_if false path size whole = refl
 some_same : (a b : RelName × ℕ) → Some a ≡ Some b → a ≡ b
 some_same a b h = cc h
 
+no_file : (bytes : List ℕ) (parts : List (List ℕ)) → IsOnlyFile bytes parts (FolderEntry false)
+no_file bytes parts file its is named = absurd (cc)
+
+unnamed : (bytes : List ℕ) (parts : List (List ℕ)) (e : Entry) → file_named (last_part (path_of false parts)) ≡ None → IsOnlyFile bytes parts e
+unnamed bytes parts e none file its is named = absurd (cc)
+
+same_name : (bytes its : List ℕ) (file other : FileName) → FileEntry bytes ≡ FileEntry its → Some other ≡ Some file → (file ≡ other) × (its ≡ bytes)
+same_name bytes its file other is named = (cc, cc)
+
 -- ---- each entry
 
 module _ (bytes : List ℕ) (whole : length bytes % 8192 ≡ 0) where
@@ -105,6 +125,7 @@ module _ (bytes : List ℕ) (whole : length bytes % 8192 ≡ 0) where
     sort = (refl, refl);
     sound = refl;
     relation = none_of bytes (kept_parts (codes "")) (FolderEntry false) refl;
+    named = no_file bytes (kept_parts (codes ""));
     kept = refl;
   }
 
@@ -117,6 +138,7 @@ module _ (bytes : List ℕ) (whole : length bytes % 8192 ≡ 0) where
     sort = (refl, refl);
     sound = refl;
     relation = none_of bytes (kept_parts (codes "base")) (FolderEntry false) refl;
+    named = no_file bytes (kept_parts (codes "base"));
     kept = refl;
   }
 
@@ -129,6 +151,7 @@ module _ (bytes : List ℕ) (whole : length bytes % 8192 ≡ 0) where
     sort = (refl, refl);
     sound = refl;
     relation = none_of bytes (kept_parts (codes "base/5")) (FolderEntry false) refl;
+    named = no_file bytes (kept_parts (codes "base/5"));
     kept = refl;
   }
 
@@ -141,6 +164,7 @@ module _ (bytes : List ℕ) (whole : length bytes % 8192 ≡ 0) where
     sort = (refl, refl);
     sound = refl;
     relation = none_of bytes (kept_parts (codes "global")) (FolderEntry false) refl;
+    named = no_file bytes (kept_parts (codes "global"));
     kept = refl;
   }
 
@@ -153,11 +177,12 @@ module _ (bytes : List ℕ) (whole : length bytes % 8192 ≡ 0) where
     sort = (refl, refl);
     sound = refl;
     relation = none_of bytes (kept_parts (codes "pg_wal")) (FolderEntry false) refl;
+    named = no_file bytes (kept_parts (codes "pg_wal"));
     kept = refl;
   }
 
   version_holds : (file : List ℕ) → Holds bytes (kept_parts (codes "PG_VERSION")) (FileEntry file)
-  unfolding is_excluded
+  unfolding is_excluded file_named decimal_number
   version_holds file = record {
     short = lit≤ tt;
     proper = refl;
@@ -165,11 +190,12 @@ module _ (bytes : List ℕ) (whole : length bytes % 8192 ≡ 0) where
     sort = refl;
     sound = plain_sound (kept_parts (codes "PG_VERSION")) file no_version;
     relation = none_of bytes (kept_parts (codes "PG_VERSION")) (FileEntry file) no_version;
+    named = unnamed bytes (kept_parts (codes "PG_VERSION")) (FileEntry file) refl;
     kept = refl;
   }
 
   database_version_holds : (file : List ℕ) → Holds bytes (kept_parts (codes "base/5/PG_VERSION")) (FileEntry file)
-  unfolding is_excluded
+  unfolding is_excluded file_named decimal_number
   database_version_holds file = record {
     short = lit≤ tt;
     proper = refl;
@@ -177,11 +203,12 @@ module _ (bytes : List ℕ) (whole : length bytes % 8192 ≡ 0) where
     sort = refl;
     sound = plain_sound (kept_parts (codes "base/5/PG_VERSION")) file no_database_version;
     relation = none_of bytes (kept_parts (codes "base/5/PG_VERSION")) (FileEntry file) no_database_version;
+    named = unnamed bytes (kept_parts (codes "base/5/PG_VERSION")) (FileEntry file) refl;
     kept = refl;
   }
 
   relation_holds : Holds bytes (kept_parts (codes "base/5/16384")) (FileEntry bytes)
-  unfolding is_excluded
+  unfolding is_excluded file_named decimal_number
   relation_holds = record {
     short = lit≤ tt;
     proper = refl;
@@ -189,11 +216,12 @@ module _ (bytes : List ℕ) (whole : length bytes % 8192 ≡ 0) where
     sort = refl;
     sound = whole_if (is_some (relation_of (path_of false (kept_parts (codes "base/5/16384"))))) (path_of false (kept_parts (codes "base/5/16384"))) (length bytes) whole;
     relation = λ at is. (some_same at (pair_relation, 0) (sym is ∙ relation-here), refl);
+    named = λ file its is named. same_name bytes its file only_file is named;
     kept = refl;
   }
 
   first_log_holds : (file : List ℕ) → Holds bytes (kept_parts (codes "pg_wal/000000010000000000000001")) (FileEntry file)
-  unfolding is_excluded
+  unfolding is_excluded file_named decimal_number
   first_log_holds file = record {
     short = lit≤ tt;
     proper = refl;
@@ -201,11 +229,12 @@ module _ (bytes : List ℕ) (whole : length bytes % 8192 ≡ 0) where
     sort = refl;
     sound = plain_sound (kept_parts (codes "pg_wal/000000010000000000000001")) file no_first_log;
     relation = none_of bytes (kept_parts (codes "pg_wal/000000010000000000000001")) (FileEntry file) no_first_log;
+    named = unnamed bytes (kept_parts (codes "pg_wal/000000010000000000000001")) (FileEntry file) refl;
     kept = refl;
   }
 
   history_holds : (file : List ℕ) → Holds bytes (kept_parts (codes "pg_wal/00000002.history")) (FileEntry file)
-  unfolding is_excluded
+  unfolding is_excluded file_named decimal_number
   history_holds file = record {
     short = lit≤ tt;
     proper = refl;
@@ -213,11 +242,12 @@ module _ (bytes : List ℕ) (whole : length bytes % 8192 ≡ 0) where
     sort = refl;
     sound = plain_sound (kept_parts (codes "pg_wal/00000002.history")) file no_history;
     relation = none_of bytes (kept_parts (codes "pg_wal/00000002.history")) (FileEntry file) no_history;
+    named = unnamed bytes (kept_parts (codes "pg_wal/00000002.history")) (FileEntry file) refl;
     kept = refl;
   }
 
   second_log_holds : (file : List ℕ) → Holds bytes (kept_parts (codes "pg_wal/000000020000000000000001")) (FileEntry file)
-  unfolding is_excluded
+  unfolding is_excluded file_named decimal_number
   second_log_holds file = record {
     short = lit≤ tt;
     proper = refl;
@@ -225,11 +255,12 @@ module _ (bytes : List ℕ) (whole : length bytes % 8192 ≡ 0) where
     sort = refl;
     sound = plain_sound (kept_parts (codes "pg_wal/000000020000000000000001")) file no_second_log;
     relation = none_of bytes (kept_parts (codes "pg_wal/000000020000000000000001")) (FileEntry file) no_second_log;
+    named = unnamed bytes (kept_parts (codes "pg_wal/000000020000000000000001")) (FileEntry file) refl;
     kept = refl;
   }
 
   control_holds : (file : List ℕ) → Holds bytes (kept_parts (codes "global/pg_control")) (FileEntry file)
-  unfolding is_excluded
+  unfolding is_excluded file_named decimal_number
   control_holds file = record {
     short = lit≤ tt;
     proper = refl;
@@ -237,6 +268,7 @@ module _ (bytes : List ℕ) (whole : length bytes % 8192 ≡ 0) where
     sort = refl;
     sound = plain_sound (kept_parts (codes "global/pg_control")) file no_control;
     relation = none_of bytes (kept_parts (codes "global/pg_control")) (FileEntry file) no_control;
+    named = unnamed bytes (kept_parts (codes "global/pg_control")) (FileEntry file) refl;
     kept = refl;
   }
 
