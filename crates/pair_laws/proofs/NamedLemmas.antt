@@ -11,7 +11,7 @@ use Rattle.pair_laws.specs.Stands.{copy_of, source_of, target_of}
 
 -- ---- entries below a name
 
-named-append : (old : Option Entry) (a b : List Named) (parts : List (List ℕ)) → last_named old (a ++ b) parts ≡ last_named (last_named old a parts) b parts
+pub named-append : (old : Option Entry) (a b : List Named) (parts : List (List ℕ)) → last_named old (a ++ b) parts ≡ last_named (last_named old a parts) b parts
 named-append old [] b parts = refl
 named-append old (n ∷ a) b parts = named-append (cond (pointwise bytes_eq n.parts parts) (Some n.entry) old) a b parts
 

@@ -192,6 +192,11 @@ module _ (root : PathValue) (seed blocks : ℕ) (c : Contents) (pair : HasPair r
   abbrev w : Between
   w = (pair_aim root seed blocks now).between
 
+  pairs_pass : first_lacking w (pair_pairs c root) ≡ None → first_difference (pair_pairs c root) ≡ None → from_pairs (pair_aim root seed blocks now) (pair_pairs c root) ≡ Ok (Needs (pair_needing root seed blocks c now))
+  unfolding first_of
+  pairs_pass a b =
+      ap₂ (λ x y. unless (first_of (option_map fault.TooDeep x ∷ option_map fault.KindsDiffer y ∷ [])) (Ok (Needs (pair_needing root seed blocks c now)))) a b
+
   pub planned-found : planned_of c (target_of root) (source_of root) now ≡ Ok (Needs (pair_needing root seed blocks c now))
   unfolding planned_of from_parting from_walks
   planned-found =
@@ -207,9 +212,4 @@ module _ (root : PathValue) (seed blocks : ℕ) (c : Contents) (pair : HasPair r
       ∙ ap (λ o. from_size c target source part (control_of Target seed blocks) (control_of Source seed blocks) o now) size-is
       ∙ ap (λ r. given_read (seen r) (λ ts. given_read (seen (walk_of c source)) (λ ss. from_pairs aim (pairs_of ts ss)))) (cluster-walked c target bytes one)
       ∙ ap (λ r. given_read (seen r) (λ ss. from_pairs aim (pairs_of (filter_map walked (found_below c target)) ss))) (cluster-walked c source others other)
-      ∙ refusal_none (none-lacking c w bytes others one other) (none-differing c w bytes others one other)
-    where
-      refusal_none : first_lacking w (pair_pairs c root) ≡ None → first_difference (pair_pairs c root) ≡ None → from_pairs (pair_aim root seed blocks now) (pair_pairs c root) ≡ Ok (Needs (pair_needing root seed blocks c now))
-      unfolding first_of
-      refusal_none a b =
-          ap₂ (λ x y. unless (first_of (option_map fault.TooDeep x ∷ option_map fault.KindsDiffer y ∷ [])) (Ok (Needs (pair_needing root seed blocks c now)))) a b
+      ∙ pairs_pass (none-lacking c w bytes others one other) (none-differing c w bytes others one other)

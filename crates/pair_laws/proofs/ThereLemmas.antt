@@ -25,7 +25,7 @@ use Rattle.pair_maker.specs.Logs.{common_checkpoint, records_of}
 use Rattle.pair_maker.specs.declared.side.Side.{Side}
 use Rattle.pair_maker.specs.declared.side.Side.TheVariants.{Target, Source}
 use Rattle.pair_laws.proofs.NamedLemmas.{AllNamed}
-use Rattle.pair_laws.proofs.PageLemmas.{relation-whole}
+use Rattle.pair_laws.proofs.FileLemmas.{relation-whole}
 
 -- ---- the folders of a cluster
 

@@ -123,11 +123,11 @@ first_checkpoint : (side : Side) → is_checkpoint (first_log side) ≡ true
 unfolding common checkpoint_record operation_of xlog_op_of
 first_checkpoint side = ap is_checkpoint (first_given side)
 
-pub found_common : CommonCheckpoint
+abbrev pub found_common : CommonCheckpoint
 found_common = record { start = record { 0 = common_place }; checkpoint = common_checkpoint }
 
 first_says : (side : Side) → checkpoint_in (first_log side) ≡ Ok found_common
-unfolding common checkpoint_record checkpoint_in found_common
+unfolding common checkpoint_record checkpoint_in
 first_says side =
     let g = given_in (begun (origin_of side)) common in
     ap checkpoint_in (first_given side)
@@ -351,7 +351,7 @@ module _ (root : PathValue) (spans : List Span) (c : Contents) (seed blocks : �
 
   pub read-through : (fork : Divergence) (named : List (List Named)) → AllHaveNames (log_records start all) named
       → read_from pages 0x10_0000 fork end found_common ≡ Ok (Parted (record { told = told_of fork found_common; redo = common_place; records = log_records start all }))
-  unfolding read_from found_common written
+  unfolding read_from written
   read-through fork named has =
       let up = place_at_up 0x10_0000 end in
       let whole = all-needed (at_lsn end) (log_records start all) named (place_at 0x10_0000 end) why_ended up (all-end start all read.each) has in

@@ -17,11 +17,14 @@ use Rattle.pair_maker.specs.Files.{segment_bytes}
 use Rattle.pair_maker.specs.Logs.{origin_of, records_of}
 use Rattle.pair_maker.specs.declared.side.Side.{Side}
 
--- Of these pages the records of a cluster's log are read: from where any first ones end the others, one after another, up to where the log
--- ends, which is within its one segment.
+-- Of these pages the records of a cluster's log are read, each at its place; and from where any first ones end the others, one after another,
+-- up to where the log ends, which is within its one segment.
 pub record IsRead (pages : Pages) (side : Side) (records : List NewRecord) : Type 0 where
   pub each : AllNew (begun (origin_of side)) records
   pub low : (written (origin_of side) records).end < 0x20_0000
+  pub spelled : (front : List NewRecord) (r : NewRecord) (back : List NewRecord) → records ≡ front ++ r ∷ back
+      → reading pages 0x10_0000 (written (origin_of side) front).before (place_at 0x10_0000 (written (origin_of side) front).end)
+      ≡ Spelled (new_log_record (written (origin_of side) front) r)
   pub from : (front back : List NewRecord) → records ≡ front ++ back
       → log_from pages 0x10_0000 (written (origin_of side) front).before (place_at 0x10_0000 (written (origin_of side) front).end)
       ≡ record {
@@ -29,9 +32,6 @@ pub record IsRead (pages : Pages) (side : Side) (records : List NewRecord) : Typ
         place = place_at 0x10_0000 (written (origin_of side) records).end;
         why = end_why (written (origin_of side) records);
       }
-  pub spelled : (front : List NewRecord) (r : NewRecord) (back : List NewRecord) → records ≡ front ++ r ∷ back
-      → reading pages 0x10_0000 (written (origin_of side) front).before (place_at 0x10_0000 (written (origin_of side) front).end)
-      ≡ Spelled (new_log_record (written (origin_of side) front) r)
 
 -- where its segment of number 1 stands at its path
 abbrev pub PairLogsAreRead : Type 0
