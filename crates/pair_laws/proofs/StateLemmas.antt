@@ -42,7 +42,7 @@ use Rattle.wal_records.specs.Writer.{appended, begun}
 -- ---- a page isn't zeros
 
 zero_test : (b : Bool) → (if b then false else true) ≡ true → b ≡ false
-zero_test true h = h
+zero_test true h = sym h
 zero_test false h = refl
 
 stamped_some : (end : ℕ) (p : List ℕ) → 0 < end → length p ≡ 8192 → is_zero (with_lsn end p) ≡ false
