@@ -1,5 +1,5 @@
 -- The pages of a pair's relation, and the bodies of the records of inserts.
-use Rattle.std.proofs.Common.{◌≡◌, ℕ, ◌+◌, ◌-◌, ◌/◌, ◌%◌, ◌^◌, ◌<◌, ◌≤◌, Bool, true, false, ◌&&◌, ◌||◌, cond, nat_le, nat_lt, List, [], ◌∷◌, ◌++◌, length, Option, None, Some, Result, Ok, Err, refl, ap, ap₂, sym, ◌∙◌, subst, arith}
+use Rattle.std.proofs.Common.{◌≡◌, ℕ, ◌+◌, ◌-◌, ◌/◌, ◌%◌, ◌^◌, true, ◌&&◌, ◌||◌, cond, nat_le, nat_lt, List, [], ◌∷◌, ◌++◌, length, None, Some, Ok, Err, refl, ap, ap₂, sym, ◌∙◌, subst}
 use Rattle.std.specs.Prelude.{replicate}
 use Rattle.byteorder.specs.Endian.{little_bytes}
 use Rattle.layout.specs.Writing.{value_bytes}
@@ -9,7 +9,7 @@ use Rattle.heap_pages.specs.NewTuple.{new_tuple}
 use Rattle.heap_tuples.specs.Put.{extended, filled, has_room_at, is_open, put_refusal}
 use Rattle.page_layout.specs.Bytes.{up8}
 use Rattle.page_layout.specs.Edits.{added, init_bytes, is_free, refuse_or}
-use Rattle.page_layout.specs.Page.{IsFormed, count, pd_lower, pd_upper}
+use Rattle.page_layout.specs.Page.{IsFormed, pd_lower, pd_upper}
 use Rattle.page_layout.specs.declared.refusal.RedoWhy.{RedoWhy}
 use Rattle.page_layout.specs.declared.refusal.RedoWhy.TheVariants.{Place, Room}
 use Rattle.page_layout.proofs.ReadLemmas.{lower_u16, upper_u16}
@@ -49,9 +49,6 @@ first_place = record { off = 1; flags = 0 }
 abbrev pub tuple-as : List ℕ → TupleView
 tuple-as bytes = record { header = record { infomask2 = 1; infomask = 0x0800; hoff = 24 }; bytes = bytes }
 
-tuple_length : (seed block : ℕ) → length (new_tuple transaction 0 block 1 (tuple_of seed block)) ≡ 28
-tuple_length seed block = refl
-
 pub insert-on_empty : (seed block : ℕ) → insert_page transaction block first_place (tuple_of seed block) (init_bytes 0) ≡ Ok (inserted seed block)
 unfolding inserted
 insert-on_empty seed block =
@@ -82,6 +79,3 @@ laid_body seed block =
 pub body-is : (seed block : ℕ) (items : List ℕ) → items ≡ laid_body seed block → items ≡ insert_body seed block
 unfolding insert_body value_bytes
 body-is seed block items is = is
-
-pub body_length : (seed block : ℕ) → length (laid_body seed block) ≡ 35
-body_length seed block = refl

@@ -5,7 +5,7 @@ use Rattle.control_file.specs.Admission.{IsControl}
 use Rattle.control_file.specs.Rows.{head_rows, checkpoint_rows, recovery_rows, setting_rows, build_rows, rows_of}
 use Rattle.control_file.specs.declared.control.Control.{Control}
 use Rattle.rewound_tree.specs.RewoundControl.{rewound_control}
-use Rattle.pair_maker.specs.Clusters.{control_with}
+use Rattle.pair_maker.specs.Files.{control_with}
 use Rattle.pair_maker.specs.Logs.{is_megabyte, last_checkpoint, made_at}
 use Rattle.pair_maker.specs.declared.side.Side.{Side}
 

@@ -7,7 +7,8 @@ use Rattle.cluster_tree.specs.PathValue.{PathValue, below, path_of}
 use Rattle.reset_plan.specs.Plan.{padded}
 use Rattle.wal_records.specs.Writer.{NewRecord, Written, in_pages, written}
 use Rattle.pair_maker.specs.Blocks.{block_page}
-use Rattle.pair_maker.specs.Clusters.{Named, below_name, file, copy_entries, pair_entries, relation_bytes, segment_bytes, source_entries, target_entries}
+use Rattle.pair_maker.specs.Clusters.{Named, below_name, file, copy_entries, pair_entries, source_entries, target_entries}
+use Rattle.pair_maker.specs.Files.{relation_bytes, segment_bytes}
 use Rattle.pair_maker.specs.Entries.{AddsBelow, Standing, pages_from, standing_at, standing_of}
 use Rattle.pair_maker.specs.declared.entries.Placed.{Placed}
 use Rattle.pair_maker.specs.Logs.{block_end, origin_of}

@@ -1,11 +1,11 @@
 -- The logs of a pair, record by record.
-use Rattle.std.proofs.Common.{◌≡◌, ℕ, ◌+◌, ◌<◌, ◌≤◌, ◌^◌, Bool, true, false, cond, List, [], ◌∷◌, ◌++◌, length, filter, map, Option, None, Some, OnOk, Result, Ok, Err, refl, ap, sym, ◌∙◌, subst, arith, zero-add}
+use Rattle.std.proofs.Common.{◌≡◌, ℕ, ◌+◌, true, false, cond, List, [], ◌∷◌, ◌++◌, filter, map, None, Some, OnOk, Result, Ok, Err, refl, ap, sym, ◌∙◌, zero-add}
 use Rattle.std.proofs.lemmas.List.{append-nil, map-append, map-id}
 use Rattle.std.proofs.lemmas.List.FromFn.{filter_of_map_range_with_len_more}
 use Rattle.std.specs.List.{range_with_len}
 use Rattle.reset_plan.specs.NewSegment.{checkpoint_record}
 use Rattle.wal_records.specs.Place.{place_at}
-use Rattle.wal_records.specs.Writer.{NewRecord, Written, begun, new_record, written}
+use Rattle.wal_records.specs.Writer.{NewRecord, Written, begun, written}
 use Rattle.wal_records.specs.declared.log_origin.LogOrigin.{LogOrigin}
 use Rattle.pair_maker.specs.Inserts.{insert_blocks, insert_record, inserts_into}
 use Rattle.pair_maker.specs.Logs.{block_end, common_checkpoint, last_checkpoint, last_place, log_upto, origin_of, records_of, records_upto}

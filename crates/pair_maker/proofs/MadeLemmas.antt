@@ -1,15 +1,15 @@
 -- What the changes of a pair leave, where they were carried out.
-use Rattle.std.proofs.Common.{◌≡◌, ℕ, Bool, true, false, IsTrue, List, [], ◌++◌, map, Result, Ok, Err, refl, ap, sym, subst, true≢false}
+use Rattle.std.proofs.Common.{◌≡◌, ℕ, Bool, true, false, IsTrue, List, [], map, Result, refl, ap, sym, subst, true≢false}
 use Rattle.std.proofs.lemmas.List.{append-nil}
-use Rattle.cluster_tree.specs.Change.{Change, all_changed, call_of}
-use Rattle.cluster_tree.specs.Contents.{Contents, IsTree, entry_at}
+use Rattle.cluster_tree.specs.Change.{Change, call_of}
+use Rattle.cluster_tree.specs.Contents.{Contents, IsTree}
 use Rattle.cluster_tree.specs.PathValue.{PathValue}
 use Rattle.cluster_tree.specs.Run.{state_by}
 use Rattle.cluster_tree.specs.declared.file_fault.FileFault.TheVariants as fault
 use Rattle.cluster_tree.specs.declared.tree.ChangeCall.{ChangeCall}
 use Rattle.cluster_tree.specs.declared.tree.Tree.{Ghosts}
 use Rattle.marked_runs.specs.Performed.{Performed, Performs}
-use Rattle.marked_runs.specs.Runs.{Runs, is_done}
+use Rattle.marked_runs.specs.Runs.{Runs}
 use Rattle.marked_runs.specs.declared.faults.PerformFault.{PerformFault}
 use Rattle.marked_runs.specs.declared.faults.PerformFault.TheVariants as perform
 use Rattle.pair_maker.specs.Clusters.{pair_entries}

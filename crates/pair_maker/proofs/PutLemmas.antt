@@ -1,18 +1,18 @@
 -- How the writes of one file join, and the changes of entries that are made one after another.
-use Rattle.std.proofs.Common.{◌≡◌, ℕ, suc, ◌+◌, ◌-◌, ◌*◌, ◌<◌, ◌≤◌, Bool, true, false, cond, nat_lt, IsTrue, List, [], ◌∷◌, ◌++◌, length, map, take, drop, drop-cons, get_or, Option, None, Some, Result, Ok, Err, refl, ap, sym, ◌∙◌, subst, arith, rules}
+use Rattle.std.proofs.Common.{◌≡◌, ℕ, suc, ◌+◌, ◌-◌, ◌<◌, ◌≤◌, Bool, true, false, cond, nat_lt, List, [], ◌∷◌, ◌++◌, length, take, drop, drop-cons, get_or, Option, None, Some, Result, Ok, Err, refl, ap, sym, ◌∙◌, subst, arith, rules}
 use Rattle.std.proofs.lemmas.List.{append-nil, drop-drop, length-append, length-drop, length-take-le, take-append-drop}
 use Rattle.layout.specs.Splice.{splice}
 use Rattle.cluster_tree.specs.PathValue.{PathValue}
 use Rattle.cluster_tree.specs.Contents.{Contents, Entry, FolderEntry, FileEntry, LinkEntry, entry_at}
-use Rattle.cluster_tree.specs.Change.{Change, MakesFile, Writes, all_changed, first_refusal, or_next}
+use Rattle.cluster_tree.specs.Change.{Change, MakesFile, Writes, first_refusal, or_next}
 use Rattle.cluster_tree.specs.Tree.{bytes_at, bytes_in, file_of, refusal_past, write_refusal, written}
 use Rattle.cluster_tree.specs.declared.tree.Tree.{Ghosts}
 use Rattle.cluster_tree.specs.declared.tree.TreeFault.{TreeFault}
 use Rattle.cluster_tree.specs.declared.tree.TreeFault.TheVariants as fault
 use Rattle.cluster_tree.proofs.ContentsLemmas.{write_refusal-put}
-use Rattle.marked_runs.specs.Carried.{Carried, Carries}
+use Rattle.marked_runs.specs.Carried.{Carries}
 use Rattle.marked_runs.specs.Performed.{Performs}
-use Rattle.marked_runs.specs.Runs.{Runs, is_done, writes_at}
+use Rattle.marked_runs.specs.Runs.{is_done, writes_at}
 use Rattle.marked_runs.specs.declared.faults.PerformFault.{PerformFault}
 use Rattle.marked_runs.specs.declared.faults.StepFault.{StepFault}
 use Rattle.marked_runs.proofs.CarriedLemmas.{performs-front, performs-nothing, performs-then}

@@ -1,7 +1,7 @@
 -- What stands below a root once the entries of a pair were made, and that none of them is refused.
-use Rattle.std.proofs.Common.{◌≡◌, ◌≢◌, ◌⊎◌, inl, inr, ℕ, suc, ◌+◌, ◌-◌, ◌<◌, Bool, true, false, not, ◌&&◌, ◌||◌, cond, IsTrue, List, [], ◌∷◌, ◌++◌, length, map, take, Option, None, Some, is_some, refl, ap, sym, ◌∙◌, subst, arith, true≢false, append_assoc, codes, bytes_eq, zero-add}
+use Rattle.std.proofs.Common.{◌≡◌, ◌≢◌, ◌⊎◌, inl, inr, ℕ, suc, ◌+◌, ◌-◌, ◌<◌, Bool, true, false, not, ◌&&◌, ◌||◌, cond, List, [], ◌∷◌, ◌++◌, length, map, take, Option, None, Some, is_some, refl, ap, sym, ◌∙◌, subst, arith, true≢false, append_assoc, codes, bytes_eq, zero-add}
 use Rattle.std.proofs.lemmas.Bool.{and_parts}
-use Rattle.std.proofs.lemmas.List.{append-nil, append_cancel_left, length-append, map-append}
+use Rattle.std.proofs.lemmas.List.{append-nil, append_cancel_left, length-append}
 use Rattle.std.proofs.lemmas.Slice.Eq.{bytes_eq-Decides, slice_eq-Decides}
 use Rattle.std.specs.Bool.{Decides}
 use Rattle.std.specs.Cmp.Lexicographic.{pointwise}
@@ -10,16 +10,16 @@ use Rattle.std.specs.List.{list_all, list_any}
 use Rattle.cluster_tree.specs.PathValue.{PathValue, below, path_of}
 use Rattle.cluster_tree.specs.PathOrder.{path_eq}
 use Rattle.cluster_tree.specs.Contents.{Contents, Entry, FolderEntry, FileEntry, LinkEntry, IsTree, entry_at, is_folder, or_root, parent}
-use Rattle.cluster_tree.specs.Change.{Change, MakesFile, MakesFolder, Writes, all_changed, first_refusal, is_on, or_next}
-use Rattle.cluster_tree.specs.Tree.{make_refusal, refusal_in, write_refusal, written}
+use Rattle.cluster_tree.specs.Change.{Change, all_changed, first_refusal, is_on, or_next}
+use Rattle.cluster_tree.specs.Tree.{make_refusal, refusal_in, write_refusal}
 use Rattle.cluster_tree.specs.declared.tree.TreeFault.TheVariants as fault
 use Rattle.cluster_tree.proofs.ChangeLemmas.{changed-in_turn}
 use Rattle.cluster_tree.proofs.ContentsLemmas.{entry-put, entry-put_other, write_refusal-new, written-new}
 use Rattle.cluster_tree.proofs.OrderLemmas.{path_eq-other}
 use Rattle.marked_runs.proofs.CarriedLemmas.{unrefused-both}
 use Rattle.pair_maker.specs.Clusters.{Named, pair_entries}
-use Rattle.pair_maker.specs.Entries.{Standing, changes_at, changes_of, standing_at}
-use Rattle.pair_maker.specs.Pair.{HasRoom, PairStands, StaysBeside, is_in_pair, last_named, pair_changes, pair_of}
+use Rattle.pair_maker.specs.Entries.{changes_at, changes_of, standing_at}
+use Rattle.pair_maker.specs.Pair.{HasRoom, PairStands, is_in_pair, last_named, pair_changes}
 
 -- ---- parts, and paths below a root
 

@@ -1,19 +1,14 @@
--- The clusters of a pair and the copy of the source, file by file: PostgreSQL 16 manual, section "Database File Layout". Own: "A pair from a number".
-use Rattle.std.specs.Prelude.{ℕ, pos, false, ◌∷◌, ◌++◌, List, [], codes, map, replicate, Option}
-use Rattle.std.specs.List.{flat_map, range_with_len}
+-- The clusters of a pair and the copy of the source, entry by entry: PostgreSQL 16 manual, section "Database File Layout". Own: "A pair from a number".
+use Rattle.std.specs.Prelude.{ℕ, pos, false, ◌∷◌, ◌++◌, List, [], codes, map}
 use Rattle.backup_label.specs.Text.{label_text}
-use Rattle.backup_label.specs.declared.label.Label.{Label}
 use Rattle.cluster_tree.specs.Contents.{Entry, FileEntry, FolderEntry}
 use Rattle.cluster_tree.specs.PathValue.{kept_parts}
 use Rattle.control_file.specs.Writing.{control_bytes}
-use Rattle.control_file.specs.declared.checkpoint.Checkpoint.{Checkpoint}
 use Rattle.control_file.specs.declared.control.Control.{Control}
 use Rattle.reset_plan.specs.NewSegment.{checkpoint_record}
-use Rattle.reset_plan.specs.Plan.{padded}
 use Rattle.rewound_tree.specs.RewoundControl.{rewound_control}
-use Rattle.wal_records.specs.Writer.{NewRecord, log_bytes_of}
-use Rattle.pair_maker.specs.Blocks.{block_page}
-use Rattle.pair_maker.specs.Logs.{block_end, common_checkpoint, common_place, last_checkpoint, last_place, made_at, megabyte, origin_of, records_of, system}
+use Rattle.pair_maker.specs.Files.{control_of, history_bytes, pair_label, relation_bytes, segment_bytes, version_bytes}
+use Rattle.pair_maker.specs.Logs.{common_checkpoint, made_at, records_of}
 use Rattle.pair_maker.specs.declared.side.Side.{Side}
 use Rattle.pair_maker.specs.declared.side.Side.TheVariants.{Target, Source}
 
@@ -28,80 +23,9 @@ folder text = record { parts = kept_parts text; entry = FolderEntry false }
 abbrev pub file : List ℕ → List ℕ → Named
 file text bytes = record { parts = kept_parts text; entry = FileEntry bytes }
 
--- ---- the bytes of the files
-
--- the relation: its blocks, each as its own insert left it
-unfoldable pub relation_bytes : Side → (seed blocks : ℕ) → List ℕ
-relation_bytes side seed blocks = flat_map (λ block. block_page seed block (block_end side seed block)) (range_with_len 0 blocks)
-
--- a segment: the log of these records, and zeros
-unfoldable pub segment_bytes : Side → List NewRecord → List ℕ
-segment_bytes side records = padded (log_bytes_of (origin_of side) records) 0x10_0000
-
--- a control file of a cluster that was shut down (1) with this checkpoint, whose redo is its record's place
-abbrev pub control_with : Checkpoint → Control
-control_with cp = record {
-  sysid = system;
-  version = 1300;
-  catalog = 202307071;
-  state = 1;
-  time = pos made_at;
-  checkPoint = cp.redo;
-  cp = cp;
-  unloggedLsn = 1000;
-  minRecoveryPoint = 0;
-  minRecoveryPointTli = 0;
-  backupStart = 0;
-  backupEnd = 0;
-  endRequired = 0;
-  walLevel = 1;
-  walLogHints = 1;
-  maxConnections = 100;
-  maxWorkers = 8;
-  maxSenders = 10;
-  maxPrepared = 0;
-  maxLocks = 64;
-  trackCommitTs = 0;
-  maxAlign = 8;
-  floatFormat = 0x4132_D687_0000_0000;
-  blcksz = 8192;
-  relseg = 131072;
-  walBlcksz = 8192;
-  walSegSize = 0x10_0000;
-  nameLen = 64;
-  indexKeys = 32;
-  toastChunk = 1996;
-  loBlock = 2048;
-  float8ByVal = 1;
-  checksumVersion = 0;
-  nonce = replicate 32 0;
-}
-
-abbrev pub control_of : Side → (seed blocks : ℕ) → Control
-control_of side seed blocks = control_with (last_checkpoint side (last_place side seed blocks))
-
--- the label of a rewind, which begins at the common checkpoint
-abbrev pub pair_label : Label
-pair_label = record {
-  start = record { 0 = common_place };
-  tli = 1;
-  size = megabyte;
-  checkpoint = record { 0 = common_place };
-  time = pos made_at;
-}
-
--- the history of timeline 2: it left timeline 1 where the common checkpoint ends
-abbrev pub history_bytes : List ℕ
-history_bytes = codes "1" ++ (9 ∷ (codes "0/1000A0" ++ (9 ∷ (codes "promoted" ++ 10 ∷ []))))
-
--- ---- the files
-
 -- the root itself, and the folders below it
 abbrev pub folder_entries : List Named
 folder_entries = folder (codes "") ∷ folder (codes "base") ∷ folder (codes "base/5") ∷ folder (codes "global") ∷ folder (codes "pg_wal") ∷ []
-
-abbrev pub version_bytes : List ℕ
-version_bytes = codes "16" ++ 10 ∷ []
 
 abbrev pub version_entries : List Named
 version_entries = file (codes "PG_VERSION") version_bytes ∷ file (codes "base/5/PG_VERSION") version_bytes ∷ []

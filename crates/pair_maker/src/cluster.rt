@@ -3,7 +3,8 @@ ghost use Rattle.std.specs.Prelude.{◌≡◌, ℕ, ◌≤◌, ◌++◌, List, [
 ghost use Rattle.std.specs.List.{range_with_len};
 ghost use Rattle.backup_label.specs.Text.{label_text};
 ghost use Rattle.wal_records.specs.Writer.{NewRecord, written};
-ghost use Rattle.pair_maker.specs.Clusters.{common_entries, copy_entries, file, first_log, folder_entries, pair_label, relation_bytes, second_log, segment_bytes, shared_entries, source_entries, target_entries, version_entries};
+ghost use Rattle.pair_maker.specs.Clusters.{common_entries, copy_entries, file, first_log, folder_entries, second_log, shared_entries, source_entries, target_entries, version_entries};
+ghost use Rattle.pair_maker.specs.Files.{pair_label, relation_bytes, segment_bytes};
 ghost use Rattle.pair_maker.specs.Entries.{AddsBelow};
 ghost use Rattle.pair_maker.specs.Logs.{block_end, last_place, origin_of};
 

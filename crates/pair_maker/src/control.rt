@@ -2,7 +2,7 @@
 ghost use Rattle.std.specs.Prelude.{◌≡◌, IfOk};
 ghost use Rattle.control_file.specs.Admission.{IsControl};
 ghost use Rattle.control_file.specs.Writing.{control_bytes};
-ghost use Rattle.pair_maker.specs.Clusters.{control_with};
+ghost use Rattle.pair_maker.specs.Files.{control_with};
 ghost use Rattle.pair_maker.specs.Logs.{last_checkpoint};
 ghost use Rattle.rewound_tree.specs.RewoundControl.{rewound_control};
 

@@ -3,7 +3,7 @@ use Rattle.std.specs.Prelude.{pos}
 use Rattle.control_file.specs.Writing.{control_bytes}
 use Rattle.backup_label.specs.Text.{label_text}
 use Rattle.rewound_tree.specs.RewoundControl.{rewound_control}
-use Rattle.pair_maker.specs.Clusters.{control_of, control_with, pair_label}
+use Rattle.pair_maker.specs.Files.{control_of, control_with, pair_label}
 use Rattle.pair_maker.specs.Logs.{last_checkpoint, made_at}
 use Rattle.pair_maker.specs.declared.side.Side.TheVariants.{Source}
 use Rattle.pair_maker.proofs.EntryLemmas.{adds-last, adds-more, file-as, file-last}

@@ -1,4 +1,4 @@
-use Rattle.std.proofs.Common.{ap, arith, length, ◌∙◌, [], ◌∷◌, codes}
+use Rattle.std.proofs.Common.{ap, arith, length, [], ◌∷◌, codes}
 use Rattle.std.proofs.lemmas.List.FromFn.{length-map-range_with_len}
 use Rattle.cluster_tree.specs.PathValue.{kept_parts}
 use Rattle.pair_maker.specs.Logs.{block_end}

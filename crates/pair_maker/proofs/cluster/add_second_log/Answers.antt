@@ -1,6 +1,6 @@
 use Rattle.std.proofs.Common.{ap, [], ◌∷◌, codes}
 use Rattle.cluster_tree.specs.PathValue.{kept_parts}
-use Rattle.pair_maker.specs.Clusters.{history_bytes}
+use Rattle.pair_maker.specs.Files.{history_bytes}
 use Rattle.pair_maker.specs.declared.side.Side.TheVariants.{Source}
 use Rattle.pair_maker.proofs.EntryLemmas.{adds-as, adds-last, file-as, segment-is}
 use Rattle.pair_maker.proofs.cluster.add_second_log.Goals as goal

@@ -1,6 +1,6 @@
 use Rattle.std.proofs.Common.{ap, codes, ◌∙◌}
 use Rattle.control_file.specs.Writing.{control_bytes}
-use Rattle.pair_maker.specs.Clusters.{control_of, control_with}
+use Rattle.pair_maker.specs.Files.{control_of, control_with}
 use Rattle.pair_maker.specs.Logs.{last_checkpoint}
 use Rattle.pair_maker.specs.declared.side.Side.TheVariants.{Source}
 use Rattle.pair_maker.proofs.EntryLemmas.{adds-last, file-last}

@@ -1,5 +1,5 @@
 use Rattle.std.proofs.Common.{codes}
-use Rattle.pair_maker.specs.Clusters.{version_bytes}
+use Rattle.pair_maker.specs.Files.{version_bytes}
 use Rattle.pair_maker.proofs.EntryLemmas.{adds-last, file-as, file-last}
 use Rattle.pair_maker.proofs.cluster.add_versions.Goals as goal
 

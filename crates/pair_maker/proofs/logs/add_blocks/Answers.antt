@@ -1,4 +1,4 @@
-use Rattle.std.proofs.Common.{ap, ap₂, arith, ◌∙◌, ◌∷◌, [], ◌++◌, sym, zero-add}
+use Rattle.std.proofs.Common.{ap₂, arith, ◌∙◌, ◌∷◌, [], ◌++◌, sym, zero-add}
 use Rattle.std.proofs.lemmas.List.FromFn.{map-range_with_len_more}
 use Rattle.pair_maker.specs.Logs.{block_end}
 use Rattle.pair_maker.proofs.logs.add_blocks.Goals as goal

@@ -1,4 +1,3 @@
-use Rattle.std.proofs.Common.{◌≡◌, None, Some}
 use Rattle.wal_base.specs.SizeOfBytes.{is_size}
 use Rattle.wal_base.proofs.SizeMade.{same_size}
 use Rattle.pair_maker.specs.Logs.{is_megabyte, megabyte}

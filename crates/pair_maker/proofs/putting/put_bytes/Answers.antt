@@ -1,4 +1,4 @@
-use Rattle.std.proofs.Common.{[], ◌∷◌, Err, Ok, ap, arith, subst}
+use Rattle.std.proofs.Common.{[], ◌∷◌, Err, Ok, arith, subst}
 use Rattle.cluster_tree.specs.Change.{MakesFile, Writes}
 use Rattle.marked_runs.specs.Carried.{Carries}
 use Rattle.pair_maker.proofs.PutLemmas.{file-broken, file-made}

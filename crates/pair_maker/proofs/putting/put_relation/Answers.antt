@@ -1,4 +1,4 @@
-use Rattle.std.proofs.Common.{◌<◌, ◌≢◌, None, arith, drop, get_or, length}
+use Rattle.std.proofs.Common.{◌<◌, None, arith, length}
 use Rattle.std.proofs.lemmas.Bool.Decides.{nat_tests}
 use Rattle.pair_maker.proofs.PutLemmas.{relation-broken, relation-made}
 use Rattle.pair_maker.proofs.putting.put_relation.Goals as goal

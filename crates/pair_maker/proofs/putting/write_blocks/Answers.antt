@@ -1,4 +1,4 @@
-use Rattle.std.proofs.Common.{◌≡◌, ◌+◌, ◌*◌, None, arith, drop, get_or, rules}
+use Rattle.std.proofs.Common.{◌+◌, ◌*◌, None, arith, drop, get_or, rules}
 use Rattle.pair_maker.specs.Blocks.{block_page}
 use Rattle.pair_maker.specs.Entries.{pages_from}
 use Rattle.pair_maker.proofs.PutLemmas.{pages-cons, pages-none, reaches-all, reaches-broken, reaches-on}

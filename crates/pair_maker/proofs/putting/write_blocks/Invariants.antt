@@ -1,4 +1,4 @@
-use Rattle.std.proofs.Common.{◌*◌, ◌≤◌, drop}
+use Rattle.std.proofs.Common.{◌*◌, drop}
 use Rattle.cluster_tree.specs.Frame.{Came}
 use Rattle.pair_maker.specs.Entries.{pages_from}
 use Rattle.pair_maker.proofs.PutLemmas.{Reaches}

@@ -1,4 +1,4 @@
-use Rattle.std.proofs.Common.{◌<◌, ◌++◌, ◌∙◌, ap, arith, drop, length, rules, sym, take}
+use Rattle.std.proofs.Common.{◌++◌, ◌∙◌, ap, arith, drop, length, rules, sym}
 use Rattle.pair_maker.proofs.PutLemmas.{none-left, piece-is, piece_length, reaches-all, reaches-broken, reaches-on}
 use Rattle.pair_maker.proofs.putting.write_rest.Goals as goal
 
