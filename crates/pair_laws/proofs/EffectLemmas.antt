@@ -19,6 +19,7 @@ use Rattle.heap_replay.specs.Operation.{heap_operation}
 use Rattle.heap_tuples.specs.Heap.{on_heap}
 use Rattle.layout.specs.Readers.{u16_at, u8_at}
 use Rattle.layout.specs.Rows.{RowFits}
+use Rattle.layout.specs.Splice.{splice}
 use Rattle.layout.specs.Writing.{value_bytes}
 use Rattle.page_masks.specs.Law.{Redone, stamped}
 use Rattle.record_effects.specs.Acts.{sets_map_bits}
@@ -68,19 +69,19 @@ insert_placed seed block = record { block = (insert_block seed block).block; ima
 no-last : (block : ℕ) → block < 4096 → nat_eq block 0xFFFFFFFF ≡ false
 no-last block low = grind (arith, nat_tests, low)
 
-insert-known : (seed block : ℕ) → block < 4096 → (start end : ℕ) (before : Option ℕ) → is_in_profile (given start end before (insert_record seed block)) (insert_parts seed block) ≡ true
+pub insert-known : (seed block : ℕ) → block < 4096 → (start end : ℕ) (before : Option ℕ) → is_in_profile (given start end before (insert_record seed block)) (insert_parts seed block) ≡ true
 unfolding operation_of heap_op_of
 insert-known seed block low start end before = let e = no-last block low in rw e refl
 
-insert-whole_layout : (seed block : ℕ) (start end : ℕ) (before : Option ℕ) → is_short (given start end before (insert_record seed block)) (insert_parts seed block) ≡ false
+pub insert-whole_layout : (seed block : ℕ) (start end : ℕ) (before : Option ℕ) → is_short (given start end before (insert_record seed block)) (insert_parts seed block) ≡ false
 unfolding operation_of heap_op_of insert_body value_bytes
 insert-whole_layout seed block start end before = refl
 
-insert-no_map : (seed block : ℕ) (start end : ℕ) (before : Option ℕ) → sets_map_bits (done_by (given start end before (insert_record seed block))) ≡ false
+pub insert-no_map : (seed block : ℕ) (start end : ℕ) (before : Option ℕ) → sets_map_bits (done_by (given start end before (insert_record seed block))) ≡ false
 unfolding operation_of heap_op_of
 insert-no_map seed block start end before = refl
 
-pub insert-whole : (seed block : ℕ) → block < 4096 → IsWhole (insert_record seed block)
+abbrev pub insert-whole : (seed block : ℕ) → block < 4096 → IsWhole (insert_record seed block)
 insert-whole seed block low = record {
   parts = insert_parts seed block;
   read = insert-parts seed block (omega (arith, low));
@@ -128,23 +129,23 @@ pub record IsCheckpoint (cp : Checkpoint) : Type 0 where
   pub fits : AllByRecursion RowFits (checkpoint_rows 0 cp)
   pub images : slice_get (checkpoint_bytes cp) 16 ≡ Some 1
 
-checkpoint-known : (cp : Checkpoint) → IsCheckpoint cp → (start end : ℕ) (before : Option ℕ) → is_in_profile (given start end before (checkpoint_record cp)) no_blocks ≡ true
+pub checkpoint-known : (cp : Checkpoint) → IsCheckpoint cp → (start end : ℕ) (before : Option ℕ) → is_in_profile (given start end before (checkpoint_record cp)) no_blocks ≡ true
 unfolding checkpoint_record operation_of xlog_op_of
 checkpoint-known cp is start end before = let e = is.images in rw e refl
 
-checkpoint-whole_layout : (cp : Checkpoint) → IsCheckpoint cp → (start end : ℕ) (before : Option ℕ) → is_short (given start end before (checkpoint_record cp)) no_blocks ≡ false
+pub checkpoint-whole_layout : (cp : Checkpoint) → IsCheckpoint cp → (start end : ℕ) (before : Option ℕ) → is_short (given start end before (checkpoint_record cp)) no_blocks ≡ false
 unfolding checkpoint_record operation_of xlog_op_of
 checkpoint-whole_layout cp is start end before = ap (λ o. not (is_some o)) (checkpoint-said cp is.fits)
 
-checkpoint-no_map : (cp : Checkpoint) (start end : ℕ) (before : Option ℕ) → sets_map_bits (done_by (given start end before (checkpoint_record cp))) ≡ false
+pub checkpoint-no_map : (cp : Checkpoint) (start end : ℕ) (before : Option ℕ) → sets_map_bits (done_by (given start end before (checkpoint_record cp))) ≡ false
 unfolding checkpoint_record operation_of xlog_op_of
 checkpoint-no_map cp start end before = refl
 
-checkpoint-read : (cp : Checkpoint) → IsCheckpoint cp → parts_of (checkpoint_record cp).body ≡ Ok no_blocks
+pub checkpoint-read : (cp : Checkpoint) → IsCheckpoint cp → parts_of (checkpoint_record cp).body ≡ Ok no_blocks
 unfolding checkpoint_record
 checkpoint-read cp is = checkpoint-parts cp is.fits
 
-pub checkpoint-whole : (cp : Checkpoint) → IsCheckpoint cp → IsWhole (checkpoint_record cp)
+abbrev pub checkpoint-whole : (cp : Checkpoint) → IsCheckpoint cp → IsWhole (checkpoint_record cp)
 checkpoint-whole cp is = record {
   parts = no_blocks;
   read = checkpoint-read cp is;
@@ -161,14 +162,14 @@ pub checkpoint-idle : (cp : Checkpoint) (name : BlockName) → IsCheckpoint cp �
 checkpoint-idle cp name is = record { whole = checkpoint-whole cp is; nothing = checkpoint-nothing cp name }
 
 common-images : slice_get (checkpoint_bytes common_checkpoint) 16 ≡ Some 1
-unfolding checkpoint_bytes checkpoint_rows value_bytes
+unfolding checkpoint_bytes checkpoint_rows value_bytes splice
 common-images = refl
 
 pub common-is : IsCheckpoint common_checkpoint
 common-is = record { fits = common-fits 0; images = common-images }
 
 last-images : (side : Side) (place : ℕ) → slice_get (checkpoint_bytes (last_checkpoint side place)) 16 ≡ Some 1
-unfolding checkpoint_bytes checkpoint_rows value_bytes
+unfolding checkpoint_bytes checkpoint_rows value_bytes splice
 last-images Target place = refl
 last-images Source place = refl
 

@@ -2,7 +2,16 @@ pub mod NearLemmas
 pub mod RunLemmas
 pub mod SmallLemmas
 pub mod ReadLemmas
+pub mod NamedLemmas
+pub mod PlaceLemmas
+pub mod HistoryLemmas
+pub mod ControlLemmas
 pub mod PageLemmas
 pub mod BodyLemmas
 pub mod RecordLemmas
+pub mod EffectLemmas
+pub mod BlocksLemmas
+pub mod StepsLemmas
 pub mod LifeLemmas
+pub mod TakenLemmas
+pub mod StartLemmas

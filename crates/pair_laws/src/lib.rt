@@ -4,6 +4,8 @@
 
 mod life;
 mod read;
+mod start;
 
 pub use life::{pair_lives, pair_says_enough};
 pub use read::pair_logs_are_read;
+pub use start::copy_starts;

@@ -1,0 +1,80 @@
+-- The control files of both clusters of a pair, as they are read again.
+use Rattle.std.proofs.Common.{◌≡◌, ℕ, pos, ◌^◌, ◌<◌, Option, Some, Ok, refl, sym, ap, ◌∙◌, lit<, arith}
+use Rattle.std.proofs.lemmas.Int.{ints}
+use Rattle.std.specs.Int.{w64}
+use Rattle.std.specs.Int.RustNames.{FitsSigned}
+use Rattle.std.specs.List.{AllByRecursion}
+use Rattle.cluster_tree.specs.Contents.{Contents}
+use Rattle.cluster_tree.specs.PathValue.{PathValue}
+use Rattle.cluster_tree.specs.Tree.{file_of}
+use Rattle.clusters.specs.RootControl.{at_root, control_at, control_in}
+use Rattle.control_file.specs.Admission.{IsControl, control_of as read_control}
+use Rattle.control_file.specs.Rows.{build_rows, checkpoint_rows, head_rows, recovery_rows, rows_of, setting_rows}
+use Rattle.control_file.specs.Writing.{control_bytes}
+use Rattle.control_file.specs.declared.control.Control.{Control}
+use Rattle.control_file.proofs.TableLemmas.{fits_of_parts}
+use Rattle.control_file.proofs.WritingLemmas.{control_again}
+use Rattle.layout.specs.Rows.{Holds, RowFits}
+use Rattle.wal_base.specs.SegSize.{IsSegSize}
+use Rattle.wal_base.specs.SizeOfBytes.{is_size, size_of_bytes}
+use Rattle.wal_base.proofs.SizeMade.{size_made}
+use Rattle.pair_maker.specs.Files.{control_of, control_with}
+use Rattle.pair_maker.specs.Logs.{is_megabyte, last_checkpoint, last_place, made_at, megabyte}
+use Rattle.pair_maker.specs.Pair.{PairStands}
+use Rattle.pair_maker.specs.declared.side.Side.{Side}
+use Rattle.pair_maker.specs.declared.side.Side.TheVariants.{Target, Source}
+use Rattle.pair_laws.specs.Stands.{source_of, target_of}
+use Rattle.pair_laws.proofs.PlaceLemmas.{source-control, target-control}
+
+made_fits : FitsSigned w64 (pos made_at)
+made_fits = omega (arith, ints)
+
+-- a control file of such a cluster
+abbrev of_place : Side → ℕ → Control
+of_place side place = control_with (last_checkpoint side place)
+
+target_fits : (place : ℕ) → place < 2 ^ 64 → AllByRecursion RowFits (rows_of (of_place Target place))
+unfolding head_rows checkpoint_rows recovery_rows setting_rows build_rows
+target_fits place low =
+    fits_of_parts (of_place Target place) (lit< tt, (lit< tt, (lit< tt, (lit< tt, (made_fits, (low, tt))))))
+    (low, (lit< tt, (lit< tt, (lit< tt, (lit< tt, (lit< tt, (lit< tt, (lit< tt, (lit< tt, (lit< tt, (lit< tt, (lit< tt, (made_fits, (lit< tt, (lit< tt, (lit< tt, tt))))))))))))))))
+    (lit< tt, (lit< tt, (lit< tt, (lit< tt, (lit< tt, (lit< tt, tt))))))
+    (lit< tt, (lit< tt, (lit< tt, (lit< tt, (lit< tt, (lit< tt, (lit< tt, (lit< tt, tt))))))))
+    (lit< tt, (lit< tt, (lit< tt, (lit< tt, (lit< tt, (lit< tt, (lit< tt, (lit< tt, (lit< tt, (lit< tt, (lit< tt, (lit< tt, (refl, tt)))))))))))))
+
+source_fits : (place : ℕ) → place < 2 ^ 64 → AllByRecursion RowFits (rows_of (of_place Source place))
+unfolding head_rows checkpoint_rows recovery_rows setting_rows build_rows
+source_fits place low =
+    fits_of_parts (of_place Source place) (lit< tt, (lit< tt, (lit< tt, (lit< tt, (made_fits, (low, tt))))))
+    (low, (lit< tt, (lit< tt, (lit< tt, (lit< tt, (lit< tt, (lit< tt, (lit< tt, (lit< tt, (lit< tt, (lit< tt, (lit< tt, (made_fits, (lit< tt, (lit< tt, (lit< tt, tt))))))))))))))))
+    (lit< tt, (lit< tt, (lit< tt, (lit< tt, (lit< tt, (lit< tt, tt))))))
+    (lit< tt, (lit< tt, (lit< tt, (lit< tt, (lit< tt, (lit< tt, (lit< tt, (lit< tt, tt))))))))
+    (lit< tt, (lit< tt, (lit< tt, (lit< tt, (lit< tt, (lit< tt, (lit< tt, (lit< tt, (lit< tt, (lit< tt, (lit< tt, (lit< tt, (refl, tt)))))))))))))
+
+has_shape : (side : Side) (place : ℕ) → AllByRecursion Holds (rows_of (of_place side place))
+unfolding rows_of head_rows checkpoint_rows recovery_rows setting_rows build_rows
+has_shape side place =
+    (refl, (refl, (refl, (refl, (refl, (refl, (refl, (refl, (refl, (refl, (refl, (refl, (refl, (refl, (refl, (refl, (refl, (refl, (refl, (refl, (refl, (refl, (refl, (refl, (refl, (refl, (refl, (refl, (refl, (refl, (refl, (refl, (refl, (refl, (refl, (refl, (refl, (refl, (refl, (refl, (refl, (is_megabyte, (refl, (refl, (refl, (refl, (refl, (refl, (refl, tt)))))))))))))))))))))))))))))))))))))))))))))))))
+
+is_control : (side : Side) (place : ℕ) → IsControl (of_place side place)
+is_control side place = record { version = refl; catalog = refl; shape = has_shape side place }
+
+pub place-again : (side : Side) (place : ℕ) → place < 2 ^ 64 → read_control (control_bytes (of_place side place)) ≡ Ok (of_place side place)
+place-again Target place low = control_again (of_place Target place) (target_fits place low) (is_control Target place)
+place-again Source place low = control_again (of_place Source place) (source_fits place low) (is_control Source place)
+
+module _ (root : PathValue) (seed blocks : ℕ) (c : Contents) (stands : PairStands root seed blocks c) where
+  pub target-control_at : last_place Target seed blocks < 2 ^ 64 → control_at c (target_of root) ≡ Ok (control_of Target seed blocks)
+  unfolding control_at
+  target-control_at low =
+      ap (λ o. control_in (target_of root) (file_of o)) (target-control root seed blocks c stands)
+      ∙ ap (λ r. at_root (target_of root) r) (place-again Target (last_place Target seed blocks) low)
+
+  pub source-control_at : last_place Source seed blocks < 2 ^ 64 → control_at c (source_of root) ≡ Ok (control_of Source seed blocks)
+  unfolding control_at
+  source-control_at low =
+      ap (λ o. control_in (source_of root) (file_of o)) (source-control root seed blocks c stands)
+      ∙ ap (λ r. at_root (source_of root) r) (place-again Source (last_place Source seed blocks) low)
+
+pub size-is : size_of_bytes 0x10_0000 ≡ Some megabyte
+size-is = sym (size_made 0x10_0000 (Some megabyte) ((λ _. is_size 0x10_0000 is_megabyte), (λ _. refl)) refl)
