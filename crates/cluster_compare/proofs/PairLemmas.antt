@@ -1,5 +1,5 @@
 -- The pairs of two walks tell what stands on both sides, and which of them is the first that differs.
-use Rattle.std.proofs.Common.{◌≡◌, ◌⊎◌, ℕ, zero, suc, ◌+◌, ◌<◌, ◌≤◌, ◌==◌, Bool, true, false, ◌||◌, inl, inr, List, [], ◌∷◌, length, map, drop, get_or, Option, None, Some, Ok, is_some, refl, sym, ap, ap₂, ◌∙◌, subst, true≢false, add-one, drop-cons, arith}
+use Rattle.std.proofs.Common.{◌≡◌, ◌⊎◌, ℕ, zero, suc, ◌+◌, ◌<◌, ◌≤◌, Bool, true, false, ◌||◌, inl, inr, List, [], ◌∷◌, length, map, drop, get_or, Option, None, Some, Ok, is_some, refl, sym, ap, ap₂, ◌∙◌, subst, true≢false, add-one, drop-cons, arith}
 use Rattle.std.specs.List.{list_any}
 use Rattle.std.specs.Prelude.{option_map, unwrap_or}
 use Rattle.cluster_tree.specs.Causes.{first_of}

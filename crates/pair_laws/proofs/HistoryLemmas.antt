@@ -31,7 +31,7 @@ target_spans = open_span 1 zero_lsn ∷ []
 abbrev pub source_spans : List Span
 source_spans = ended fork_lsn (open_span 1 zero_lsn) ∷ open_span 2 fork_lsn ∷ []
 
-history-read : history_of 2 history_bytes ≡ Ok source_spans
+pub history-read : history_of 2 history_bytes ≡ Ok source_spans
 unfolding history_of spans_of fault_at lines_of reading_of entry_of decimal_number lsn_of
 history-read = refl
 

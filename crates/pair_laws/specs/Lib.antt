@@ -1,3 +1,4 @@
 pub mod Stands
 pub mod Read
 pub mod Life
+pub mod Start

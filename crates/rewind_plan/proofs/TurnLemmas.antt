@@ -1,11 +1,11 @@
 -- The paths of two walks, each once, in order, so that each stands behind the folder that it lies in.
-use Rattle.std.proofs.Common.{◌≡◌, ℕ, ◌<◌, ◌==◌, Bool, true, false, ◌&&◌, ◌||◌, T, cond, List, [], ◌∷◌, ◌++◌, length, map, Option, Some, is_some, refl, sym, ap, ap₂, ◌∙◌, true≢false, arith}
+use Rattle.std.proofs.Common.{◌≡◌, ℕ, ◌<◌, ◌==◌, Bool, true, false, ◌&&◌, ◌||◌, T, List, [], ◌∷◌, ◌++◌, length, map, refl, sym, ap, ap₂, ◌∙◌, true≢false, arith}
 use Rattle.std.proofs.lemmas.Bool.Decides.{nat_tests}
 use Rattle.std.specs.declared.cmp.Ordering.{Ordering}
 use Rattle.std.specs.declared.cmp.Ordering.TheVariants.{Less, Equal, Greater}
 use Rattle.std.specs.Cmp.{tied_itself}
 use Rattle.std.specs.Cmp.Lexicographic.{slice_cmp}
-use Rattle.std.specs.FinMap.{contains_key-keys, entries, entries_sorted, find, from_entries, get-from_entries, is_sorted}
+use Rattle.std.specs.FinMap.{entries, entries_sorted, from_entries, is_sorted}
 use Rattle.std.specs.FinMap.Entries.{below_all}
 use Rattle.std.specs.List.{list_any}
 use Rattle.std.specs.Ordering.{bool_cmp, is_lt, nat_cmp, on, ordering_reverse, ordering_then, then_cmp}
@@ -16,7 +16,7 @@ use Rattle.cluster_tree.proofs.OrderLemmas.{path_cmp_total, path_eq-other, path_
 use Rattle.file_walk.specs.declared.entry.Entry.{Entry}
 use Rattle.file_walk.specs.declared.entry.EntryKind.{EntryKind}
 use Rattle.file_walk.specs.Laws.{IsOwn}
-use Rattle.file_walk.specs.Pairs.{kind_at, kind_in, pair_at, paths_of}
+use Rattle.file_walk.specs.Pairs.{kind_at, pair_at, paths_of}
 use Rattle.file_walk.proofs.ClosedLemmas.{front_less}
 use Rattle.file_walk.proofs.PlaceLemmas.{text_below}
 use Rattle.file_walk.proofs.QueueLemmas.{text_cmp}

@@ -1,0 +1,190 @@
+-- The copy of a pair passes every check before a replay.
+use Rattle.std.proofs.Common.{◌≡◌, ℕ, pos, ◌+◌, ◌*◌, ◌<◌, ◌≤◌, ◌^◌, cond, nat_le, Bool, true, false, List, [], ◌∷◌, ◌++◌, Option, None, Some, Ok, codes, append_assoc, lit<, refl, ap, sym, ◌∙◌, subst, arith}
+use Rattle.std.proofs.lemmas.Bool.Decides.{nat_tests}
+use Rattle.std.proofs.lemmas.Int.{ints}
+use Rattle.std.specs.Int.{w64}
+use Rattle.std.specs.Int.RustNames.{FitsSigned}
+use Rattle.std.specs.List.{AllByRecursion}
+use Rattle.std.specs.Option.{option_map, option_map_or}
+use Rattle.backup_label.proofs.LabelLemmas.{label_read}
+use Rattle.backup_label.specs.Text.{places_of, label_text, start_file}
+use Rattle.backup_label.specs.declared.reading.LabelPlaces.{LabelPlaces}
+use Rattle.cluster_tree.specs.Causes.{first_of, given, unless}
+use Rattle.cluster_tree.specs.Contents.{Contents, FileEntry, entry_at}
+use Rattle.cluster_tree.specs.Marks.{marks_of}
+use Rattle.cluster_tree.specs.PathValue.{PathValue, below, kept_parts, path_of}
+use Rattle.cluster_tree.specs.Tree.{file_of}
+use Rattle.clusters.specs.Marks.{unfinished}
+use Rattle.clusters.specs.RootControl.{at_root, control_at, control_in}
+use Rattle.clusters.specs.RootHistory.{history_at, history_in, with_root}
+use Rattle.clusters.specs.RootLog.{log_at}
+use Rattle.clusters.specs.Roots.{history_name, history_path, path_in, wal_folder}
+use Rattle.control_file.proofs.TableLemmas.{fits_of_parts}
+use Rattle.control_file.proofs.WritingLemmas.{control_again}
+use Rattle.control_file.specs.Admission.{IsControl, control_of as read_control}
+use Rattle.control_file.specs.Rows.{build_rows, checkpoint_rows, head_rows, recovery_rows, rows_of, setting_rows}
+use Rattle.control_file.specs.Writing.{control_bytes}
+use Rattle.control_file.specs.declared.control.Control.{Control}
+use Rattle.layout.specs.Rows.{RowFits}
+use Rattle.pair_maker.proofs.ControlLemmas.{rewound-holds}
+use Rattle.pair_maker.specs.Clusters.{copy_entries}
+use Rattle.pair_maker.specs.Files.{control_of, control_with, history_bytes, pair_label, segment_bytes}
+use Rattle.pair_maker.specs.Logs.{common_place, last_checkpoint, last_place, made_at, megabyte, origin_of, records_of}
+use Rattle.pair_maker.specs.Pair.{PairStands}
+use Rattle.pair_maker.specs.declared.side.Side.TheVariants.{Source}
+use Rattle.replay_start.specs.Checked.{Start, checksums_on, from_control, from_label, in_log, label_at, label_in, log_with, no_hints, start_of, with_label, with_records}
+use Rattle.replay_start.specs.Faults.{of_cluster, told_by}
+use Rattle.replay_start.specs.Scanned.{log_refusal}
+use Rattle.replay_start.specs.declared.fault.ReplayFault.{ReplayFault}
+use Rattle.rewound_tree.specs.RewoundControl.{rewound_control}
+use Rattle.wal_base.specs.Hex.{hex_digits, is_long_name}
+use Rattle.wal_base.specs.SizeOfBytes.{size_of_bytes}
+use Rattle.wal_base.specs.Segment.{bytes_of, name_of}
+use Rattle.wal_base.specs.Spans.{ended, open_span}
+use Rattle.wal_base.specs.declared.spans.Span.{Span}
+use Rattle.wal_pages.specs.LogBytes.{segment_of}
+use Rattle.wal_pages.specs.declared.log_path.LogPath.{LogPath}
+use Rattle.wal_records.specs.Further.{pages_of}
+use Rattle.wal_records.specs.Log.{Log, log_of}
+use Rattle.wal_records.specs.Reading.{LogRecord}
+use Rattle.wal_records.specs.Stored.{IsPathOf}
+use Rattle.wal_records.specs.Writer.{written}
+use Rattle.pair_laws.specs.Life.{side_records}
+use Rattle.pair_laws.specs.Read.{IsRead}
+use Rattle.pair_laws.specs.Stands.{copy_of}
+use Rattle.pair_laws.specs.Start.{CopyStarts, copy_control, copy_log, copy_spans, copy_start}
+use Rattle.pair_laws.proofs.ControlLemmas.{size-is}
+use Rattle.pair_laws.proofs.HistoryLemmas.{history-read}
+use Rattle.pair_laws.proofs.NamedLemmas.{pair-at-c}
+use Rattle.pair_laws.proofs.ReadLemmas.{side-read}
+use Rattle.pair_laws.proofs.SmallLemmas.{last_low}
+use Rattle.pair_laws.proofs.TakenLemmas.{unrefused}
+
+-- ---- the control file
+
+made_fits : FitsSigned w64 (pos made_at)
+made_fits = omega (arith, ints)
+
+abbrev control_for : ℕ → Control
+control_for place = rewound_control (control_with (last_checkpoint Source place)) (pos made_at)
+
+control_fits : (place : ℕ) → place < 2 ^ 64 → AllByRecursion RowFits (rows_of (control_for place))
+unfolding head_rows checkpoint_rows recovery_rows setting_rows build_rows
+control_fits place low =
+    fits_of_parts (control_for place) (lit< tt, (lit< tt, (lit< tt, (lit< tt, (made_fits, (low, tt))))))
+    (low, (lit< tt, (lit< tt, (lit< tt, (lit< tt, (lit< tt, (lit< tt, (lit< tt, (lit< tt, (lit< tt, (lit< tt, (lit< tt, (made_fits, (lit< tt, (lit< tt, (lit< tt, tt))))))))))))))))
+    (lit< tt, (low, (lit< tt, (lit< tt, (lit< tt, (lit< tt, tt))))))
+    (lit< tt, (lit< tt, (lit< tt, (lit< tt, (lit< tt, (lit< tt, (lit< tt, (lit< tt, tt))))))))
+    (lit< tt, (lit< tt, (lit< tt, (lit< tt, (lit< tt, (lit< tt, (lit< tt, (lit< tt, (lit< tt, (lit< tt, (lit< tt, (lit< tt, (refl, tt)))))))))))))
+
+control-again : (place : ℕ) → place < 2 ^ 64 → read_control (control_bytes (control_for place)) ≡ Ok (control_for place)
+control-again place low = control_again (control_for place) (control_fits place low) (rewound-holds Source place (control_for place) refl)
+
+-- ---- where the log lies
+
+no-reach : (number : ℕ) → 1 ≤ number → nat_le (number * 0x10_0000 + 0x10_0000) 0x10_00A0 ≡ false
+no-reach number h = grind (arith, nat_tests, h)
+
+tli-from : (root : PathValue) (number : ℕ) → 1 ≤ number → (segment_of (copy_log root) number).tli ≡ 2
+tli-from root number h =
+    ap (λ b. option_map_or (λ (span : Span). span.tli) (cond b (Some (ended (record { 0 = 0x10_00A0 }) (open_span 1 (record { 0 = 0 })))) (Some (open_span 2 (record { 0 = 0x10_00A0 })))) 0) (no-reach number h)
+
+copy-path : (root : PathValue) → IsPathOf (copy_log root) (origin_of Source)
+copy-path root = record {
+  size = refl;
+  timeline = lit< tt;
+  later = λ number from. omega (arith, tli-from root number (omega (arith, from)));
+  system = λ wanted e. absurd (cc e);
+}
+
+label-name : is_long_name (start_file pair_label) ≡ true
+unfolding hex_digits
+label-name = refl
+
+-- ---- what stands below the copy's root
+
+module _ (root : PathValue) (seed blocks : ℕ) (c : Contents) (few : blocks ≤ 4096) (stands : PairStands root seed blocks c) where
+  copy-finished : unfinished c (copy_of root) ≡ None
+  unfolding unfinished
+  copy-finished =
+      let one : entry_at c (below (copy_of root) (codes "pg_rewind.unfinished" ∷ [])) ≡ None = pair-at-c root seed blocks c stands (codes "pg_rewind.unfinished" ∷ []) in
+      let two : entry_at c (below (copy_of root) (codes "pg_walreplay.unfinished" ∷ [])) ≡ None = pair-at-c root seed blocks c stands (codes "pg_walreplay.unfinished" ∷ []) in
+      let three : entry_at c (below (copy_of root) (codes "pg_resetwal.unfinished" ∷ [])) ≡ None = pair-at-c root seed blocks c stands (codes "pg_resetwal.unfinished" ∷ []) in
+      rw (one, two, three) refl
+
+  control-here : entry_at c (path_in (copy_of root) (codes "global/pg_control")) ≡ Some (FileEntry (control_bytes (copy_control seed blocks)))
+  unfolding path_in
+  control-here = pair-at-c root seed blocks c stands (kept_parts (codes "global/pg_control"))
+
+  control-said : control_at c (copy_of root) ≡ Ok (copy_control seed blocks)
+  unfolding control_at
+  control-said =
+      ap (λ o. control_in (copy_of root) (file_of o)) control-here
+      ∙ ap (λ r. at_root (copy_of root) r) (control-again (last_place Source seed blocks) (last_low Source seed blocks few))
+
+  label-here : entry_at c (below (copy_of root) (codes "backup_label" ∷ [])) ≡ Some (FileEntry (label_text pair_label))
+  label-here = pair-at-c root seed blocks c stands (codes "backup_label" ∷ [])
+
+  label-said : label_at c (copy_of root) ≡ Ok (places_of pair_label)
+  unfolding label_at
+  label-said =
+      ap (λ o. label_in (copy_of root) (file_of o)) label-here
+      ∙ ap (with_label (copy_of root)) (label_read pair_label (lit< tt) (lit< tt) label-name)
+
+  history-here : entry_at c (history_path (copy_of root) 2) ≡ Some (FileEntry history_bytes)
+  unfolding history_name hex_digits
+  history-here =
+      ap (λ l. entry_at c (path_of root.absolute l)) (append_assoc (copy_of root).parts (codes "pg_wal" ∷ []) (history_name 2 ∷ []))
+      ∙ pair-at-c root seed blocks c stands (kept_parts (codes "pg_wal/00000002.history"))
+
+  history-said : history_at c (copy_of root) 2 ≡ Ok copy_spans
+  unfolding history_at
+  history-said = ap (λ o. history_in (copy_of root) 2 (file_of o)) history-here ∙ ap (λ r. with_root (copy_of root) 2 r) history-read
+
+  segment-here : entry_at c (below (copy_log root).folder (name_of (segment_of (copy_log root) 1) ∷ [])) ≡ Some (FileEntry (segment_bytes Source (records_of Source seed blocks)))
+  unfolding hex_digits
+  segment-here =
+      ap (λ l. entry_at c (path_of root.absolute l)) (append_assoc (copy_of root).parts (codes "pg_wal" ∷ []) (name_of (segment_of (copy_log root) 1) ∷ []))
+      ∙ pair-at-c root seed blocks c stands (kept_parts (codes "pg_wal/000000020000000000000001"))
+
+  -- the copy's log is the source's
+  pub copy-read : IsRead (pages_of (copy_log root) c) Source (records_of Source seed blocks)
+  copy-read = side-read (copy_log root) c Source seed blocks few (copy-path root) segment-here
+
+  all-read : (log_of (pages_of (copy_log root) c) 0x10_0000 common_place).records ≡ side_records Source seed blocks
+  unfolding written
+  all-read = ap (λ (l : Log). l.records) (copy-read.from [] (records_of Source seed blocks) refl)
+
+  -- ---- the checks, one after another
+
+  abbrev control : Control
+  control = copy_control seed blocks
+
+  abbrev label : LabelPlaces
+  label = places_of pair_label
+
+  log-passes : with_records (copy_of root) control label (copy_log root) (log_of (pages_of (copy_log root) c) 0x10_0000 common_place).records ≡ Ok (copy_start root seed blocks)
+  log-passes =
+      ap (with_records (copy_of root) control label (copy_log root)) all-read
+      ∙ ap (λ o. unless o (Ok (copy_start root seed blocks))) (unrefused (copy_of root) seed blocks few)
+
+  label-passes : from_label c (copy_of root) control label ≡ Ok (copy_start root seed blocks)
+  unfolding from_label
+  label-passes =
+      ap (λ h. given (told_by h) (λ spans. in_log c (copy_of root) control label (log_with (copy_of root) control spans))) history-said
+      ∙ ap (λ size. in_log c (copy_of root) control label (option_map (log_at (copy_of root) copy_spans) size)) size-is
+      ∙ log-passes
+
+  control-passes : from_control c (copy_of root) control ≡ Ok (copy_start root seed blocks)
+  unfolding from_control checksums_on no_hints first_of
+  control-passes = ap (λ l. given l (from_label c (copy_of root) control)) label-said ∙ label-passes
+
+  copy-passes : start_of c (copy_of root) ≡ Ok (copy_start root seed blocks)
+  unfolding start_of
+  copy-passes =
+      ap (λ o. unless (option_map of_cluster o) (given (told_by (control_at c (copy_of root))) (from_control c (copy_of root)))) copy-finished
+      ∙ ap (λ r. given (told_by r) (from_control c (copy_of root))) control-said
+      ∙ control-passes
+
+pub copy-starts : CopyStarts
+copy-starts root seed blocks c few stands = copy-passes root seed blocks c few stands
