@@ -18,8 +18,8 @@ use Rattle.pair_maker.specs.Logs.{made_at}
 use Rattle.pair_maker.specs.Pair.{PairStands, last_named}
 use Rattle.pair_maker.specs.declared.side.Side.TheVariants.{Source}
 use Rattle.pair_laws.specs.Stands.{copy_of, source_of}
+use Rattle.pair_laws.specs.Survey.{pair_needing}
 use Rattle.pair_laws.proofs.NamedLemmas.{named-all, named-append, pair-at-c, pair-at-s}
-use Rattle.pair_laws.proofs.PlannedLemmas.{pair_needing}
 use Rattle.pair_laws.proofs.ThereLemmas.{Holds, shared-hold}
 
 -- ---- the tests of both paths

@@ -28,3 +28,4 @@ pub mod GrewLemmas
 pub mod CopyLemmas
 pub mod StateLemmas
 pub mod LogLemmas
+pub mod PairLemmas

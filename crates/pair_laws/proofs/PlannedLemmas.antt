@@ -33,13 +33,14 @@ use Rattle.pair_maker.specs.Pair.{last_named}
 use Rattle.pair_maker.specs.declared.side.Side.TheVariants.{Target, Source}
 use Rattle.pair_laws.specs.Read.{IsRead}
 use Rattle.pair_laws.specs.Stands.{HasPair, source_of, target_of}
+use Rattle.pair_laws.specs.Survey.{pair_aim, pair_needing, pair_pairs, pair_parting}
 use Rattle.pair_laws.proofs.ControlLemmas.{size-is}
 use Rattle.pair_laws.proofs.FlawLemmas.{walk-sound}
 use Rattle.pair_laws.proofs.HistoryLemmas.{target_spans}
 use Rattle.pair_laws.proofs.KindLemmas.{IsSort, no-path, not-past, same-sorts, sort-there}
 use Rattle.pair_laws.proofs.NamedLemmas.{AllNamed, named-all, pair-at-s, pair-at-t}
 use Rattle.pair_laws.proofs.PlaceLemmas.{source-root, target-root}
-use Rattle.pair_laws.proofs.SurveyLemmas.{pair_parting, source-read, survey-found, target-read}
+use Rattle.pair_laws.proofs.SurveyLemmas.{source-read, survey-found, target-read}
 use Rattle.pair_laws.proofs.ThereLemmas.{Holds, flawless, in_folders, source-hold, target-hold}
 
 -- ---- a root below which all that stands is as it is in a pair
@@ -172,16 +173,6 @@ module _ (root : PathValue) (seed blocks : ℕ) (c : Contents) (pair : HasPair r
             (sym (pair-at-s root seed blocks c pair.stands parts) ∙ there);
   }
 
--- what a rewind of a pair is for, and its pairs of paths
-abbrev pub pair_aim : PathValue → (seed blocks : ℕ) → ℤ → Aim
-pair_aim root seed blocks now = aim_of (target_of root) (source_of root) (pair_parting seed blocks) (control_of Target seed blocks) (control_of Source seed blocks) megabyte now
-
-abbrev pub pair_pairs : Contents → PathValue → List Pair
-pair_pairs c root = pairs_of (filter_map walked (found_below c (target_of root))) (filter_map walked (found_below c (source_of root)))
-
-abbrev pub pair_needing : PathValue → (seed blocks : ℕ) → Contents → ℤ → Needing
-pair_needing root seed blocks c now = record { aim = pair_aim root seed blocks now; pairs = pair_pairs c root }
-
 module _ (root : PathValue) (seed blocks : ℕ) (c : Contents) (pair : HasPair root seed blocks c) (read : IsRead (pages_of (log_at (target_of root) target_spans megabyte) c) Target (records_of Target seed blocks)) (low : last_place Source seed blocks < 2 ^ 64) (now : ℤ) where
   one : IsCluster c (target_of root) (relation_bytes Target seed blocks)
   one = target-cluster root seed blocks c pair
@@ -192,7 +183,7 @@ module _ (root : PathValue) (seed blocks : ℕ) (c : Contents) (pair : HasPair r
   abbrev w : Between
   w = (pair_aim root seed blocks now).between
 
-  pairs_pass : first_lacking w (pair_pairs c root) ≡ None → first_difference (pair_pairs c root) ≡ None → from_pairs (pair_aim root seed blocks now) (pair_pairs c root) ≡ Ok (Needs (pair_needing root seed blocks c now))
+  pairs_pass : first_lacking w (pair_pairs root c) ≡ None → first_difference (pair_pairs root c) ≡ None → from_pairs (pair_aim root seed blocks now) (pair_pairs root c) ≡ Ok (Needs (pair_needing root seed blocks c now))
   unfolding first_of
   pairs_pass a b =
       ap₂ (λ x y. unless (first_of (option_map fault.TooDeep x ∷ option_map fault.KindsDiffer y ∷ [])) (Ok (Needs (pair_needing root seed blocks c now)))) a b

@@ -20,17 +20,14 @@ use Rattle.pair_maker.specs.Files.{control_of}
 use Rattle.pair_maker.specs.Logs.{common_place, last_place, megabyte, origin_of, records_of}
 use Rattle.pair_maker.specs.declared.side.Side.TheVariants.{Target, Source}
 use Rattle.pair_laws.specs.Read.{IsRead}
+use Rattle.pair_laws.specs.Survey.{pair_fork, pair_parting}
 use Rattle.pair_laws.specs.Stands.{HasPair, source_of, target_of}
 use Rattle.pair_laws.proofs.ControlLemmas.{size-is, source-control_at, target-control_at}
 use Rattle.pair_laws.proofs.HistoryLemmas.{forks-apart, source-history_at, target-history_at, target_spans}
 use Rattle.pair_laws.proofs.NamesLemmas.{all-named, names_of_log}
 use Rattle.pair_laws.proofs.PlaceLemmas.{source-finished, target-finished}
 use Rattle.pair_laws.proofs.RecordLemmas.{AllHaveNames, all-given}
-use Rattle.pair_laws.proofs.WalkLemmas.{found_common, pair_fork, parted-found, place-low}
-
--- what is told of a pair's rewind, and the records of the target's log from the common checkpoint on
-abbrev pub pair_parting : (seed blocks : ℕ) → Parting
-pair_parting seed blocks = record { told = told_of pair_fork found_common; redo = common_place; records = log_records (begun (origin_of Target)) (records_of Target seed blocks) }
+use Rattle.pair_laws.proofs.WalkLemmas.{parted-found, place-low}
 
 module _ (root : PathValue) (seed blocks : ℕ) (c : Contents) (pair : HasPair root seed blocks c) (read : IsRead (pages_of (log_at (target_of root) target_spans megabyte) c) Target (records_of Target seed blocks)) (low : last_place Source seed blocks < 2 ^ 64) where
   abbrev target : PathValue

@@ -52,14 +52,10 @@ use Rattle.pair_maker.specs.declared.side.Side.{Side}
 use Rattle.pair_maker.specs.declared.side.Side.TheVariants.{Target, Source}
 use Rattle.touched_blocks.specs.declared.named.Named.{Named}
 use Rattle.pair_laws.specs.Read.{IsRead}
+use Rattle.pair_laws.specs.Survey.{pair_checkpoint, pair_fork}
 use Rattle.pair_laws.proofs.BodyLemmas.{checkpoint-long, checkpoint-parts, checkpoint-said, common-fits}
-use Rattle.pair_laws.proofs.HistoryLemmas.{fork_lsn}
 use Rattle.pair_laws.proofs.RecordLemmas.{AllHaveNames, given_in, new-given}
 use Rattle.pair_laws.proofs.StepLemmas.{IsBehind, all-end, all-needed, grows, kept-origin, last-behind, log-alone, read-alone, rises}
-
--- where the two parted
-abbrev pub pair_fork : Divergence
-pair_fork = record { tli = 1; at = fork_lsn }
 
 abbrev pub log_after : Side → List NewRecord → Written
 log_after side records = written (origin_of side) records
@@ -123,10 +119,7 @@ first_checkpoint : (side : Side) → is_checkpoint (first_log side) ≡ true
 unfolding common checkpoint_record operation_of xlog_op_of
 first_checkpoint side = ap is_checkpoint (first_given side)
 
-abbrev pub found_common : CommonCheckpoint
-found_common = record { start = record { 0 = common_place }; checkpoint = common_checkpoint }
-
-first_says : (side : Side) → checkpoint_in (first_log side) ≡ Ok found_common
+first_says : (side : Side) → checkpoint_in (first_log side) ≡ Ok pair_checkpoint
 unfolding common checkpoint_record checkpoint_in
 first_says side =
     let g = given_in (begun (origin_of side)) common in
@@ -323,7 +316,7 @@ module _ (root : PathValue) (spans : List Span) (c : Contents) (seed blocks : �
     stands = ap (λ n. lone pages 0x10_0000 n) next_link ∙ first_read;
   }
 
-  is_common_here : IsCommonCheckpoint pages 0x10_0000 0x10_00A0 found_common
+  is_common_here : IsCommonCheckpoint pages 0x10_0000 0x10_00A0 pair_checkpoint
   unfolding next first_log
   is_common_here = record {
     first = new_log_record one split.first;
@@ -337,8 +330,8 @@ module _ (root : PathValue) (spans : List Span) (c : Contents) (seed blocks : �
     says = first_says Target;
   }
 
-  pub common-found : common_in pages 0x10_0000 0x10_00A0 ≡ Ok found_common
-  common-found = is_found log (folder_of c log.folder) 0x10_00A0 found_common is_common_here
+  pub common-found : common_in pages 0x10_0000 0x10_00A0 ≡ Ok pair_checkpoint
+  common-found = is_found log (folder_of c log.folder) 0x10_00A0 pair_checkpoint is_common_here
 
   -- ---- its records from there on
 
@@ -346,23 +339,20 @@ module _ (root : PathValue) (spans : List Span) (c : Contents) (seed blocks : �
   unfolding written
   whole_log = read.from [] all refl
 
-  pub target_records : List LogRecord
-  target_records = log_records start all
-
   pub read-through : (fork : Divergence) (named : List (List Named)) → AllHaveNames (log_records start all) named
-      → read_from pages 0x10_0000 fork end found_common ≡ Ok (Parted (record { told = told_of fork found_common; redo = common_place; records = log_records start all }))
+      → read_from pages 0x10_0000 fork end pair_checkpoint ≡ Ok (Parted (record { told = told_of fork pair_checkpoint; redo = common_place; records = log_records start all }))
   unfolding read_from written
   read-through fork named has =
       let up = place_at_up 0x10_0000 end in
       let whole = all-needed (at_lsn end) (log_records start all) named (place_at 0x10_0000 end) why_ended up (all-end start all read.each) has in
-      ap (λ l. unless (option_map of_walk (read_refusal end l)) (Ok (Parted (record { told = told_of fork found_common; redo = common_place; records = needed end l })))) whole_log
-      ∙ ap₂ (λ o rs. unless (option_map of_walk o) (Ok (Parted (record { told = told_of fork found_common; redo = common_place; records = rs })))) whole.refusal whole.needed
+      ap (λ l. unless (option_map of_walk (read_refusal end l)) (Ok (Parted (record { told = told_of fork pair_checkpoint; redo = common_place; records = needed end l })))) whole_log
+      ∙ ap₂ (λ o rs. unless (option_map of_walk o) (Ok (Parted (record { told = told_of fork pair_checkpoint; redo = common_place; records = rs })))) whole.refusal whole.needed
 
   past_it : nat_le end 0x10_00A0 ≡ false
   past_it = let below = last_below in let fork = fork_below in grind (arith, nat_tests)
 
   pub parted-found : (named : List (List Named)) → AllHaveNames (log_records start all) named
-      → parted pages 0x10_0000 (control_of Target seed blocks) pair_fork ≡ Ok (Parted (record { told = told_of pair_fork found_common; redo = common_place; records = log_records start all }))
+      → parted pages 0x10_0000 (control_of Target seed blocks) pair_fork ≡ Ok (Parted (record { told = told_of pair_fork pair_checkpoint; redo = common_place; records = log_records start all }))
   unfolding parted walked_back
   parted-found named has =
       ap (λ r. given_read (walked r) (past_fork pages 0x10_0000 pair_fork)) end-found

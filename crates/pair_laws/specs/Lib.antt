@@ -2,3 +2,5 @@ pub mod Stands
 pub mod Read
 pub mod Life
 pub mod Start
+pub mod Survey
+pub mod Grew

@@ -2,10 +2,14 @@
 //! at its roots, and that both grew from one state.
 #![tactic(auto)]
 
+mod grew;
 mod life;
 mod read;
 mod start;
+mod survey;
 
+pub use grew::{pairs_follow, pairs_grew_from_one_state};
 pub use life::{pair_lives, pair_says_enough};
 pub use read::pair_logs_are_read;
 pub use start::copy_starts;
+pub use survey::{pair_has_parted, pair_is_needed};

@@ -1,0 +1,32 @@
+-- A pair is what two clusters are to be for a rewind: they grew from one state, so that the rewound target follows its source. Own: "A pair from a
+-- number", "Clusters that grew from one state".
+use Rattle.std.specs.Prelude.{◌≡◌, ℕ, pos}
+use Rattle.cluster_laws.specs.Replays.{BothEnd}
+use Rattle.cluster_tree.specs.Contents.{Contents}
+use Rattle.cluster_tree.specs.PathValue.{PathValue}
+use Rattle.rewind_core.specs.Fits.{IsRewound}
+use Rattle.rewind_core.specs.Planned.{Needing}
+use Rattle.rewound_laws.specs.Copy.{IsWholeCopy}
+use Rattle.rewound_laws.specs.Grew.{GrewFromOneState}
+use Rattle.pair_maker.specs.Logs.{made_at}
+use Rattle.pair_laws.specs.Life.{base_of}
+use Rattle.pair_laws.specs.Stands.{HasPair, copy_of, target_of}
+use Rattle.pair_laws.specs.Start.{copy_start}
+use Rattle.pair_laws.specs.Survey.{pair_needing}
+
+-- the rewind of a pair, at the moment at which its copy was made
+abbrev pub pair_rewind : PathValue → (seed blocks : ℕ) → Contents → Needing
+pair_rewind root seed blocks c = pair_needing root seed blocks c (pos made_at)
+
+-- The copy of a pair is a whole copy of its source; and target and source grew from one state, in which each block of their relation is empty.
+pub record IsGrown (root : PathValue) (seed blocks : ℕ) (c : Contents) : Type 0 where
+  pub copied : IsWholeCopy c (pair_rewind root seed blocks c) c (copy_of root)
+  pub grew : GrewFromOneState (base_of blocks) c (pair_rewind root seed blocks c) c (copy_of root) (copy_start root seed blocks)
+
+abbrev pub PairsGrewFromOneState : Type 0
+PairsGrewFromOneState = (root : PathValue) (seed blocks : ℕ) (c : Contents) → HasPair root seed blocks c → IsGrown root seed blocks c
+
+-- So once its target is rewound, replay of the source's log ends below the copy and below the target, and leaves the same cluster.
+abbrev pub PairsFollow : Type 0
+PairsFollow = (root : PathValue) (seed blocks : ℕ) (c c' : Contents) → HasPair root seed blocks c → IsRewound c (pair_rewind root seed blocks c) c'
+    → BothEnd c (copy_of root) c' (target_of root) (copy_start root seed blocks)
