@@ -17,9 +17,9 @@ use Rattle.layout.specs.Rows.{RowFits}
 use Rattle.layout.specs.Writing.{value_bytes}
 use Rattle.layout.proofs.LaidLemmas.{length-laid}
 use Rattle.pair_maker.specs.Inserts.{insert_block, insert_body, insert_main}
-use Rattle.pair_maker.specs.Logs.{common_checkpoint, last_checkpoint, made_at}
+use Rattle.pair_maker.specs.Logs.{common_checkpoint, common_place, last_checkpoint, timeline_of}
 use Rattle.pair_maker.specs.declared.side.Side.{Side}
-use Rattle.pair_maker.specs.declared.side.Side.TheVariants.{Target, Source}
+use Rattle.pair_laws.proofs.SmallLemmas.{checkpoint-long, low_timeline, rows_fit}
 
 -- ---- inserts
 
@@ -33,23 +33,13 @@ insert-parts seed block low = written_read (insert_block seed block ∷ []) inse
 
 -- ---- checkpoints
 
-time_fits : FitsSigned w64 (pos made_at)
-time_fits = omega (arith, ints)
-
 pub common-fits : (at : ℕ) → AllByRecursion RowFits (checkpoint_rows at common_checkpoint)
-unfolding checkpoint_rows
-common-fits at = (lit< tt, (lit< tt, (lit< tt, (lit< tt, (lit< tt, (lit< tt, (lit< tt, (lit< tt, (lit< tt, (lit< tt, (lit< tt, (lit< tt, (time_fits, (lit< tt, (lit< tt, (lit< tt, tt))))))))))))))))
+common-fits at = rows_fit at common_place 1 700 (lit< tt) (lit< tt) (lit< tt)
 
 pub last-fits : (side : Side) (place at : ℕ) → place < 2 ^ 64 → AllByRecursion RowFits (checkpoint_rows at (last_checkpoint side place))
-unfolding checkpoint_rows
-last-fits Target place at low = (low, (lit< tt, (lit< tt, (lit< tt, (lit< tt, (lit< tt, (lit< tt, (lit< tt, (lit< tt, (lit< tt, (lit< tt, (lit< tt, (time_fits, (lit< tt, (lit< tt, (lit< tt, tt))))))))))))))))
-last-fits Source place at low = (low, (lit< tt, (lit< tt, (lit< tt, (lit< tt, (lit< tt, (lit< tt, (lit< tt, (lit< tt, (lit< tt, (lit< tt, (lit< tt, (time_fits, (lit< tt, (lit< tt, (lit< tt, tt))))))))))))))))
+last-fits side place at low = rows_fit at place (timeline_of side) 701 low (low_timeline side) (lit< tt)
 
 -- a checkpoint's body is that of its bytes alone
-pub checkpoint-long : (cp : Checkpoint) → AllByRecursion RowFits (checkpoint_rows 0 cp) → length (checkpoint_bytes cp) ≡ 88
-unfolding checkpoint_bytes checkpoint_rows
-checkpoint-long cp fits = length-laid 0 (checkpoint_rows 0 cp) (replicate 88 0) refl fits
-
 main_only : (main : List ℕ) → length main ≡ 88 → body_bytes [] main ≡ 255 ∷ 88 ∷ main
 unfolding value_bytes
 main_only main long = rw long refl

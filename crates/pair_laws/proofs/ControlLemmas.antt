@@ -18,50 +18,35 @@ use Rattle.layout.specs.Rows.{Holds, RowFits}
 use Rattle.wal_base.specs.SegSize.{IsSegSize}
 use Rattle.wal_base.specs.SizeOfBytes.{is_size, size_of_bytes}
 use Rattle.wal_base.proofs.SizeMade.{size_made}
+use Rattle.pair_maker.proofs.ControlLemmas.{control-holds}
 use Rattle.pair_maker.specs.Files.{control_of, control_with}
 use Rattle.pair_maker.specs.Logs.{is_megabyte, last_checkpoint, last_place, made_at, megabyte}
 use Rattle.pair_maker.specs.Pair.{PairStands}
 use Rattle.pair_maker.specs.declared.side.Side.{Side}
 use Rattle.pair_maker.specs.declared.side.Side.TheVariants.{Target, Source}
 use Rattle.pair_laws.specs.Stands.{source_of, target_of}
+use Rattle.pair_laws.proofs.BodyLemmas.{last-fits}
+use Rattle.pair_laws.proofs.SmallLemmas.{time-fits}
 use Rattle.pair_laws.proofs.PlaceLemmas.{source-control, target-control}
 
-made_fits : FitsSigned w64 (pos made_at)
-made_fits = omega (arith, ints)
+-- a control file of a cluster of a pair, in a state, and consistent from a position of a timeline on
+abbrev pub control_in_state : Side → (place state point tli : ℕ) → Control
+control_in_state side place state point tli = record (control_with (last_checkpoint side place)) { state = state; minRecoveryPoint = point; minRecoveryPointTli = tli }
 
--- a control file of such a cluster
-abbrev of_place : Side → ℕ → Control
-of_place side place = control_with (last_checkpoint side place)
-
-target_fits : (place : ℕ) → place < 2 ^ 64 → AllByRecursion RowFits (rows_of (of_place Target place))
-unfolding head_rows checkpoint_rows recovery_rows setting_rows build_rows
-target_fits place low =
-    fits_of_parts (of_place Target place) (lit< tt, (lit< tt, (lit< tt, (lit< tt, (made_fits, (low, tt))))))
-    (low, (lit< tt, (lit< tt, (lit< tt, (lit< tt, (lit< tt, (lit< tt, (lit< tt, (lit< tt, (lit< tt, (lit< tt, (lit< tt, (made_fits, (lit< tt, (lit< tt, (lit< tt, tt))))))))))))))))
-    (lit< tt, (lit< tt, (lit< tt, (lit< tt, (lit< tt, (lit< tt, tt))))))
+pub control-fits : (side : Side) (place state point tli : ℕ) → place < 2 ^ 64 → state < 2 ^ 32 → point < 2 ^ 64 → tli < 2 ^ 32
+    → AllByRecursion RowFits (rows_of (control_in_state side place state point tli))
+unfolding head_rows recovery_rows setting_rows build_rows
+control-fits side place state point tli low s p t =
+    fits_of_parts (control_in_state side place state point tli) (lit< tt, (lit< tt, (lit< tt, (s, (time-fits, (low, tt))))))
+    (last-fits side place 40 low)
+    (lit< tt, (p, (t, (lit< tt, (lit< tt, (lit< tt, tt))))))
     (lit< tt, (lit< tt, (lit< tt, (lit< tt, (lit< tt, (lit< tt, (lit< tt, (lit< tt, tt))))))))
     (lit< tt, (lit< tt, (lit< tt, (lit< tt, (lit< tt, (lit< tt, (lit< tt, (lit< tt, (lit< tt, (lit< tt, (lit< tt, (lit< tt, (refl, tt)))))))))))))
 
-source_fits : (place : ℕ) → place < 2 ^ 64 → AllByRecursion RowFits (rows_of (of_place Source place))
-unfolding head_rows checkpoint_rows recovery_rows setting_rows build_rows
-source_fits place low =
-    fits_of_parts (of_place Source place) (lit< tt, (lit< tt, (lit< tt, (lit< tt, (made_fits, (low, tt))))))
-    (low, (lit< tt, (lit< tt, (lit< tt, (lit< tt, (lit< tt, (lit< tt, (lit< tt, (lit< tt, (lit< tt, (lit< tt, (lit< tt, (made_fits, (lit< tt, (lit< tt, (lit< tt, tt))))))))))))))))
-    (lit< tt, (lit< tt, (lit< tt, (lit< tt, (lit< tt, (lit< tt, tt))))))
-    (lit< tt, (lit< tt, (lit< tt, (lit< tt, (lit< tt, (lit< tt, (lit< tt, (lit< tt, tt))))))))
-    (lit< tt, (lit< tt, (lit< tt, (lit< tt, (lit< tt, (lit< tt, (lit< tt, (lit< tt, (lit< tt, (lit< tt, (lit< tt, (lit< tt, (refl, tt)))))))))))))
-
-has_shape : (side : Side) (place : ℕ) → AllByRecursion Holds (rows_of (of_place side place))
-unfolding rows_of head_rows checkpoint_rows recovery_rows setting_rows build_rows
-has_shape side place =
-    (refl, (refl, (refl, (refl, (refl, (refl, (refl, (refl, (refl, (refl, (refl, (refl, (refl, (refl, (refl, (refl, (refl, (refl, (refl, (refl, (refl, (refl, (refl, (refl, (refl, (refl, (refl, (refl, (refl, (refl, (refl, (refl, (refl, (refl, (refl, (refl, (refl, (refl, (refl, (refl, (refl, (is_megabyte, (refl, (refl, (refl, (refl, (refl, (refl, (refl, tt)))))))))))))))))))))))))))))))))))))))))))))))))
-
-is_control : (side : Side) (place : ℕ) → IsControl (of_place side place)
-is_control side place = record { version = refl; catalog = refl; shape = has_shape side place }
-
-pub place-again : (side : Side) (place : ℕ) → place < 2 ^ 64 → read_control (control_bytes (of_place side place)) ≡ Ok (of_place side place)
-place-again Target place low = control_again (of_place Target place) (target_fits place low) (is_control Target place)
-place-again Source place low = control_again (of_place Source place) (source_fits place low) (is_control Source place)
+-- as it was shut down
+pub place-again : (side : Side) (place : ℕ) → place < 2 ^ 64 → read_control (control_bytes (control_with (last_checkpoint side place))) ≡ Ok (control_with (last_checkpoint side place))
+place-again side place low =
+    control_again (control_with (last_checkpoint side place)) (control-fits side place 1 0 0 low (lit< tt) (lit< tt) (lit< tt)) (control-holds side place (control_with (last_checkpoint side place)) refl)
 
 module _ (root : PathValue) (seed blocks : ℕ) (c : Contents) (stands : PairStands root seed blocks c) where
   pub target-control_at : last_place Target seed blocks < 2 ^ 64 → control_at c (target_of root) ≡ Ok (control_of Target seed blocks)

@@ -20,11 +20,9 @@ use Rattle.pair_maker.specs.Inserts.{transaction, tuple_of}
 use Rattle.pair_maker.specs.Logs.{block_end}
 use Rattle.pair_maker.specs.declared.side.Side.{Side}
 use Rattle.pair_maker.proofs.BlockLemmas.{insert-on_empty}
+use Rattle.pair_laws.proofs.PageLemmas.{tuple_in}
 
 -- ---- a page has 8192 bytes
-
-abbrev tuple_in : (seed block : ℕ) → List ℕ
-tuple_in seed block = new_tuple transaction 0 block 1 (tuple_of seed block)
 
 -- what an insert that isn't refused has made
 record Put (o : Option RedoWhy) (p q : List ℕ) : Type 0 where

@@ -32,24 +32,24 @@ insert_length seed block = refl
 small-insert : (seed block : ℕ) → IsSmall (insert_record seed block)
 small-insert seed block = record { xid = lit< tt; info = refl; manager = lit< tt; size = omega (arith, insert_length seed block) }
 
-time_fits : FitsSigned w64 (pos made_at)
-time_fits = omega (arith, ints)
+-- when both were made fits a control file
+pub time-fits : FitsSigned w64 (pos made_at)
+time-fits = omega (arith, ints)
 
 abbrev pub checkpoint_with : (place tli xid : ℕ) → Checkpoint
 checkpoint_with place tli xid = record common_checkpoint { redo = place; tli = tli; nextXid = xid }
 
-pub rows_fit : (place tli xid : ℕ) → place < 2 ^ 64 → tli < 2 ^ 32 → xid < 2 ^ 64 → AllByRecursion RowFits (checkpoint_rows 0 (checkpoint_with place tli xid))
+pub rows_fit : (at place tli xid : ℕ) → place < 2 ^ 64 → tli < 2 ^ 32 → xid < 2 ^ 64 → AllByRecursion RowFits (checkpoint_rows at (checkpoint_with place tli xid))
 unfolding checkpoint_rows
-rows_fit place tli xid low timeline next = (low, (timeline, (lit< tt, (lit< tt, (next, (lit< tt, (lit< tt, (lit< tt, (lit< tt, (lit< tt, (lit< tt, (lit< tt, (time_fits, (lit< tt, (lit< tt, (lit< tt, tt))))))))))))))))
+rows_fit at place tli xid low timeline next = (low, (timeline, (lit< tt, (lit< tt, (next, (lit< tt, (lit< tt, (lit< tt, (lit< tt, (lit< tt, (lit< tt, (lit< tt, (time-fits, (lit< tt, (lit< tt, (lit< tt, tt))))))))))))))))
 
-pub checkpoint_length : (place tli xid : ℕ) → place < 2 ^ 64 → tli < 2 ^ 32 → xid < 2 ^ 64 → length (checkpoint_bytes (checkpoint_with place tli xid)) ≡ 88
+pub checkpoint-long : (cp : Checkpoint) → AllByRecursion RowFits (checkpoint_rows 0 cp) → length (checkpoint_bytes cp) ≡ 88
 unfolding checkpoint_bytes
-checkpoint_length place tli xid low timeline next =
-    length-laid 0 (checkpoint_rows 0 (checkpoint_with place tli xid)) (replicate 88 0) (ascends_checkpoint (checkpoint_with place tli xid)) (rows_fit place tli xid low timeline next)
+checkpoint-long cp fits = length-laid 0 (checkpoint_rows 0 cp) (replicate 88 0) (ascends_checkpoint cp) fits
 
 small-checkpoint : (place tli xid : ℕ) → place < 2 ^ 64 → tli < 2 ^ 32 → xid < 2 ^ 64 → IsSmall (checkpoint_record (checkpoint_with place tli xid))
 unfolding checkpoint_record
-small-checkpoint place tli xid low timeline next = record { xid = lit< tt; info = refl; manager = lit< tt; size = omega (arith, checkpoint_length place tli xid low timeline next) }
+small-checkpoint place tli xid low timeline next = record { xid = lit< tt; info = refl; manager = lit< tt; size = omega (arith, checkpoint-long (checkpoint_with place tli xid) (rows_fit 0 place tli xid low timeline next)) }
 
 all-inserts : (seed : ℕ) (blocks : List ℕ) → AllByRecursion IsSmall (map (insert_record seed) blocks)
 all-inserts seed [] = tt

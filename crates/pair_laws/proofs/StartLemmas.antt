@@ -53,7 +53,7 @@ use Rattle.pair_laws.specs.Life.{side_records}
 use Rattle.pair_laws.specs.Read.{IsRead}
 use Rattle.pair_laws.specs.Stands.{copy_of}
 use Rattle.pair_laws.specs.Start.{CopyStarts, copy_control, copy_log, copy_spans, copy_start}
-use Rattle.pair_laws.proofs.ControlLemmas.{size-is}
+use Rattle.pair_laws.proofs.ControlLemmas.{control-fits, size-is}
 use Rattle.pair_laws.proofs.HistoryLemmas.{history-read}
 use Rattle.pair_laws.proofs.NamedLemmas.{pair-at-c}
 use Rattle.pair_laws.proofs.ReadLemmas.{side-read}
@@ -62,23 +62,11 @@ use Rattle.pair_laws.proofs.TakenLemmas.{unrefused}
 
 -- ---- the control file
 
-made_fits : FitsSigned w64 (pos made_at)
-made_fits = omega (arith, ints)
-
 abbrev control_for : ℕ → Control
 control_for place = rewound_control (control_with (last_checkpoint Source place)) (pos made_at)
 
-control_fits : (place : ℕ) → place < 2 ^ 64 → AllByRecursion RowFits (rows_of (control_for place))
-unfolding head_rows checkpoint_rows recovery_rows setting_rows build_rows
-control_fits place low =
-    fits_of_parts (control_for place) (lit< tt, (lit< tt, (lit< tt, (lit< tt, (made_fits, (low, tt))))))
-    (low, (lit< tt, (lit< tt, (lit< tt, (lit< tt, (lit< tt, (lit< tt, (lit< tt, (lit< tt, (lit< tt, (lit< tt, (lit< tt, (made_fits, (lit< tt, (lit< tt, (lit< tt, tt))))))))))))))))
-    (lit< tt, (low, (lit< tt, (lit< tt, (lit< tt, (lit< tt, tt))))))
-    (lit< tt, (lit< tt, (lit< tt, (lit< tt, (lit< tt, (lit< tt, (lit< tt, (lit< tt, tt))))))))
-    (lit< tt, (lit< tt, (lit< tt, (lit< tt, (lit< tt, (lit< tt, (lit< tt, (lit< tt, (lit< tt, (lit< tt, (lit< tt, (lit< tt, (refl, tt)))))))))))))
-
 control-again : (place : ℕ) → place < 2 ^ 64 → read_control (control_bytes (control_for place)) ≡ Ok (control_for place)
-control-again place low = control_again (control_for place) (control_fits place low) (rewound-holds Source place (control_for place) refl)
+control-again place low = control_again (control_for place) (control-fits Source place 5 place 2 low (lit< tt) low (lit< tt)) (rewound-holds Source place (control_for place) refl)
 
 -- ---- where the log lies
 

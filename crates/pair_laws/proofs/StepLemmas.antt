@@ -31,14 +31,6 @@ use Rattle.pair_laws.proofs.RecordLemmas.{AllHaveNames, HasNames}
 
 -- ---- ends rise
 
-origin_next : (w : Written) (r : NewRecord) → (appended w r).origin ≡ w.origin
-unfolding appended
-origin_next w r = refl
-
-pub kept-origin : (w : Written) (ns : List NewRecord) → (fold appended w ns).origin ≡ w.origin
-kept-origin w [] = refl
-kept-origin w (r ∷ ns) = kept-origin (appended w r) ns ∙ origin_next w r
-
 pub rises : (w : Written) (r : NewRecord) → IsNew w.before r → place_at (bytes_of w.origin.size) w.end + 24 ≤ (appended w r).end
 unfolding end_from
 rises w r new =

@@ -53,9 +53,11 @@ use Rattle.pair_maker.specs.declared.side.Side.TheVariants.{Target, Source}
 use Rattle.touched_blocks.specs.declared.named.Named.{Named}
 use Rattle.pair_laws.specs.Read.{IsRead}
 use Rattle.pair_laws.specs.Survey.{pair_checkpoint, pair_fork}
-use Rattle.pair_laws.proofs.BodyLemmas.{checkpoint-long, checkpoint-parts, checkpoint-said, common-fits}
+use Rattle.pair_laws.proofs.BodyLemmas.{checkpoint-parts, checkpoint-said, common-fits}
 use Rattle.pair_laws.proofs.RecordLemmas.{AllHaveNames, given_in, new-given}
-use Rattle.pair_laws.proofs.StepLemmas.{IsBehind, all-end, all-needed, grows, kept-origin, last-behind, log-alone, read-alone, rises}
+use Rattle.pair_laws.proofs.RunLemmas.{new-back, new-front, run-origin}
+use Rattle.pair_laws.proofs.SmallLemmas.{checkpoint-long}
+use Rattle.pair_laws.proofs.StepLemmas.{IsBehind, all-end, all-needed, grows, last-behind, log-alone, read-alone, rises}
 
 abbrev pub log_after : Side → List NewRecord → Written
 log_after side records = written (origin_of side) records
@@ -127,15 +129,7 @@ first_says side =
     ∙ ap (λ p. given_read (parts_or (told (start_of g) p)) (λ parts. checkpoint_or g (checkpoint_of (main_bytes g.body parts)))) (checkpoint-parts common_checkpoint (common-fits 0))
     ∙ ap (λ o. checkpoint_or g o) (checkpoint-said common_checkpoint (common-fits 0))
 
--- ---- lists of records, cut in two
-
-pub new-front : (w : Written) (xs ys : List NewRecord) → AllNew w (xs ++ ys) → AllNew w xs
-new-front w [] ys each = tt
-new-front w (x ∷ xs) ys each = (each.0, each.1, new-front (appended w x) xs ys each.2)
-
-pub new-back : (w : Written) (xs ys : List NewRecord) → AllNew w (xs ++ ys) → AllNew (fold appended w xs) ys
-new-back w [] ys each = each
-new-back w (x ∷ xs) ys each = new-back (appended w x) xs ys each.2
+-- ---- the first of some records and one more
 
 record HasFirst (all : List NewRecord) : Type 0 where
   first : NewRecord
@@ -181,11 +175,11 @@ module _ (root : PathValue) (spans : List Span) (c : Contents) (seed blocks : �
   end = (log_after Target all).end
 
   each_front : AllNew start front
-  each_front = new-front start front (last ∷ []) read.each
+  each_front = new-front front (last ∷ []) start read.each
 
   last_new : IsNew (log_after Target front).before last
   unfolding written
-  last_new = (new-back start front (last ∷ []) read.each).0
+  last_new = (new-back front (last ∷ []) start read.each).0
 
   last_is : place_at 0x10_0000 (log_after Target front).end ≡ last_place Target seed blocks
   unfolding last_place log_upto
@@ -196,7 +190,7 @@ module _ (root : PathValue) (spans : List Span) (c : Contents) (seed blocks : �
 
   front_origin : (log_after Target front).origin ≡ origin_of Target
   unfolding written
-  front_origin = kept-origin start front
+  front_origin = run-origin front start
 
   last_below : last_place Target seed blocks + 24 ≤ end
   last_below =
