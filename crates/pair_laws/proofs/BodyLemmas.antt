@@ -1,13 +1,10 @@
 -- What the bodies of a pair's records are read as.
-use Rattle.std.proofs.Common.{◌≡◌, ℕ, pos, ◌^◌, ◌<◌, ◌≤◌, List, [], ◌∷◌, ◌++◌, length, replicate, Option, None, Some, Ok, refl, sym, ap, ◌∙◌, subst, lit<, lit≤, arith, append-nil}
-use Rattle.std.proofs.lemmas.Int.{ints}
-use Rattle.std.specs.Int.{w64}
-use Rattle.std.specs.Int.RustNames.{FitsSigned}
+use Rattle.std.proofs.Common.{◌≡◌, ℕ, ◌^◌, ◌<◌, List, [], ◌∷◌, length, None, Some, Ok, refl, sym, ap, ◌∙◌, lit<, lit≤, arith}
 use Rattle.std.specs.List.{AllByRecursion}
 use Rattle.block_refs.specs.Bytes.{main_bytes}
 use Rattle.block_refs.specs.Parts.{PartsView, parts_of}
 use Rattle.block_refs.specs.Written.{CanWriteAll, body_bytes, written_parts}
-use Rattle.block_refs.proofs.WrittenLemmas.{main_again, written_read}
+use Rattle.block_refs.proofs.WrittenLemmas.{written_read}
 use Rattle.control_file.specs.Reading.{checkpoint_of}
 use Rattle.control_file.specs.Rows.{checkpoint_rows}
 use Rattle.control_file.specs.Writing.{checkpoint_bytes}
@@ -15,7 +12,6 @@ use Rattle.control_file.specs.declared.checkpoint.Checkpoint.{Checkpoint}
 use Rattle.control_file.proofs.WritingLemmas.{copy_again}
 use Rattle.layout.specs.Rows.{RowFits}
 use Rattle.layout.specs.Writing.{value_bytes}
-use Rattle.layout.proofs.LaidLemmas.{length-laid}
 use Rattle.pair_maker.specs.Inserts.{insert_block, insert_body, insert_main}
 use Rattle.pair_maker.specs.Logs.{common_checkpoint, common_place, last_checkpoint, timeline_of}
 use Rattle.pair_maker.specs.declared.side.Side.{Side}

@@ -1,26 +1,22 @@
 -- The control files of both clusters of a pair, as they are read again.
-use Rattle.std.proofs.Common.{◌≡◌, ℕ, pos, ◌^◌, ◌<◌, Option, Some, Ok, refl, sym, ap, ◌∙◌, lit<, arith}
-use Rattle.std.proofs.lemmas.Int.{ints}
-use Rattle.std.specs.Int.{w64}
-use Rattle.std.specs.Int.RustNames.{FitsSigned}
+use Rattle.std.proofs.Common.{◌≡◌, ℕ, ◌^◌, ◌<◌, Some, Ok, refl, sym, ap, ◌∙◌, lit<}
 use Rattle.std.specs.List.{AllByRecursion}
 use Rattle.cluster_tree.specs.Contents.{Contents}
 use Rattle.cluster_tree.specs.PathValue.{PathValue}
 use Rattle.cluster_tree.specs.Tree.{file_of}
 use Rattle.clusters.specs.RootControl.{at_root, control_at, control_in}
-use Rattle.control_file.specs.Admission.{IsControl, control_of as read_control}
-use Rattle.control_file.specs.Rows.{build_rows, checkpoint_rows, head_rows, recovery_rows, rows_of, setting_rows}
+use Rattle.control_file.specs.Admission.{control_of as read_control}
+use Rattle.control_file.specs.Rows.{build_rows, head_rows, recovery_rows, rows_of, setting_rows}
 use Rattle.control_file.specs.Writing.{control_bytes}
 use Rattle.control_file.specs.declared.control.Control.{Control}
 use Rattle.control_file.proofs.TableLemmas.{fits_of_parts}
 use Rattle.control_file.proofs.WritingLemmas.{control_again}
-use Rattle.layout.specs.Rows.{Holds, RowFits}
-use Rattle.wal_base.specs.SegSize.{IsSegSize}
+use Rattle.layout.specs.Rows.{RowFits}
 use Rattle.wal_base.specs.SizeOfBytes.{is_size, size_of_bytes}
 use Rattle.wal_base.proofs.SizeMade.{size_made}
 use Rattle.pair_maker.proofs.ControlLemmas.{control-holds}
 use Rattle.pair_maker.specs.Files.{control_of, control_with}
-use Rattle.pair_maker.specs.Logs.{is_megabyte, last_checkpoint, last_place, made_at, megabyte}
+use Rattle.pair_maker.specs.Logs.{is_megabyte, last_checkpoint, last_place, megabyte}
 use Rattle.pair_maker.specs.Pair.{PairStands}
 use Rattle.pair_maker.specs.declared.side.Side.{Side}
 use Rattle.pair_maker.specs.declared.side.Side.TheVariants.{Target, Source}

@@ -1,5 +1,5 @@
 -- What stands at a pair's copy is a whole copy of its source.
-use Rattle.std.proofs.Common.{◌≡◌, ℕ, ℤ, pos, ◌≤◌, Bool, true, false, cond, ◌&&◌, List, [], ◌∷◌, ◌++◌, Option, None, Some, bytes_eq, codes, refl, sym, ap, ◌∙◌, true≢false, if◌then◌else◌}
+use Rattle.std.proofs.Common.{◌≡◌, ℕ, pos, Bool, true, false, cond, ◌&&◌, List, [], ◌∷◌, Option, None, Some, bytes_eq, codes, refl, sym, ap, ◌∙◌, true≢false, if◌then◌else◌}
 use Rattle.std.proofs.lemmas.Slice.Eq.{bytes_eq-Decides}
 use Rattle.std.specs.Cmp.Lexicographic.{pointwise}
 use Rattle.backup_label.specs.Text.{label_text}
@@ -8,11 +8,10 @@ use Rattle.cluster_tree.specs.PathValue.{PathValue, below, kept_parts, path_of}
 use Rattle.control_file.specs.Writing.{control_bytes}
 use Rattle.file_walk.specs.Actions.{is_control}
 use Rattle.file_walk.specs.Excluded.{is_excluded}
-use Rattle.rewind_plan.specs.PlanOf.{rewinding}
 use Rattle.rewound_laws.specs.Copy.{IsWholeCopy}
 use Rattle.rewound_tree.specs.Rewound.{is_label, whole_copy}
 use Rattle.rewound_tree.specs.RewoundControl.{rewound_control}
-use Rattle.pair_maker.specs.Clusters.{Named, control_entry, copy_entries, file, shared_entries, source_entries}
+use Rattle.pair_maker.specs.Clusters.{control_entry, copy_entries, file, shared_entries, source_entries}
 use Rattle.pair_maker.specs.Files.{control_of, pair_label, relation_bytes}
 use Rattle.pair_maker.specs.Logs.{made_at}
 use Rattle.pair_maker.specs.Pair.{PairStands, last_named}
@@ -99,5 +98,5 @@ pair-copied root seed blocks c stands parts =
     pair-at-c root seed blocks c stands parts
     ∙ copy_at seed blocks parts
     ∙ copy_by (is_label parts) (is_control parts) (is_excluded (path_of false parts)) (Some (FileEntry (label_text pair_label)))
-        (Some (FileEntry (control_bytes (rewound_control (control_of Source seed blocks) (pos made_at))))) (last_named None (shared_entries seed blocks) parts) (entry_at c (below (source_of root) parts))
-        (shared_kept seed blocks parts) (λ other. pair-at-s root seed blocks c stands parts ∙ source_at seed blocks parts other)
+    (Some (FileEntry (control_bytes (rewound_control (control_of Source seed blocks) (pos made_at))))) (last_named None (shared_entries seed blocks) parts) (entry_at c (below (source_of root) parts))
+    (shared_kept seed blocks parts) (λ other. pair-at-s root seed blocks c stands parts ∙ source_at seed blocks parts other)

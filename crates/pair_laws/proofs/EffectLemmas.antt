@@ -1,16 +1,14 @@
 -- What the records of a pair's logs do, wherever they stand.
-use Rattle.std.proofs.Common.{◌≡◌, ℕ, ◌+◌, ◌^◌, ◌<◌, ◌≤◌, ◌&&◌, Bool, true, false, cond, not, nat_eq, nat_lt, List, [], ◌∷◌, ◌++◌, length, Option, None, Some, is_some, Result, Ok, Err, lit<, refl, ap, ap₂, sym, ◌∙◌, subst, arith}
+use Rattle.std.proofs.Common.{◌≡◌, ℕ, ◌^◌, ◌<◌, Bool, true, false, cond, not, nat_eq, List, [], ◌∷◌, Option, None, Some, is_some, Ok, refl, ap, ◌∙◌, arith}
 use Rattle.std.specs.Prelude.{slice_get}
 use Rattle.std.specs.List.{AllByRecursion}
 use Rattle.std.proofs.lemmas.Bool.Decides.{nat_tests}
 use Rattle.block_effects.specs.Effects.{by_reference}
-use Rattle.block_refs.specs.Outcomes.{record_parts, start_of, told}
 use Rattle.block_refs.specs.Parts.{PartsView, parts_of}
 use Rattle.block_refs.specs.Written.{written_parts}
 use Rattle.block_refs.specs.declared.names.BlockName.{BlockName}
 use Rattle.block_refs.specs.declared.names.Fork.TheVariants.{Main}
 use Rattle.block_refs.specs.declared.placed.Placed.{Placed}
-use Rattle.control_file.specs.Reading.{checkpoint_of}
 use Rattle.control_file.specs.Rows.{checkpoint_rows}
 use Rattle.control_file.specs.Writing.{checkpoint_bytes}
 use Rattle.control_file.specs.declared.checkpoint.Checkpoint.{Checkpoint}
@@ -21,7 +19,7 @@ use Rattle.layout.specs.Readers.{u16_at, u8_at}
 use Rattle.layout.specs.Rows.{RowFits}
 use Rattle.layout.specs.Splice.{splice}
 use Rattle.layout.specs.Writing.{value_bytes}
-use Rattle.page_masks.specs.Law.{Redone, stamped}
+use Rattle.page_masks.specs.Law.{stamped}
 use Rattle.record_effects.specs.Acts.{sets_map_bits}
 use Rattle.record_effects.specs.Managers.{effect_on, rules_of}
 use Rattle.record_layouts.specs.Heap.{heap_op_of}
@@ -34,7 +32,7 @@ use Rattle.reset_plan.specs.NewSegment.{checkpoint_record}
 use Rattle.wal_records.specs.Reading.{LogRecord}
 use Rattle.wal_records.specs.Writer.{NewRecord}
 use Rattle.pair_maker.specs.Inserts.{insert_block, insert_body, insert_main, insert_record, pair_relation, transaction, tuple_of}
-use Rattle.pair_maker.specs.Logs.{common_checkpoint, last_checkpoint, timeline_of}
+use Rattle.pair_maker.specs.Logs.{common_checkpoint, last_checkpoint}
 use Rattle.pair_maker.specs.declared.side.Side.{Side}
 use Rattle.pair_maker.specs.declared.side.Side.TheVariants.{Target, Source}
 use Rattle.pair_laws.proofs.BodyLemmas.{checkpoint-parts, checkpoint-said, common-fits, insert-parts, last-fits, no_blocks}

@@ -1,10 +1,9 @@
 -- The pages of a pair's relation, and where each lies in its file.
-use Rattle.std.proofs.Common.{◌≡◌, ℕ, zero, suc, ◌+◌, ◌-◌, ◌*◌, ◌%◌, ◌<◌, ◌≤◌, List, [], ◌∷◌, ◌++◌, length, take, drop, Option, None, Some, Result, Ok, Err, refl, sym, ap, ◌∙◌, subst, true, arith}
+use Rattle.std.proofs.Common.{◌≡◌, ℕ, zero, suc, ◌+◌, ◌*◌, ◌%◌, ◌<◌, List, ◌++◌, length, take, drop, Option, None, Some, Ok, refl, sym, ap, ◌∙◌, subst, true, arith}
 use Rattle.std.proofs.Math.Seq.{drop-append-add, take-append_seam}
 use Rattle.std.proofs.lemmas.List.{length-append}
 use Rattle.std.specs.List.{flat_map, range_with_len}
-use Rattle.heap_pages.specs.Insert.{insert_page, visible_told}
-use Rattle.heap_pages.specs.NewTuple.{new_tuple}
+use Rattle.heap_pages.specs.Insert.{visible_told}
 use Rattle.heap_tuples.specs.Put.{filled, put_refusal}
 use Rattle.heap_tuples.proofs.HeapLemmas.{init_formed}
 use Rattle.heap_tuples.proofs.PutLemmas.{put_formed}
@@ -13,10 +12,9 @@ use Rattle.page_layout.specs.Edits.{added, init_bytes, refuse_or}
 use Rattle.page_layout.specs.Lsn.{lsn_bytes, with_lsn}
 use Rattle.page_layout.specs.Page.{IsFormed}
 use Rattle.page_layout.specs.declared.refusal.RedoWhy.{RedoWhy}
-use Rattle.page_masks.specs.Law.{Redone, and_then}
+use Rattle.page_masks.specs.Law.{and_then}
 use Rattle.pair_maker.specs.Blocks.{block_page, inserted, log_start}
 use Rattle.pair_maker.specs.Files.{relation_bytes}
-use Rattle.pair_maker.specs.Inserts.{transaction, tuple_of}
 use Rattle.pair_maker.specs.Logs.{block_end}
 use Rattle.pair_maker.specs.declared.side.Side.{Side}
 use Rattle.pair_maker.proofs.BlockLemmas.{insert-on_empty}

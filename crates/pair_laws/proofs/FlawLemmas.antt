@@ -1,5 +1,5 @@
 -- A walk below a root where nothing has a flaw.
-use Rattle.std.proofs.Common.{◌≡◌, ℕ, ◌+◌, ◌≤◌, ◌==◌, T, Bool, true, false, cond, ◌&&◌, List, [], ◌∷◌, length, map, filter, drop, Option, None, Some, Ok, refl, sym, ap, ◌∙◌, subst, true≢false, arith}
+use Rattle.std.proofs.Common.{◌≡◌, ℕ, T, Bool, true, false, cond, ◌&&◌, List, [], ◌∷◌, length, map, Option, None, Some, Ok, refl, sym, ap, ◌∙◌}
 use Rattle.std.specs.declared.cmp.Ordering.{Ordering}
 use Rattle.std.specs.declared.cmp.Ordering.TheVariants.{Less, Equal, Greater}
 use Rattle.std.specs.FinMap.{entries, entries_sorted, find, get, get-entries, is_sorted}
@@ -78,6 +78,6 @@ walk-sound c root top sound =
     ∙ ap (λ o. unless o (Ok (filter_map walked (found root (entries c)))))
     (first_found root (flaw_at (length root.parts)) (entries c) (entries_sorted c)
     (λ q e is low.
-      let back : q ≡ below root (from_root root q).parts = back_below root q low in
-      let there : entry_at c q ≡ Some e = some_there c q e (get-entries c q ∙ is) in
-      sound (from_root root q).parts e (ap (λ p. entry_at c p) (sym back) ∙ there)))
+    let back : q ≡ below root (from_root root q).parts = back_below root q low in
+    let there : entry_at c q ≡ Some e = some_there c q e (get-entries c q ∙ is) in
+    sound (from_root root q).parts e (ap (λ p. entry_at c p) (sym back) ∙ there)))

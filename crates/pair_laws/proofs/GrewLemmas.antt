@@ -1,22 +1,17 @@
 -- What is asked of a pair's clusters beside the logs: entries of the kinds of their places, files with no gap, and the whole copy.
-use Rattle.std.proofs.Common.{◌≡◌, ◌⊎◌, inl, inr, ℕ, ◌+◌, ◌*◌, ◌/◌, ◌%◌, ◌==◌, ◌<◌, ◌≤◌, ◌^◌, max, Bool, true, false, cond, ◌&&◌, ◌||◌, nat_le, nat_lt, List, [], ◌∷◌, ◌++◌, length, take, drop, Option, None, Some, is_some, bytes_eq, codes, refl, sym, ap, ap₂, ◌∙◌, subst, true≢false, append_assoc, arith, if◌then◌else◌}
+use Rattle.std.proofs.Common.{◌≡◌, ℕ, ◌*◌, ◌/◌, ◌%◌, ◌==◌, ◌<◌, ◌≤◌, ◌^◌, Bool, true, false, nat_lt, List, [], ◌∷◌, ◌++◌, length, take, drop, Option, None, Some, is_some, refl, sym, ap, ap₂, ◌∙◌, true≢false, append_assoc, arith, if◌then◌else◌}
 use Rattle.std.proofs.lemmas.Bool.Decides.{nat_tests}
-use Rattle.std.proofs.lemmas.List.{length-append}
-use Rattle.std.proofs.lemmas.Slice.Eq.{bytes_eq-Decides}
-use Rattle.std.specs.Cmp.Lexicographic.{pointwise}
 use Rattle.alike_clusters.specs.Clusters.{is_bounded}
 use Rattle.block_refs.specs.Names.{fork_number}
 use Rattle.block_refs.specs.declared.names.Fork.{Fork}
-use Rattle.block_refs.specs.declared.names.Fork.TheVariants.{Main, Init}
+use Rattle.block_refs.specs.declared.names.Fork.TheVariants.{Init}
 use Rattle.block_refs.specs.declared.names.RelName.{RelName}
 use Rattle.cluster_compare.specs.Same.{has_init}
 use Rattle.cluster_kinds.specs.Kinds.{AnyPlace, FilePlace, FolderPlace, HasKinds, IsAt, Place, place_of}
 use Rattle.cluster_tree.specs.Contents.{Contents, Entry, FileEntry, FolderEntry, LinkEntry, entry_at, is_file, is_folder}
 use Rattle.cluster_tree.specs.Folders.{last_part}
-use Rattle.cluster_tree.specs.PathValue.{PathValue, below, kept_parts, path_of}
+use Rattle.cluster_tree.specs.PathValue.{PathValue, below, path_of}
 use Rattle.cluster_tree.specs.Tree.{bytes_in}
-use Rattle.file_walk.specs.Relations.{relation_of}
-use Rattle.relation_files.specs.Laws.{IsSmall}
 use Rattle.relation_files.specs.Names.{name_of}
 use Rattle.relation_files.specs.Reading.{file_named}
 use Rattle.relation_files.specs.Paths.{database_parts, folder_parts, global_parts, relation_file}
@@ -24,11 +19,10 @@ use Rattle.relation_files.specs.declared.file_name.FileName.{FileName}
 use Rattle.relation_files.proofs.NameLemmas.{named-written}
 use Rattle.rewound_laws.specs.Alike.{AreBounded}
 use Rattle.storage_laws.specs.Forks.{HasNoGap}
-use Rattle.storage_laws.specs.Names.{IsRel, block_of}
-use Rattle.storage_laws.specs.States.{block_in, whole_block}
-use Rattle.storage_replay.specs.Lengths.{most_blocks}
+use Rattle.storage_laws.specs.Names.{IsRel}
+use Rattle.storage_laws.specs.States.{whole_block}
 use Rattle.pair_laws.proofs.PlannedLemmas.{IsCluster}
-use Rattle.pair_laws.proofs.ThereLemmas.{Holds, only_file}
+use Rattle.pair_laws.proofs.ThereLemmas.{only_file}
 
 -- ---- kinds
 

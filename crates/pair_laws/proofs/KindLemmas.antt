@@ -1,11 +1,11 @@
 -- Of two clusters whose entries are of the same kinds at the same paths, no rewind is refused for kinds that differ.
-use Rattle.std.proofs.Common.{◌≡◌, ℕ, ◌+◌, ◌≤◌, ◌==◌, Bool, true, false, cond, ◌&&◌, ◌||◌, nat_lt, List, [], ◌∷◌, length, map, Option, None, Some, is_some, refl, sym, ap, ◌∙◌, true≢false, if◌then◌else◌}
+use Rattle.std.proofs.Common.{◌≡◌, Bool, true, false, cond, ◌&&◌, ◌||◌, nat_lt, List, [], ◌∷◌, map, Option, None, Some, is_some, refl, sym, ap, ◌∙◌, true≢false, if◌then◌else◌}
 use Rattle.std.specs.List.{list_any}
 use Rattle.cluster_tree.specs.Contents.{Entry, FileEntry, FolderEntry, LinkEntry}
 use Rattle.cluster_tree.specs.PathOrder.{path_eq}
 use Rattle.cluster_tree.specs.PathValue.{PathValue}
 use Rattle.cluster_tree.proofs.OrderLemmas.{path_eq-own}
-use Rattle.file_walk.specs.Actions.{action_at, block_action, both, by_kinds, cleared, file_action, is_kept, is_version}
+use Rattle.file_walk.specs.Actions.{action_at, by_kinds, cleared, is_kept, is_version}
 use Rattle.file_walk.specs.Excluded.{is_excluded}
 use Rattle.file_walk.specs.Pairs.{pair_at}
 use Rattle.file_walk.specs.Relations.{relation_of}

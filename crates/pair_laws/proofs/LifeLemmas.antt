@@ -1,18 +1,18 @@
 -- The life of each block of a pair in the source's log.
-use Rattle.std.proofs.Common.{◌≡◌, ◌⊎◌, ℕ, zero, suc, ◌+◌, ◌<◌, ◌≤◌, ◌^◌, ◌&&◌, Bool, true, false, true≢false, cond, List, [], ◌∷◌, ◌++◌, map, Option, None, Some, Ok, inl, inr, lit<, lit≤, refl, ap, sym, ◌∙◌, subst, arith, filter, ◌-◌}
+use Rattle.std.proofs.Common.{◌≡◌, ℕ, zero, suc, ◌+◌, ◌<◌, ◌≤◌, Bool, true, false, true≢false, cond, List, [], ◌∷◌, ◌++◌, map, Option, None, Some, Ok, inl, inr, lit<, lit≤, refl, ap, sym, ◌∙◌, subst, arith, filter, ◌-◌}
 use Rattle.std.specs.List.{AllByRecursion, fold, range_with_len, slice_get}
 use Rattle.block_effects.specs.Lives.{IsLife}
 use Rattle.block_refs.specs.declared.names.BlockName.{BlockName}
 use Rattle.heap_replay.specs.Operation.{heap_operation}
 use Rattle.page_layout.specs.Lsn.{lsn, with_lsn}
-use Rattle.page_masks.specs.Law.{Redone, SamePage, set_lsn_of, stamped, view}
+use Rattle.page_masks.specs.Law.{Redone, set_lsn_of, stamped, view}
 use Rattle.record_effects.specs.Managers.{effect_on, rules_of}
-use Rattle.replay_law.specs.Effect.{At, Change, Step}
+use Rattle.replay_law.specs.Effect.{At, Change}
 use Rattle.replay_law.specs.Premises.{IsNoNewer, IsState, RunsOn}
 use Rattle.replay_law.specs.Stage.{Fits, Matches, made_or, stage}
 use Rattle.replay_laws.specs.Held.{IsMainBlock}
 use Rattle.replay_laws.specs.Log.{split_of, steps}
-use Rattle.replay_laws.specs.Refusals.{LacksLayout, SomeLacksLayout}
+use Rattle.replay_laws.specs.Refusals.{LacksLayout}
 use Rattle.reset_plan.specs.NewSegment.{checkpoint_record}
 use Rattle.wal_base.specs.Segment.{bytes_of}
 use Rattle.wal_records.specs.Again.{IsNew, log_records, new_log_record}
@@ -23,18 +23,18 @@ use Rattle.wal_records.specs.Writer.{NewRecord, Written, appended, begun, end_fr
 use Rattle.wal_records.proofs.AppendLemmas.{written_more}
 use Rattle.wal_records.proofs.NextLemmas.{grown_end}
 use Rattle.pair_maker.proofs.LogLemmas.{log-more}
-use Rattle.pair_maker.specs.Blocks.{block_page, log_start}
+use Rattle.pair_maker.specs.Blocks.{block_page}
 use Rattle.pair_maker.specs.Inserts.{insert_blocks, insert_record, inserts_into}
 use Rattle.pair_maker.specs.Logs.{block_end, common_checkpoint, common_place, last_checkpoint, last_place, log_upto, origin_of, records_of, records_upto}
 use Rattle.pair_maker.specs.declared.side.Side.{Side}
 use Rattle.pair_maker.specs.declared.side.Side.TheVariants.{Source}
-use Rattle.pair_laws.specs.Life.{PairLives, PairSaysEnough, base_of, if_there, page_of, side_records}
+use Rattle.pair_laws.specs.Life.{PairLives, PairSaysEnough, base_of, page_of, side_records}
 use Rattle.pair_laws.proofs.BlocksLemmas.{Misses, absent-other, all-miss, is_there, later_blocks, later_records, number-other, records-split, there-below, there-own}
-use Rattle.pair_laws.proofs.EffectLemmas.{IsIdle, IsWhole, block_at, checkpoint-idle, checkpoint-whole, common-is, insert-does, insert-idle, insert-operation, insert-whole, insert_parts, last-is}
+use Rattle.pair_laws.proofs.EffectLemmas.{IsIdle, IsWhole, checkpoint-idle, checkpoint-whole, common-is, insert-does, insert-idle, insert-operation, insert-whole, insert_parts, last-is}
 use Rattle.pair_laws.proofs.NearLemmas.{grown}
 use Rattle.pair_laws.proofs.PageLemmas.{blank, blank-lsn, blank-page, blank-sound, put-blank, put-same, redo-blank}
-use Rattle.pair_laws.proofs.RecordLemmas.{given, given_in}
-use Rattle.pair_laws.proofs.RunLemmas.{new-back, new-front}
+use Rattle.pair_laws.proofs.RecordLemmas.{given_in}
+use Rattle.pair_laws.proofs.RunLemmas.{new-back}
 use Rattle.pair_laws.proofs.SmallLemmas.{all_few, all_small, begun_starts, last_low}
 use Rattle.pair_laws.proofs.StepsLemmas.{all-idle, all-split, as-given, behind, idle_steps, runs-around, runs-idle, stage-around, steps-around, steps-rise}
 

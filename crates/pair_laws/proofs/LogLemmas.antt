@@ -1,5 +1,5 @@
 -- The log of a pair's target lies in its one segment, and so is read.
-use Rattle.std.proofs.Common.{◌≡◌, ℕ, List, [], ◌∷◌, Some, refl, ap, ◌∙◌, append_assoc, codes, lit<, lit≤}
+use Rattle.std.proofs.Common.{◌≡◌, ℕ, [], ◌∷◌, Some, refl, ap, ◌∙◌, append_assoc, codes, lit<, lit≤}
 use Rattle.cluster_tree.specs.Contents.{Contents, FileEntry, entry_at}
 use Rattle.cluster_tree.specs.PathValue.{PathValue, below, kept_parts, path_of}
 use Rattle.clusters.specs.RootLog.{log_at}
@@ -11,7 +11,6 @@ use Rattle.wal_records.specs.Further.{pages_of}
 use Rattle.wal_records.specs.Stored.{IsPathOf}
 use Rattle.pair_maker.specs.Files.{segment_bytes}
 use Rattle.pair_maker.specs.Logs.{megabyte, origin_of, records_of}
-use Rattle.pair_maker.specs.Pair.{PairStands}
 use Rattle.pair_maker.specs.declared.side.Side.TheVariants.{Target}
 use Rattle.pair_laws.specs.Read.{IsRead}
 use Rattle.pair_laws.specs.Stands.{HasPair, target_of}

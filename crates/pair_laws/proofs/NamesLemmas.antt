@@ -6,7 +6,6 @@ use Rattle.reset_plan.specs.NewSegment.{checkpoint_record}
 use Rattle.touched_blocks.specs.Named.{covers, is_rel}
 use Rattle.touched_blocks.specs.declared.named.Named.{Named}
 use Rattle.touched_blocks.specs.declared.named.Named.TheVariants.{OneBlock}
-use Rattle.wal_records.specs.Writer.{NewRecord}
 use Rattle.pair_maker.specs.Inserts.{insert_blocks, insert_record, inserts_into, pair_relation}
 use Rattle.pair_maker.specs.Logs.{common_checkpoint, last_checkpoint, last_place, records_of}
 use Rattle.pair_maker.specs.declared.side.Side.{Side}
@@ -45,9 +44,9 @@ names_of_log side seed blocks = ([] ∷ map one_block (insert_blocks side seed b
 pub all-named : (side : Side) (seed blocks : ℕ) → blocks ≤ 2 ^ 32 → last_place side seed blocks < 2 ^ 64 → AllName (records_of side seed blocks) (names_of_log side seed blocks)
 all-named side seed blocks few low =
     names-append (checkpoint_record common_checkpoint ∷ map (insert_record seed) (insert_blocks side seed blocks))
-        (checkpoint_record (last_checkpoint side (last_place side seed blocks)) ∷ []) ([] ∷ map one_block (insert_blocks side seed blocks)) ([] ∷ [])
-        (checkpoint-names common_checkpoint (common-fits 0), inserts_name seed (insert_blocks side seed blocks) (blocks-low side seed blocks (2 ^ 32) few))
-        (checkpoint-names (last_checkpoint side (last_place side seed blocks)) (last-fits side (last_place side seed blocks) 0 low), tt)
+    (checkpoint_record (last_checkpoint side (last_place side seed blocks)) ∷ []) ([] ∷ map one_block (insert_blocks side seed blocks)) ([] ∷ [])
+    (checkpoint-names common_checkpoint (common-fits 0), inserts_name seed (insert_blocks side seed blocks) (blocks-low side seed blocks (2 ^ 32) few))
+    (checkpoint-names (last_checkpoint side (last_place side seed blocks)) (last-fits side (last_place side seed blocks) 0 low), tt)
 
 -- ---- a block of the relation that none of them names wasn't inserted into
 

@@ -1,14 +1,12 @@
 -- The empty page of a pair's base, and what redo of an insert makes of it.
-use Rattle.std.proofs.Common.{◌≡◌, ℕ, ◌+◌, ◌-◌, ◌*◌, ◌/◌, ◌<◌, ◌≤◌, true, false, cond, ◌&&◌, ◌||◌, nat_le, nat_lt, nat_eq, List, length, None, Some, Ok, Err, inl, inr, lit<, refl, ap, ap₂, sym, ◌∙◌, subst, arith, T}
-use Rattle.std.specs.Prelude.{IsTrue, replicate, if◌then◌else◌}
-use Rattle.std.proofs.lemmas.Bool.Decides.{nat_tests}
+use Rattle.std.proofs.Common.{◌≡◌, ℕ, ◌+◌, ◌-◌, ◌*◌, ◌/◌, true, false, cond, ◌&&◌, ◌||◌, nat_le, nat_lt, nat_eq, List, length, None, Some, Ok, Err, inr, lit<, refl, ap, ap₂, sym, ◌∙◌, arith}
+use Rattle.std.specs.Prelude.{IsTrue, replicate}
 use Rattle.page_layout.specs.Apart.{AreApart}
-use Rattle.page_layout.specs.Bytes.{u16_at, up8, with_u16}
+use Rattle.page_layout.specs.Bytes.{up8, with_u16}
 use Rattle.page_layout.specs.Deletes.{all_apart}
 use Rattle.page_layout.specs.Edits.{added, init_bytes, is_free, refuse_or, trimmed, trimmed_count}
 use Rattle.page_layout.specs.Lsn.{lsn, with_lsn}
 use Rattle.page_layout.specs.Page.{IsFormed, count, pd_lower, pd_special, pd_upper, well_formed}
-use Rattle.page_layout.specs.declared.refusal.RedoWhy.{RedoWhy}
 use Rattle.page_layout.specs.declared.refusal.RedoWhy.TheVariants.{PageShape, Place, Room}
 use Rattle.page_layout.proofs.LineViews.{u16_at-with_u16, u16_at-with_u16_out}
 use Rattle.page_layout.proofs.ReadLemmas.{lower_u16, upper_u16}
@@ -20,7 +18,7 @@ use Rattle.page_masks.proofs.LsnUnshown.{lsn_tail, lsn_unshown}
 use Rattle.page_masks.proofs.ShapeKind.{SameTail, u16_tail}
 use Rattle.page_masks.proofs.Trimmed.{trimmed_mask}
 use Rattle.page_masks.proofs.Unshown.{kind_heap, well}
-use Rattle.page_masks.specs.Law.{Redone, SameMasks, SamePage, and_then, stamped, view}
+use Rattle.page_masks.specs.Law.{Redone, SamePage, and_then, view}
 use Rattle.page_masks.specs.Mask.{mask}
 use Rattle.page_masks.specs.Shapes.{IsHeap}
 use Rattle.page_masks.specs.Sound.{have_good_hoffs, is_sound, sound_as}

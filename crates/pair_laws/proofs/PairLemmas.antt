@@ -1,5 +1,5 @@
 -- A pair has parted, its rewind is needed, and it grew from one state.
-use Rattle.std.proofs.Common.{◌≡◌, inl, ℕ, ℤ, pos, ◌+◌, ◌*◌, ◌<◌, ◌≤◌, ◌==◌, max, Bool, true, false, ◌&&◌, nat_lt, List, [], ◌∷◌, ◌++◌, length, Option, None, Some, is_some, codes, refl, sym, ap, ◌∙◌, subst, true≢false, append_assoc, arith, if◌then◌else◌}
+use Rattle.std.proofs.Common.{◌≡◌, inl, ℕ, pos, ◌+◌, ◌<◌, ◌≤◌, max, Bool, true, false, ◌&&◌, nat_lt, List, [], ◌∷◌, length, None, Some, codes, refl, sym, ap, ◌∙◌, subst, true≢false, append_assoc, arith, if◌then◌else◌}
 use Rattle.std.proofs.lemmas.Bool.Decides.{nat_tests}
 use Rattle.std.proofs.lemmas.List.{length-append}
 use Rattle.std.specs.Fmt.{digits}
@@ -24,8 +24,8 @@ use Rattle.pair_maker.specs.Files.{relation_bytes}
 use Rattle.pair_maker.specs.Inserts.{inserts_into, pair_relation}
 use Rattle.pair_maker.specs.Logs.{block_end, log_upto, made_at}
 use Rattle.pair_maker.specs.declared.side.Side.TheVariants.{Target, Source}
-use Rattle.pair_laws.specs.Grew.{IsGrown, PairsFollow, PairsGrewFromOneState, pair_rewind}
-use Rattle.pair_laws.specs.Life.{base_of, page_of, side_records}
+use Rattle.pair_laws.specs.Grew.{PairsFollow, PairsGrewFromOneState, pair_rewind}
+use Rattle.pair_laws.specs.Life.{base_of, side_records}
 use Rattle.pair_laws.specs.Stands.{HasPair, copy_of, source_of, target_of}
 use Rattle.pair_laws.specs.Start.{copy_start}
 use Rattle.pair_laws.specs.Survey.{PairHasParted, PairIsNeeded}
@@ -35,7 +35,7 @@ use Rattle.pair_laws.proofs.GrewLemmas.{cluster-bounded, cluster-kinds, cluster-
 use Rattle.pair_laws.proofs.LifeLemmas.{pair-enough, pair-lives}
 use Rattle.pair_laws.proofs.LogLemmas.{target-log_read}
 use Rattle.pair_laws.proofs.NamedLemmas.{pair-at-s, pair-at-t}
-use Rattle.pair_laws.proofs.NamesLemmas.{any_covers, names_of_log, unnamed-block}
+use Rattle.pair_laws.proofs.NamesLemmas.{names_of_log, unnamed-block}
 use Rattle.pair_laws.proofs.PlannedLemmas.{IsCluster, planned-found, source-cluster, target-cluster}
 use Rattle.pair_laws.proofs.RecordLemmas.{touches-named}
 use Rattle.pair_laws.proofs.SmallLemmas.{last_low}
@@ -101,12 +101,12 @@ module _ (root : PathValue) (seed blocks : ℕ) (c : Contents) (pair : HasPair r
       → Matches (view name.block) (base_of blocks name) (page_in (target_of root) 131072 name c)
   target_matches name main none =
       subst (λ state. Matches (view name.block) (base_of blocks name) state) (sym (page-there Target seed blocks pair.few c (target_of root) target_is target_file name main))
-          (matches_by (view name.block) (is_rel name.rel pair_relation && nat_lt name.block blocks) (block_page 0 0 None) (page_of_side Target seed name.block) (base_page name none))
+      (matches_by (view name.block) (is_rel name.rel pair_relation && nat_lt name.block blocks) (block_page 0 0 None) (page_of_side Target seed name.block) (base_page name none))
 
   source_fits : (name : BlockName) → IsMainBlock name → Fits (view name.block) (base_of blocks name) (page_in (source_of root) 131072 name c) (steps name (side_records Source seed blocks))
   source_fits name main =
       subst (λ state. Fits (view name.block) (base_of blocks name) state (steps name (side_records Source seed blocks)))
-          (sym (page-there Source seed blocks pair.few c (source_of root) source_is source_file name main)) (pair-lives seed blocks name pair.few main).1
+      (sym (page-there Source seed blocks pair.few c (source_of root) source_is source_file name main)) (pair-lives seed blocks name pair.few main).1
 
   grew_from : (name : BlockName) → IsMainBlock name → GrewFrom (base_of blocks name) c (pair_rewind root seed blocks c).aim.between (copy_start root seed blocks) name
   grew_from name main = record { life = (pair-lives seed blocks name pair.few main).0; source = source_fits name main; target = λ some unwanted. target_matches name main unwanted }
@@ -138,4 +138,4 @@ pub pairs-follow : PairsFollow
 pairs-follow root seed blocks c c' pair left =
     let grown = pairs-grew root seed blocks c pair in
     follows c c' (target_of root) (source_of root) (pos made_at) (pair_rewind root seed blocks c) (pair-needed root seed blocks c (pos made_at) pair) left (base_of blocks) c (copy_of root)
-        (copy_start root seed blocks) grown.copied grown.grew
+    (copy_start root seed blocks) grown.copied grown.grew

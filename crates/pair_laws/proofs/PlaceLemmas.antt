@@ -1,17 +1,15 @@
 -- What stands at the fixed places of a pair, and what the files there say.
-use Rattle.std.proofs.Common.{◌≡◌, ℕ, ◌^◌, ◌<◌, ◌+◌, Bool, true, false, cond, List, [], ◌∷◌, ◌++◌, Option, None, Some, Result, Ok, Err, is_some, refl, ap, sym, ◌∙◌, codes, append_assoc, arith}
-use Rattle.cluster_tree.specs.Contents.{Contents, Entry, FileEntry, FolderEntry, entry_at}
-use Rattle.cluster_tree.specs.Marks.{marks_of}
+use Rattle.std.proofs.Common.{◌≡◌, ℕ, false, [], ◌∷◌, None, Some, refl, ap, ◌∙◌, codes, append_assoc}
+use Rattle.cluster_tree.specs.Contents.{Contents, FileEntry, FolderEntry, entry_at}
 use Rattle.cluster_tree.specs.PathValue.{PathValue, below, kept_parts, path_of}
 use Rattle.clusters.specs.Marks.{unfinished}
-use Rattle.clusters.specs.Roots.{history_name, history_path, path_in, wal_folder}
+use Rattle.clusters.specs.Roots.{history_name, history_path, path_in}
 use Rattle.control_file.specs.Writing.{control_bytes}
 use Rattle.wal_base.specs.Hex.{hex_digits}
-use Rattle.pair_maker.specs.Clusters.{source_entries, target_entries}
 use Rattle.pair_maker.specs.Files.{control_of, history_bytes}
-use Rattle.pair_maker.specs.Pair.{PairStands, last_named}
+use Rattle.pair_maker.specs.Pair.{PairStands}
 use Rattle.pair_maker.specs.declared.side.Side.TheVariants.{Target, Source}
-use Rattle.pair_laws.specs.Stands.{copy_of, source_of, target_of}
+use Rattle.pair_laws.specs.Stands.{source_of, target_of}
 use Rattle.pair_laws.proofs.NamedLemmas.{pair-at-s, pair-at-t}
 
 module _ (root : PathValue) (seed blocks : ℕ) (c : Contents) (stands : PairStands root seed blocks c) where

@@ -1,5 +1,5 @@
 -- A rewind of a pair's target to its source is needed: both walks find what stands, each path has room, and no kinds differ.
-use Rattle.std.proofs.Common.{◌≡◌, ◌⊎◌, inl, inr, ℕ, ℤ, pos, ◌+◌, ◌<◌, ◌≤◌, ◌^◌, ◌==◌, Bool, true, false, cond, ◌&&◌, ◌||◌, nat_lt, List, [], ◌∷◌, ◌++◌, length, Option, None, Some, is_some, Result, Ok, option_map, refl, sym, ap, ap₂, ◌∙◌, subst, true≢false, arith, codes}
+use Rattle.std.proofs.Common.{◌≡◌, ◌⊎◌, inl, inr, ℕ, ℤ, ◌+◌, ◌<◌, ◌≤◌, ◌^◌, Bool, true, false, ◌&&◌, ◌||◌, nat_lt, List, [], ◌∷◌, ◌++◌, length, Option, None, Some, is_some, Ok, option_map, refl, sym, ap, ap₂, ◌∙◌, subst, true≢false, arith, codes}
 use Rattle.std.proofs.lemmas.Bool.Decides.{nat_tests}
 use Rattle.std.proofs.lemmas.List.{append-nil, length-append}
 use Rattle.std.proofs.lemmas.List.Folds.{list_all-append}
@@ -15,10 +15,9 @@ use Rattle.file_walk.specs.Laws.{IsOwn, TellsAll}
 use Rattle.file_walk.specs.Pairs.{kind_in, pair_at, pairs_of, paths_of}
 use Rattle.file_walk.specs.Walk.{HasParts, found_below, kind_there, walk_of, walked}
 use Rattle.file_walk.specs.declared.entry.Entry.{Entry as Walked}
-use Rattle.file_walk.specs.declared.pair.Pair.{Pair}
 use Rattle.file_walk.proofs.StandLemmas.{is-among, tells-all}
 use Rattle.rewind_core.specs.Faults.{seen}
-use Rattle.rewind_core.specs.Planned.{Aim, Needing, Needs, aim_of, between_of, from_pairs, from_parting, from_size, from_survey, from_walks, planned_of}
+use Rattle.rewind_core.specs.Planned.{Needs, from_pairs, from_parting, from_size, from_survey, from_walks, planned_of}
 use Rattle.rewind_plan.specs.Checks.{first_difference, is_difference}
 use Rattle.rewind_plan.specs.Planned.{Between, action_of}
 use Rattle.rewind_plan.specs.Room.{first_lacking, lacks_room, makes}
@@ -26,10 +25,9 @@ use Rattle.rewind_survey.specs.Faults.{told_by}
 use Rattle.rewind_survey.specs.declared.fault.RewindFault.TheVariants as fault
 use Rattle.wal_base.specs.SizeOfBytes.{size_of_bytes}
 use Rattle.wal_records.specs.Further.{pages_of}
-use Rattle.pair_maker.specs.Clusters.{Named, source_entries, target_entries}
+use Rattle.pair_maker.specs.Clusters.{source_entries, target_entries}
 use Rattle.pair_maker.specs.Files.{control_of, relation_bytes}
 use Rattle.pair_maker.specs.Logs.{last_place, megabyte, records_of}
-use Rattle.pair_maker.specs.Pair.{last_named}
 use Rattle.pair_maker.specs.declared.side.Side.TheVariants.{Target, Source}
 use Rattle.pair_laws.specs.Read.{IsRead}
 use Rattle.pair_laws.specs.Stands.{HasPair, source_of, target_of}
@@ -38,7 +36,7 @@ use Rattle.pair_laws.proofs.ControlLemmas.{size-is}
 use Rattle.pair_laws.proofs.FlawLemmas.{walk-sound}
 use Rattle.pair_laws.proofs.HistoryLemmas.{target_spans}
 use Rattle.pair_laws.proofs.KindLemmas.{IsSort, no-path, not-past, same-sorts, sort-there}
-use Rattle.pair_laws.proofs.NamedLemmas.{AllNamed, named-all, pair-at-s, pair-at-t}
+use Rattle.pair_laws.proofs.NamedLemmas.{named-all, pair-at-s, pair-at-t}
 use Rattle.pair_laws.proofs.PlaceLemmas.{source-root, target-root}
 use Rattle.pair_laws.proofs.SurveyLemmas.{source-read, survey-found, target-read}
 use Rattle.pair_laws.proofs.ThereLemmas.{Holds, flawless, in_folders, source-hold, target-hold}
@@ -128,18 +126,18 @@ module _ (c : Contents) (w : Between) (old new : List ℕ) (one : IsCluster c w.
   none-lacking =
       no-path (lacks_room w) ts ss (paths_of ts ss)
       (λ k among.
-        let short = short_by k (either k among) in
-        let pair = pair_at ts ss k in
-        not-past (is_some pair.target || makes (action_of pair)) (is_some pair.source) (nat_lt 64 (length w.target.parts + length k.parts)) (nat_lt 64 (length w.source.parts + length k.parts))
-            (near (length w.target.parts) (length k.parts) one.room short) (near (length w.source.parts) (length k.parts) other.room short))
+      let short = short_by k (either k among) in
+      let pair = pair_at ts ss k in
+      not-past (is_some pair.target || makes (action_of pair)) (is_some pair.source) (nat_lt 64 (length w.target.parts + length k.parts)) (nat_lt 64 (length w.source.parts + length k.parts))
+      (near (length w.target.parts) (length k.parts) one.room short) (near (length w.source.parts) (length k.parts) other.room short))
 
   pub none-differing : first_difference (pairs_of ts ss) ≡ None
   unfolding pairs_of
   none-differing =
       no-path (λ pair. is_difference (action_of pair)) ts ss (paths_of ts ss)
       (λ k among.
-        let own = own_by k (either k among) in
-        same-sorts k (in_folders k.parts) (kind_in ts k) (kind_in ss k) (cluster-sort c w.target old one k own) (cluster-sort c w.source new other k own))
+      let own = own_by k (either k among) in
+      same-sorts k (in_folders k.parts) (kind_in ts k) (kind_in ss k) (cluster-sort c w.target old one k own) (cluster-sort c w.source new other k own))
 
 -- ---- a pair
 
@@ -160,7 +158,7 @@ module _ (root : PathValue) (seed blocks : ℕ) (c : Contents) (pair : HasPair r
     top = at_root (target_of root) (target-root root seed blocks c pair.stands);
     each = λ parts e there.
         named-all (Holds (relation_bytes Target seed blocks)) (target_entries seed blocks) parts (target-hold seed blocks) e
-            (sym (pair-at-t root seed blocks c pair.stands parts) ∙ there);
+        (sym (pair-at-t root seed blocks c pair.stands parts) ∙ there);
   }
 
   pub source-cluster : IsCluster c (source_of root) (relation_bytes Source seed blocks)
@@ -170,7 +168,7 @@ module _ (root : PathValue) (seed blocks : ℕ) (c : Contents) (pair : HasPair r
     top = at_root (source_of root) (source-root root seed blocks c pair.stands);
     each = λ parts e there.
         named-all (Holds (relation_bytes Source seed blocks)) (source_entries seed blocks) parts (source-hold seed blocks) e
-            (sym (pair-at-s root seed blocks c pair.stands parts) ∙ there);
+        (sym (pair-at-s root seed blocks c pair.stands parts) ∙ there);
   }
 
 module _ (root : PathValue) (seed blocks : ℕ) (c : Contents) (pair : HasPair root seed blocks c) (read : IsRead (pages_of (log_at (target_of root) target_spans megabyte) c) Target (records_of Target seed blocks)) (low : last_place Source seed blocks < 2 ^ 64) (now : ℤ) where

@@ -1,5 +1,5 @@
 -- The logs of a pair are read.
-use Rattle.std.proofs.Common.{◌≡◌, ℕ, ◌+◌, ◌-◌, ◌*◌, ◌/◌, ◌%◌, ◌^◌, ◌<◌, ◌≤◌, List, [], ◌∷◌, ◌++◌, take, drop, length, replicate, Some, inl, inr, lit<, refl, ap, sym, ◌∙◌, arith, subst, length-append}
+use Rattle.std.proofs.Common.{◌≡◌, ℕ, ◌+◌, ◌-◌, ◌/◌, ◌%◌, ◌^◌, ◌<◌, ◌≤◌, List, [], ◌∷◌, ◌++◌, take, length, replicate, Some, inl, inr, lit<, refl, ap, sym, ◌∙◌, arith, subst, length-append}
 use Rattle.std.proofs.Math.Seq.{take-append-add}
 use Rattle.std.proofs.lemmas.List.{length-replicate, take-replicate}
 use Rattle.std.specs.List.{AllByRecursion, fold}
@@ -9,11 +9,10 @@ use Rattle.reset_plan.specs.Plan.{padded}
 use Rattle.wal_base.specs.Segment.{bytes_of, name_of}
 use Rattle.wal_pages.specs.Folder.{folder_of}
 use Rattle.wal_pages.specs.LogBytes.{segment_of}
-use Rattle.wal_pages.specs.Page.{page_at}
 use Rattle.wal_pages.specs.declared.log_path.LogPath.{LogPath}
 use Rattle.wal_records.specs.Again.{Holds, IsLogFrom, log_records, new_log_record}
 use Rattle.wal_records.specs.Further.{pages_of}
-use Rattle.wal_records.specs.Log.{Log, log_from}
+use Rattle.wal_records.specs.Log.{log_from}
 use Rattle.wal_records.specs.Place.{place_at}
 use Rattle.wal_records.specs.Reading.{Spelled, reading}
 use Rattle.wal_records.specs.Sound.{AllNew, IsSound}

@@ -1,12 +1,11 @@
 -- What the records of a pair's logs are once they are read, and what they name.
-use Rattle.std.proofs.Common.{◌≡◌, ℕ, ◌<◌, ◌≤◌, ◌^◌, List, [], ◌∷◌, ◌++◌, Bool, false, Option, None, Some, Ok, refl, sym, ap, ap₂, ◌∙◌, arith}
+use Rattle.std.proofs.Common.{◌≡◌, ℕ, ◌<◌, ◌^◌, List, [], ◌∷◌, ◌++◌, Option, Ok, refl, ap, ap₂, ◌∙◌}
 use Rattle.std.specs.List.{AllByRecursion, list_any}
 use Rattle.block_refs.specs.Outcomes.{record_parts, start_of, told}
 use Rattle.block_refs.specs.Parts.{PartsView, parts_of}
 use Rattle.block_refs.specs.Written.{written_parts}
 use Rattle.block_refs.specs.declared.names.RelName.{RelName}
 use Rattle.control_file.specs.Rows.{checkpoint_rows}
-use Rattle.control_file.specs.Writing.{checkpoint_bytes}
 use Rattle.control_file.specs.declared.checkpoint.Checkpoint.{Checkpoint}
 use Rattle.layout.specs.Rows.{RowFits}
 use Rattle.record_layouts.specs.Heap.{heap_op_of}

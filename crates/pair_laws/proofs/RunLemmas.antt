@@ -1,23 +1,19 @@
 -- A log that stands in one segment is read from where any of its records end.
-use Rattle.std.proofs.Common.{◌≡◌, ℕ, ◌+◌, ◌-◌, ◌*◌, ◌/◌, ◌%◌, ◌^◌, ◌<◌, ◌≤◌, List, [], ◌∷◌, ◌++◌, take, drop, length, replicate, Some, None, inl, inr, refl, ap, sym, ◌∙◌, arith, subst, append_assoc, length-append}
+use Rattle.std.proofs.Common.{◌≡◌, ℕ, ◌+◌, ◌^◌, ◌<◌, List, [], ◌∷◌, ◌++◌, drop, length, inl, inr, refl, ap, sym, ◌∙◌, arith, subst, append_assoc}
 use Rattle.std.proofs.lemmas.List.{append-nil, drop_at}
 use Rattle.std.specs.List.{fold}
-use Rattle.cluster_tree.specs.Contents.{Contents, FileEntry, entry_at}
-use Rattle.cluster_tree.specs.PathValue.{below}
-use Rattle.reset_plan.specs.Plan.{padded}
-use Rattle.wal_base.specs.Segment.{bytes_of, name_of}
-use Rattle.wal_pages.specs.Folder.{Folder, folder_of}
-use Rattle.wal_pages.specs.LogBytes.{segment_of}
+use Rattle.wal_base.specs.Segment.{bytes_of}
+use Rattle.wal_pages.specs.Folder.{Folder}
 use Rattle.wal_pages.specs.Page.{page_at}
 use Rattle.wal_pages.specs.declared.log_path.LogPath.{LogPath}
 use Rattle.wal_records.specs.Again.{AllWritten, Holds, IsLogFrom, log_records, new_log_record, with_records}
-use Rattle.wal_records.specs.Further.{Pages, pages_of}
+use Rattle.wal_records.specs.Further.{Pages}
 use Rattle.wal_records.specs.Log.{Log, log_from}
 use Rattle.wal_records.specs.Place.{place_at}
 use Rattle.wal_records.specs.Reading.{LogRecord, Spelled, Stopped, reading}
 use Rattle.wal_records.specs.Sound.{AllNew, IsSound}
-use Rattle.wal_records.specs.Stored.{IsPathOf, IsStored, end_why, segment_part}
-use Rattle.wal_records.specs.Writer.{NewRecord, Written, appended, begun, in_pages, whole_pages, written}
+use Rattle.wal_records.specs.Stored.{end_why}
+use Rattle.wal_records.specs.Writer.{NewRecord, Written, appended}
 use Rattle.wal_records.specs.declared.log_origin.LogOrigin.{LogOrigin}
 use Rattle.wal_records.specs.declared.why.Why.{Why}
 use Rattle.wal_records.specs.declared.why.Stop.TheVariants.{Ends}
@@ -27,8 +23,7 @@ use Rattle.wal_records.proofs.LogLemmas.{log_on}
 use Rattle.wal_records.proofs.NextLemmas.{grown_origin, sound_after}
 use Rattle.wal_records.proofs.PlacedLemmas.{placed}
 use Rattle.wal_records.proofs.RunLemmas.{all_read}
-use Rattle.wal_records.proofs.StateLemmas.{begun_sound, grown, reached, written_at}
-use Rattle.wal_records.proofs.StoredLemmas.{path_from, stored_holds}
+use Rattle.wal_records.proofs.StateLemmas.{grown, reached, written_at}
 
 -- ---- first records of a log
 

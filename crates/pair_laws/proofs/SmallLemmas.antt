@@ -1,5 +1,5 @@
 -- The records of a pair's logs are small, and few enough for one segment.
-use Rattle.std.proofs.Common.{◌≡◌, ℕ, ◌+◌, ◌*◌, ◌^◌, ◌<◌, ◌≤◌, Bool, true, false, cond, List, [], ◌∷◌, ◌++◌, length, map, filter, lit<, refl, arith}
+use Rattle.std.proofs.Common.{◌≡◌, ℕ, ◌+◌, ◌^◌, ◌<◌, ◌≤◌, Bool, true, false, cond, List, [], ◌∷◌, ◌++◌, length, map, filter, lit<, refl, arith}
 use Rattle.std.specs.Prelude.{replicate, pos}
 use Rattle.std.specs.Int.{w64}
 use Rattle.std.specs.Int.RustNames.{FitsSigned}
@@ -15,7 +15,6 @@ use Rattle.control_file.specs.Writing.{checkpoint_bytes}
 use Rattle.control_file.specs.declared.checkpoint.Checkpoint.{Checkpoint}
 use Rattle.control_file.proofs.TableLemmas.{ascends_checkpoint}
 use Rattle.reset_plan.specs.NewSegment.{checkpoint_record}
-use Rattle.wal_records.specs.Place.{place_at}
 use Rattle.wal_records.specs.Sound.{IsSound}
 use Rattle.wal_records.specs.Writer.{NewRecord, begun, written}
 use Rattle.wal_records.proofs.StateLemmas.{begun_sound}

@@ -1,52 +1,38 @@
 -- The copy of a pair passes every check before a replay.
-use Rattle.std.proofs.Common.{◌≡◌, ℕ, pos, ◌+◌, ◌*◌, ◌<◌, ◌≤◌, ◌^◌, cond, nat_le, Bool, true, false, List, [], ◌∷◌, ◌++◌, Option, None, Some, Ok, codes, append_assoc, lit<, refl, ap, sym, ◌∙◌, subst, arith}
+use Rattle.std.proofs.Common.{◌≡◌, ℕ, pos, ◌+◌, ◌*◌, ◌<◌, ◌≤◌, ◌^◌, cond, nat_le, true, false, [], ◌∷◌, None, Some, Ok, codes, append_assoc, lit<, refl, ap, ◌∙◌, arith}
 use Rattle.std.proofs.lemmas.Bool.Decides.{nat_tests}
-use Rattle.std.proofs.lemmas.Int.{ints}
-use Rattle.std.specs.Int.{w64}
-use Rattle.std.specs.Int.RustNames.{FitsSigned}
-use Rattle.std.specs.List.{AllByRecursion}
 use Rattle.std.specs.Option.{option_map, option_map_or}
 use Rattle.backup_label.proofs.LabelLemmas.{label_read}
 use Rattle.backup_label.specs.Text.{places_of, label_text, start_file}
 use Rattle.backup_label.specs.declared.reading.LabelPlaces.{LabelPlaces}
 use Rattle.cluster_tree.specs.Causes.{first_of, given, unless}
 use Rattle.cluster_tree.specs.Contents.{Contents, FileEntry, entry_at}
-use Rattle.cluster_tree.specs.Marks.{marks_of}
 use Rattle.cluster_tree.specs.PathValue.{PathValue, below, kept_parts, path_of}
 use Rattle.cluster_tree.specs.Tree.{file_of}
 use Rattle.clusters.specs.Marks.{unfinished}
 use Rattle.clusters.specs.RootControl.{at_root, control_at, control_in}
 use Rattle.clusters.specs.RootHistory.{history_at, history_in, with_root}
 use Rattle.clusters.specs.RootLog.{log_at}
-use Rattle.clusters.specs.Roots.{history_name, history_path, path_in, wal_folder}
-use Rattle.control_file.proofs.TableLemmas.{fits_of_parts}
+use Rattle.clusters.specs.Roots.{history_name, history_path, path_in}
 use Rattle.control_file.proofs.WritingLemmas.{control_again}
-use Rattle.control_file.specs.Admission.{IsControl, control_of as read_control}
-use Rattle.control_file.specs.Rows.{build_rows, checkpoint_rows, head_rows, recovery_rows, rows_of, setting_rows}
+use Rattle.control_file.specs.Admission.{control_of as read_control}
 use Rattle.control_file.specs.Writing.{control_bytes}
 use Rattle.control_file.specs.declared.control.Control.{Control}
-use Rattle.layout.specs.Rows.{RowFits}
 use Rattle.pair_maker.proofs.ControlLemmas.{rewound-holds}
-use Rattle.pair_maker.specs.Clusters.{copy_entries}
-use Rattle.pair_maker.specs.Files.{control_of, control_with, history_bytes, pair_label, segment_bytes}
-use Rattle.pair_maker.specs.Logs.{common_place, last_checkpoint, last_place, made_at, megabyte, origin_of, records_of}
+use Rattle.pair_maker.specs.Files.{control_with, history_bytes, pair_label, segment_bytes}
+use Rattle.pair_maker.specs.Logs.{common_place, last_checkpoint, last_place, made_at, origin_of, records_of}
 use Rattle.pair_maker.specs.Pair.{PairStands}
 use Rattle.pair_maker.specs.declared.side.Side.TheVariants.{Source}
-use Rattle.replay_start.specs.Checked.{Start, checksums_on, from_control, from_label, in_log, label_at, label_in, log_with, no_hints, start_of, with_label, with_records}
+use Rattle.replay_start.specs.Checked.{checksums_on, from_control, from_label, in_log, label_at, label_in, log_with, no_hints, start_of, with_label, with_records}
 use Rattle.replay_start.specs.Faults.{of_cluster, told_by}
-use Rattle.replay_start.specs.Scanned.{log_refusal}
-use Rattle.replay_start.specs.declared.fault.ReplayFault.{ReplayFault}
 use Rattle.rewound_tree.specs.RewoundControl.{rewound_control}
 use Rattle.wal_base.specs.Hex.{hex_digits, is_long_name}
-use Rattle.wal_base.specs.SizeOfBytes.{size_of_bytes}
-use Rattle.wal_base.specs.Segment.{bytes_of, name_of}
+use Rattle.wal_base.specs.Segment.{name_of}
 use Rattle.wal_base.specs.Spans.{ended, open_span}
 use Rattle.wal_base.specs.declared.spans.Span.{Span}
 use Rattle.wal_pages.specs.LogBytes.{segment_of}
-use Rattle.wal_pages.specs.declared.log_path.LogPath.{LogPath}
 use Rattle.wal_records.specs.Further.{pages_of}
 use Rattle.wal_records.specs.Log.{Log, log_of}
-use Rattle.wal_records.specs.Reading.{LogRecord}
 use Rattle.wal_records.specs.Stored.{IsPathOf}
 use Rattle.wal_records.specs.Writer.{written}
 use Rattle.pair_laws.specs.Life.{side_records}

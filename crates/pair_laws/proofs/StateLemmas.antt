@@ -1,5 +1,5 @@
 -- The state of each block of a pair's clusters, as their files have it.
-use Rattle.std.proofs.Common.{◌≡◌, ◌⊎◌, inl, inr, ℕ, ◌+◌, ◌*◌, ◌/◌, ◌%◌, ◌==◌, ◌<◌, ◌≤◌, ◌^◌, Bool, true, false, cond, ◌&&◌, nat_lt, List, [], ◌∷◌, ◌++◌, length, take, drop, Option, None, Some, is_some, refl, sym, ap, ap₂, ◌∙◌, subst, true≢false, append_assoc, arith, eqb-true, IsTrue, if◌then◌else◌}
+use Rattle.std.proofs.Common.{◌≡◌, inl, inr, ℕ, ◌+◌, ◌*◌, ◌/◌, ◌%◌, ◌==◌, ◌<◌, ◌≤◌, ◌^◌, Bool, true, false, ◌&&◌, nat_lt, List, [], ◌∷◌, ◌++◌, length, take, drop, Option, None, Some, refl, sym, ap, ◌∙◌, true≢false, append_assoc, arith, eqb-true, if◌then◌else◌}
 use Rattle.std.proofs.lemmas.Bool.{and_parts}
 use Rattle.std.proofs.lemmas.Bool.Decides.{nat_tests}
 use Rattle.std.specs.List.{fold}
@@ -11,12 +11,10 @@ use Rattle.cluster_tree.specs.Contents.{Contents, Entry, FileEntry, FolderEntry,
 use Rattle.cluster_tree.specs.PathValue.{PathValue, below, path_of}
 use Rattle.cluster_tree.specs.Tree.{bytes_in}
 use Rattle.file_walk.specs.Laws.{IsMainFile, IsPlaced}
-use Rattle.file_walk.specs.Relations.{relation_of}
 use Rattle.file_walk.proofs.RelationLemmas.{relation_written}
 use Rattle.heap_tuples.proofs.HeapLemmas.{init_formed}
 use Rattle.page_layout.specs.Edits.{init_bytes}
 use Rattle.page_layout.specs.Lsn.{with_lsn}
-use Rattle.page_masks.specs.Law.{is_page}
 use Rattle.page_masks.proofs.LsnLemmas.{stamped_page}
 use Rattle.relation_files.specs.Names.{name_of}
 use Rattle.relation_files.specs.Paths.{folder_parts, relation_file}
@@ -31,7 +29,7 @@ use Rattle.pair_maker.specs.Files.{relation_bytes}
 use Rattle.pair_maker.specs.Inserts.{inserts_into, pair_relation}
 use Rattle.pair_maker.specs.Logs.{block_end, log_upto, origin_of, records_upto}
 use Rattle.pair_maker.specs.declared.side.Side.{Side}
-use Rattle.pair_laws.specs.Life.{if_there, page_of}
+use Rattle.pair_laws.specs.Life.{page_of}
 use Rattle.pair_laws.proofs.FileLemmas.{inserted-formed, page_of_side, relation-long, relation-page}
 use Rattle.pair_laws.proofs.GrewLemmas.{cluster-file, empty-block, none-if}
 use Rattle.pair_laws.proofs.PlannedLemmas.{IsCluster}
@@ -142,10 +140,10 @@ module _ (side : Side) (seed blocks : ℕ) (few : blocks ≤ 4096) (c : Contents
   past_end high =
       absent
       (λ its there.
-        let only = only_segment its there in
-        let zero = only.1 in
-        let size : length its / 8192 ≡ blocks = ap (λ (l : List ℕ). length l / 8192) only.2 ∙ (let l = long in omega (arith, l)) in
-        none-if (nat_lt place (length its / 8192)) (take 8192 (drop (place * 8192) its)) (past place (length its / 8192) (omega (arith, zero, size, high))))
+      let only = only_segment its there in
+      let zero = only.1 in
+      let size : length its / 8192 ≡ blocks = ap (λ (l : List ℕ). length l / 8192) only.2 ∙ (let l = long in omega (arith, l)) in
+      none-if (nat_lt place (length its / 8192)) (take 8192 (drop (place * 8192) its)) (past place (length its / 8192) (omega (arith, zero, size, high))))
 
   -- a block of the relation
   whole_at : (block n : ℕ) → block < n → length bytes / 8192 ≡ n → whole_block block bytes ≡ Some (take 8192 (drop (block * 8192) bytes))

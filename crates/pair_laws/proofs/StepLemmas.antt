@@ -1,5 +1,5 @@
 -- Records of a log, one after another: where each begins and ends, and that each is read by itself too.
-use Rattle.std.proofs.Common.{◌≡◌, ℕ, ◌+◌, ◌<◌, ◌≤◌, ◌^◌, List, [], ◌∷◌, ◌++◌, length, Option, None, Some, Ok, true, false, nat_lt, refl, sym, ap, ◌∙◌, arith}
+use Rattle.std.proofs.Common.{◌≡◌, ℕ, ◌+◌, ◌<◌, ◌≤◌, ◌^◌, List, [], ◌∷◌, length, None, Some, Ok, refl, sym, ap, ◌∙◌, arith}
 use Rattle.std.specs.List.{AllByRecursion, fold}
 use Rattle.cluster_tree.specs.Contents.{Contents}
 use Rattle.log_walk.specs.Needed.{needed, read_refusal}
@@ -11,8 +11,7 @@ use Rattle.wal_pages.specs.Folder.{Folder, folder_of}
 use Rattle.wal_pages.specs.Page.{page_at}
 use Rattle.wal_pages.specs.declared.log_path.LogPath.{LogPath}
 use Rattle.wal_records.specs.declared.why.Why.{Why}
-use Rattle.wal_records.specs.Again.{IsNew, log_records, new_log_record}
-use Rattle.wal_records.specs.Extent.{behind_of, end_of}
+use Rattle.wal_records.specs.Again.{IsNew, log_records}
 use Rattle.wal_records.specs.Header.{header_of}
 use Rattle.wal_records.specs.Log.{Log, log_from, log_step}
 use Rattle.wal_records.specs.Place.{place_at}
@@ -27,7 +26,7 @@ use Rattle.wal_records.proofs.LogLemmas.{log_next}
 use Rattle.wal_records.proofs.NextLemmas.{grown_end}
 use Rattle.wal_records.proofs.PlaceLemmas.{place_at_up}
 use Rattle.wal_records.proofs.ViewLemmas.{spells_both}
-use Rattle.pair_laws.proofs.RecordLemmas.{AllHaveNames, HasNames}
+use Rattle.pair_laws.proofs.RecordLemmas.{AllHaveNames}
 
 -- ---- ends rise
 

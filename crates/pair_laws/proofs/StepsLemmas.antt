@@ -1,8 +1,8 @@
 -- The steps of a log in which all records but one do nothing to a block.
-use Rattle.std.proofs.Common.{◌≡◌, ℕ, zero, suc, ◌+◌, ◌<◌, ◌≤◌, ◌^◌, List, [], ◌∷◌, ◌++◌, map, Option, None, Some, Ok, Err, refl, ap, ap₂, sym, ◌∙◌, subst, arith}
+use Rattle.std.proofs.Common.{◌≡◌, ℕ, zero, suc, ◌≤◌, List, [], ◌∷◌, ◌++◌, map, Option, Ok, refl, ap, ap₂, sym, subst, arith}
 use Rattle.std.specs.List.{AllByRecursion, fold}
 use Rattle.block_effects.specs.Lives.{AreSplit}
-use Rattle.block_refs.specs.Outcomes.{record_parts, start_of, told}
+use Rattle.block_refs.specs.Outcomes.{start_of, told}
 use Rattle.block_refs.specs.Parts.{PartsView, parts_of}
 use Rattle.block_refs.specs.declared.names.BlockName.{BlockName}
 use Rattle.page_masks.specs.Law.{PageView}
@@ -22,7 +22,7 @@ use Rattle.wal_records.proofs.NextLemmas.{grown_end}
 use Rattle.wal_records.proofs.PlaceLemmas.{place_at_up}
 use Rattle.pair_laws.proofs.EffectLemmas.{IsIdle, IsWhole}
 use Rattle.pair_laws.proofs.NearLemmas.{end-up}
-use Rattle.pair_laws.proofs.RecordLemmas.{given, given_in, new-given}
+use Rattle.pair_laws.proofs.RecordLemmas.{given_in, new-given}
 
 -- ---- one record
 

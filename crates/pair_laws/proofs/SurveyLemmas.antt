@@ -1,5 +1,5 @@
 -- What a survey of a pair finds: the two have parted where the common checkpoint ends.
-use Rattle.std.proofs.Common.{◌≡◌, ℕ, ◌<◌, ◌≤◌, ◌^◌, ◌==◌, List, Option, None, Some, Result, Ok, option_map, if◌then◌else◌, refl, sym, ap, ◌∙◌, arith}
+use Rattle.std.proofs.Common.{◌≡◌, ℕ, ◌<◌, ◌^◌, Ok, option_map, refl, ap, ◌∙◌, arith}
 use Rattle.cluster_tree.specs.Causes.{first_of, given as given_read, unless}
 use Rattle.cluster_tree.specs.Contents.{Contents}
 use Rattle.cluster_tree.specs.PathValue.{PathValue}
@@ -10,14 +10,13 @@ use Rattle.clusters.specs.RootLog.{log_at}
 use Rattle.control_file.specs.declared.control.Control.{Control}
 use Rattle.rewind_survey.specs.Faults.{of_cluster, told_by}
 use Rattle.rewind_survey.specs.Fitness.{no_hints, not_clean, other_sizes, systems_differ}
-use Rattle.rewind_survey.specs.Survey.{Parted, Parting, fork_in, from_controls, from_histories, in_log, survey_of, target_log, told_of}
+use Rattle.rewind_survey.specs.Survey.{Parted, fork_in, from_controls, from_histories, in_log, survey_of, target_log}
 use Rattle.timeline_history.specs.Ancestor.{divergence_of}
 use Rattle.wal_records.specs.Again.{log_records}
 use Rattle.wal_records.specs.Further.{pages_of}
-use Rattle.wal_records.specs.Reading.{LogRecord}
 use Rattle.wal_records.specs.Writer.{begun}
 use Rattle.pair_maker.specs.Files.{control_of}
-use Rattle.pair_maker.specs.Logs.{common_place, last_place, megabyte, origin_of, records_of}
+use Rattle.pair_maker.specs.Logs.{last_place, megabyte, origin_of, records_of}
 use Rattle.pair_maker.specs.declared.side.Side.TheVariants.{Target, Source}
 use Rattle.pair_laws.specs.Read.{IsRead}
 use Rattle.pair_laws.specs.Survey.{pair_fork, pair_parting}
@@ -48,7 +47,7 @@ module _ (root : PathValue) (seed blocks : ℕ) (c : Contents) (pair : HasPair r
   pub pair-names : AllHaveNames (log_records (begun (origin_of Target)) (records_of Target seed blocks)) (names_of_log Target seed blocks)
   pair-names =
       all-given (begun (origin_of Target)) (records_of Target seed blocks) (names_of_log Target seed blocks) read.each
-          (all-named Target seed blocks (let few = pair.few in omega (arith, few)) target_low)
+      (all-named Target seed blocks (let few = pair.few in omega (arith, few)) target_low)
 
   pub target-read : control_at c target ≡ Ok t
   target-read = target-control_at root seed blocks c pair.stands target_low

@@ -1,26 +1,23 @@
 -- The records of a pair's log pass what is asked of a log before it is replayed.
-use Rattle.std.proofs.Common.{◌≡◌, ℕ, ◌+◌, ◌<◌, ◌≤◌, ◌^◌, ◌&&◌, ◌||◌, Bool, true, false, cond, nat_eq, nat_lt, List, [], ◌∷◌, ◌++◌, Option, None, Some, Ok, Err, length, map, lit<, refl, ap, sym, ◌∙◌, subst, arith}
+use Rattle.std.proofs.Common.{◌≡◌, ℕ, ◌≤◌, ◌&&◌, ◌||◌, Bool, true, false, cond, nat_eq, nat_lt, List, [], ◌∷◌, ◌++◌, Option, None, Some, Ok, Err, map, refl, ap, ◌∙◌, arith}
 use Rattle.std.specs.List.{AllByRecursion, fold, list_any}
 use Rattle.std.specs.Option.{option_map, option_map_or}
 use Rattle.std.proofs.lemmas.Bool.Decides.{nat_tests}
 use Rattle.backup_label.specs.Text.{places_of}
 use Rattle.backup_label.specs.declared.reading.LabelPlaces.{LabelPlaces}
-use Rattle.block_refs.specs.Outcomes.{record_parts, start_of, told}
+use Rattle.block_refs.specs.Outcomes.{start_of, told}
 use Rattle.block_refs.specs.Parts.{PartsView}
 use Rattle.cluster_tree.specs.Causes.{first_of}
 use Rattle.cluster_tree.specs.PathValue.{PathValue}
 use Rattle.control_file.specs.declared.checkpoint.Checkpoint.{Checkpoint}
-use Rattle.control_file.specs.declared.control.Control.{Control}
 use Rattle.record_layouts.specs.Operation.{operation_of}
 use Rattle.record_layouts.specs.Xlog.{xlog_op_of}
 use Rattle.replay_control.specs.Said.{checkpoint_said}
 use Rattle.replay_laws.specs.Log.{split_of}
 use Rattle.replay_profile.specs.Profile as profile
 use Rattle.replay_profile.specs.Profile.{first_outside, judged, judged_by, outside}
-use Rattle.replay_profile.specs.declared.fault.ProfileFault.{ProfileFault}
 use Rattle.replay_start.specs.Faults.{of_profile}
 use Rattle.replay_start.specs.Scanned.{ends_too_soon, is_labelled, log_refusal, unlabelled}
-use Rattle.replay_start.specs.declared.fault.ReplayFault.{ReplayFault}
 use Rattle.replay_start.specs.declared.fault.ReplayFault.TheVariants as fault
 use Rattle.reset_plan.specs.NewSegment.{checkpoint_record}
 use Rattle.wal_base.specs.Segment.{bytes_of}

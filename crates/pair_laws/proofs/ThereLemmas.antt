@@ -1,5 +1,5 @@
 -- What holds of all that stands in the clusters of a pair.
-use Rattle.std.proofs.Common.{◌≡◌, ℕ, ◌+◌, ◌%◌, ◌==◌, ◌≤◌, Bool, true, false, not, ◌&&◌, nat_lt, List, [], ◌∷◌, ◌++◌, length, Option, None, Some, is_some, bytes_eq, codes, refl, sym, ap, ◌∙◌, eq-eqb, arith, lit≤, if◌then◌else◌}
+use Rattle.std.proofs.Common.{◌≡◌, ℕ, ◌+◌, ◌%◌, ◌==◌, ◌≤◌, Bool, true, false, not, ◌&&◌, nat_lt, List, [], ◌∷◌, ◌++◌, length, None, Some, is_some, bytes_eq, codes, refl, sym, ap, ◌∙◌, eq-eqb, arith, lit≤, if◌then◌else◌}
 use Rattle.std.proofs.lemmas.Bool.Decides.{nat_tests}
 use Rattle.std.specs.Cmp.Lexicographic.{pointwise}
 use Rattle.std.specs.List.{list_all, list_any}
@@ -282,29 +282,43 @@ module _ (seed blocks : ℕ) where
   common_hold : (side : Side) → AllNamed (Holds (relation_bytes side seed blocks)) (common_entries side seed blocks)
   common_hold side =
       let bytes = relation_bytes side seed blocks in
-      let whole = relation-whole side seed blocks in
-      (root_holds bytes whole, (base_holds bytes whole, (database_holds bytes whole, (global_holds bytes whole, (wal_holds bytes whole,
-      (version_holds bytes whole version_bytes, (database_version_holds bytes whole version_bytes, (relation_holds bytes whole, tt))))))))
+      let whole = relation-whole side seed blocks in (
+        root_holds bytes whole,
+        (
+          base_holds bytes whole,
+          (
+            database_holds bytes whole,
+            (
+              global_holds bytes whole,
+              (
+                wal_holds bytes whole,
+                (version_holds bytes whole version_bytes, (database_version_holds bytes whole version_bytes, (relation_holds bytes whole, tt))),
+              ),
+            ),
+          ),
+        ),
+      )
 
   pub target-hold : AllNamed (Holds (relation_bytes Target seed blocks)) (target_entries seed blocks)
   target-hold =
       let bytes = relation_bytes Target seed blocks in
       let whole = relation-whole Target seed blocks in
       all-append (Holds bytes) (common_entries Target seed blocks) (first_log (segment_bytes Target (records_of Target seed blocks)) ∷ control_entry (control_of Target seed blocks) ∷ []) (common_hold Target)
-          (first_log_holds bytes whole (segment_bytes Target (records_of Target seed blocks)), (control_holds bytes whole (control_bytes (control_of Target seed blocks)), tt))
+      (first_log_holds bytes whole (segment_bytes Target (records_of Target seed blocks)), (control_holds bytes whole (control_bytes (control_of Target seed blocks)), tt))
 
   pub shared-hold : AllNamed (Holds (relation_bytes Source seed blocks)) (shared_entries seed blocks)
   shared-hold =
       let bytes = relation_bytes Source seed blocks in
       let whole = relation-whole Source seed blocks in
-      all-append (Holds bytes) (common_entries Source seed blocks) (first_log (segment_bytes Target (checkpoint_record common_checkpoint ∷ [])) ∷ second_log (segment_bytes Source (records_of Source seed blocks))) (common_hold Source)
-          (first_log_holds bytes whole (segment_bytes Target (checkpoint_record common_checkpoint ∷ [])),
-          (history_holds bytes whole history_bytes, (second_log_holds bytes whole (segment_bytes Source (records_of Source seed blocks)), tt)))
+      all-append (Holds bytes) (common_entries Source seed blocks) (first_log (segment_bytes Target (checkpoint_record common_checkpoint ∷ [])) ∷ second_log (segment_bytes Source (records_of Source seed blocks))) (common_hold Source) (
+        first_log_holds bytes whole (segment_bytes Target (checkpoint_record common_checkpoint ∷ [])),
+        (history_holds bytes whole history_bytes, (second_log_holds bytes whole (segment_bytes Source (records_of Source seed blocks)), tt)),
+      )
 
   pub source-hold : AllNamed (Holds (relation_bytes Source seed blocks)) (source_entries seed blocks)
   source-hold =
       all-append (Holds (relation_bytes Source seed blocks)) (shared_entries seed blocks) (control_entry (control_of Source seed blocks) ∷ []) shared-hold
-          (control_holds (relation_bytes Source seed blocks) (relation-whole Source seed blocks) (control_bytes (control_of Source seed blocks)), tt)
+      (control_holds (relation_bytes Source seed blocks) (relation-whole Source seed blocks) (control_bytes (control_of Source seed blocks)), tt)
 
 -- ---- so no path below such a root is too deep, and nothing there has a flaw
 

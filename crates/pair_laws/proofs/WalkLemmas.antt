@@ -1,25 +1,21 @@
 -- What a survey finds in the log of a pair's target: its end, the common checkpoint, and the records from there on.
-use Rattle.std.proofs.Common.{◌≡◌, ◌≢◌, ℕ, ◌+◌, ◌%◌, ◌<◌, ◌≤◌, ◌^◌, max, List, [], ◌∷◌, ◌++◌, length, map, Option, None, Some, Result, Ok, Bool, true, false, ◌&&◌, nat_lt, nat_le, option_map, if◌then◌else◌, refl, sym, ap, ap₂, ◌∙◌, subst, arith, lit<, ◌==◌, eq-eqb, eqb-true, true≢false}
+use Rattle.std.proofs.Common.{◌≡◌, ℕ, ◌+◌, ◌%◌, ◌<◌, ◌≤◌, ◌^◌, max, List, [], ◌∷◌, ◌++◌, length, map, Option, None, Some, Ok, Bool, true, false, ◌&&◌, nat_lt, nat_le, option_map, if◌then◌else◌, refl, sym, ap, ap₂, ◌∙◌, subst, arith, lit<, ◌==◌, eq-eqb, eqb-true, true≢false}
 use Rattle.std.proofs.lemmas.Bool.Decides.{nat_tests}
-use Rattle.std.specs.List.{AllByRecursion, fold}
-use Rattle.block_refs.specs.Outcomes.{record_parts, start_of, told}
+use Rattle.block_refs.specs.Outcomes.{start_of, told}
 use Rattle.cluster_tree.specs.Causes.{given as given_read, unless}
 use Rattle.cluster_tree.specs.Contents.{Contents}
-use Rattle.control_file.specs.declared.control.Control.{Control}
-use Rattle.log_walk.specs.Back.{common_checkpoint as common_in, is_common}
+use Rattle.log_walk.specs.Back.{common_checkpoint as common_in}
 use Rattle.log_walk.specs.Chain.{IsCommonCheckpoint, LinksTo}
 use Rattle.log_walk.specs.Checkpoint.{checkpoint_in, checkpoint_or, is_checkpoint, parts_or}
 use Rattle.log_walk.specs.First.{at_lsn, end_of_target, first_record}
 use Rattle.log_walk.specs.Needed.{needed, read_refusal}
-use Rattle.log_walk.specs.declared.checkpoint.CommonCheckpoint.{CommonCheckpoint}
 use Rattle.log_walk.proofs.ChainLemmas.{is_found}
 use Rattle.rewind_survey.specs.Faults.{of_walk, walked}
-use Rattle.rewind_survey.specs.Survey.{AtFork, Parted, Parting, Survey, parted, past_fork, read_from, told_of, walked_back}
-use Rattle.rewind_survey.specs.declared.fault.RewindFault.{RewindFault}
+use Rattle.rewind_survey.specs.Survey.{AtFork, Parted, parted, past_fork, read_from, told_of, walked_back}
 use Rattle.timeline_history.specs.declared.ancestor.Divergence.{Divergence}
 use Rattle.wal_base.specs.Segment.{bytes_of}
 use Rattle.wal_pages.specs.declared.log_path.LogPath.{LogPath}
-use Rattle.wal_records.specs.Again.{IsNew, header_given, log_records, new_log_record}
+use Rattle.wal_records.specs.Again.{IsNew, log_records, new_log_record}
 use Rattle.wal_records.specs.Extent.{behind_of, end_of}
 use Rattle.wal_records.specs.Further.{Pages, further, further_in, pages_of}
 use Rattle.wal_records.specs.Log.{Log, log_from, log_of}
@@ -49,7 +45,7 @@ use Rattle.pair_maker.specs.Files.{control_of}
 use Rattle.pair_maker.specs.Inserts.{insert_blocks, insert_record}
 use Rattle.pair_maker.specs.Logs.{common_checkpoint, common_place, last_checkpoint, last_place, log_upto, megabyte, origin_of, records_of, records_upto}
 use Rattle.pair_maker.specs.declared.side.Side.{Side}
-use Rattle.pair_maker.specs.declared.side.Side.TheVariants.{Target, Source}
+use Rattle.pair_maker.specs.declared.side.Side.TheVariants.{Target}
 use Rattle.touched_blocks.specs.declared.named.Named.{Named}
 use Rattle.pair_laws.specs.Read.{IsRead}
 use Rattle.pair_laws.specs.Survey.{pair_checkpoint, pair_fork}
@@ -57,7 +53,7 @@ use Rattle.pair_laws.proofs.BodyLemmas.{checkpoint-parts, checkpoint-said, commo
 use Rattle.pair_laws.proofs.RecordLemmas.{AllHaveNames, given_in, new-given}
 use Rattle.pair_laws.proofs.RunLemmas.{new-back, new-front, run-origin}
 use Rattle.pair_laws.proofs.SmallLemmas.{checkpoint-long}
-use Rattle.pair_laws.proofs.StepLemmas.{IsBehind, all-end, all-needed, grows, last-behind, log-alone, read-alone, rises}
+use Rattle.pair_laws.proofs.StepLemmas.{IsBehind, all-end, all-needed, grows, last-behind, log-alone, rises}
 
 abbrev pub log_after : Side → List NewRecord → Written
 log_after side records = written (origin_of side) records
@@ -232,12 +228,12 @@ module _ (root : PathValue) (spans : List Span) (c : Contents) (seed blocks : �
   unfolding last_record
   last_read before is =
       subst (λ b. reading pages 0x10_0000 b (last_place Target seed blocks) ≡ Spelled (new_log_record (log_after Target front) last)) is
-          (subst (λ p. reading pages 0x10_0000 (log_after Target front).before p ≡ Spelled (new_log_record (log_after Target front) last)) last_is (read.spelled front last [] refl))
+      (subst (λ p. reading pages 0x10_0000 (log_after Target front).before p ≡ Spelled (new_log_record (log_after Target front) last)) last_is (read.spelled front last [] refl))
 
   last_from : (before : Option ℕ) → (log_after Target front).before ≡ before → log_from pages 0x10_0000 before (last_place Target seed blocks) ≡ rest_of (log_after Target front) (last ∷ [])
   last_from before is =
       subst (λ b. log_from pages 0x10_0000 b (last_place Target seed blocks) ≡ rest_of (log_after Target front) (last ∷ [])) is
-          (subst (λ p. log_from pages 0x10_0000 (log_after Target front).before p ≡ rest_of (log_after Target front) (last ∷ [])) last_is (read.from front (last ∷ []) refl))
+      (subst (λ p. log_from pages 0x10_0000 (log_after Target front).before p ≡ rest_of (log_after Target front) (last ∷ [])) last_is (read.from front (last ∷ []) refl))
 
   last_log : log_of pages 0x10_0000 (last_place Target seed blocks) ≡ rest_of (log_after Target front) (last ∷ [])
   last_log =
@@ -289,12 +285,12 @@ module _ (root : PathValue) (spans : List Span) (c : Contents) (seed blocks : �
   unfolding next
   next_read =
       subst (λ b. reading pages 0x10_0000 b 0x10_00A0 ≡ Spelled (new_log_record one split.first)) (common-before Target)
-          (subst (λ p. reading pages 0x10_0000 one.before p ≡ Spelled (new_log_record one split.first)) one_place (read.spelled (checkpoint_record common_checkpoint ∷ []) split.first split.rest all_is))
+      (subst (λ p. reading pages 0x10_0000 one.before p ≡ Spelled (new_log_record one split.first)) one_place (read.spelled (checkpoint_record common_checkpoint ∷ []) split.first split.rest all_is))
 
   next_from : log_from pages 0x10_0000 (Some common_place) 0x10_00A0 ≡ rest_of one (split.first ∷ split.rest)
   next_from =
       subst (λ b. log_from pages 0x10_0000 b 0x10_00A0 ≡ rest_of one (split.first ∷ split.rest)) (common-before Target)
-          (subst (λ p. log_from pages 0x10_0000 one.before p ≡ rest_of one (split.first ∷ split.rest)) one_place (read.from (checkpoint_record common_checkpoint ∷ []) (split.first ∷ split.rest) all_is))
+      (subst (λ p. log_from pages 0x10_0000 one.before p ≡ rest_of one (split.first ∷ split.rest)) one_place (read.from (checkpoint_record common_checkpoint ∷ []) (split.first ∷ split.rest) all_is))
 
   fork_log : log_of pages 0x10_0000 0x10_00A0 ≡ rest_of one (split.first ∷ split.rest)
   fork_log = log-alone c log common_place 0x10_00A0 next (lit< tt) (lit< tt) (lit< tt) next_read ∙ next_from

@@ -1,6 +1,6 @@
 -- A pair is what two clusters are to be for a rewind: they grew from one state, so that the rewound target follows its source. Own: "A pair from a
 -- number", "Clusters that grew from one state".
-use Rattle.std.specs.Prelude.{◌≡◌, ℕ, pos}
+use Rattle.std.specs.Prelude.{ℕ, pos}
 use Rattle.cluster_laws.specs.Replays.{BothEnd}
 use Rattle.cluster_tree.specs.Contents.{Contents}
 use Rattle.cluster_tree.specs.PathValue.{PathValue}

@@ -1,5 +1,5 @@
 -- The life of each block of a pair in the source's log: PostgreSQL 16, src/backend/access/heap/heapam.c, heap_xlog_insert. Own: "A pair from a number".
-use Rattle.std.specs.Prelude.{◌≡◌, ℕ, ◌≤◌, ◌<◌, ◌&&◌, List, map, Option, None, Some, nat_lt, if◌then◌else◌}
+use Rattle.std.specs.Prelude.{ℕ, ◌≤◌, ◌&&◌, List, map, Option, None, Some, nat_lt, if◌then◌else◌}
 use Rattle.block_effects.specs.Lives.{IsLife}
 use Rattle.block_refs.specs.declared.names.BlockName.{BlockName}
 use Rattle.page_masks.specs.Law.{view}
@@ -13,7 +13,6 @@ use Rattle.wal_records.specs.Again.{log_records}
 use Rattle.wal_records.specs.Reading.{LogRecord}
 use Rattle.wal_records.specs.Writer.{begun}
 use Rattle.pair_maker.specs.Blocks.{block_page}
-use Rattle.pair_maker.specs.Files.{relation_bytes}
 use Rattle.pair_maker.specs.Inserts.{pair_relation}
 use Rattle.pair_maker.specs.Logs.{block_end, common_place, origin_of, records_of}
 use Rattle.pair_maker.specs.declared.side.Side.{Side}

@@ -7,7 +7,7 @@ use Rattle.wal_pages.specs.LogBytes.{segment_of}
 use Rattle.wal_pages.specs.declared.log_path.LogPath.{LogPath}
 use Rattle.wal_records.specs.Again.{log_records, new_log_record}
 use Rattle.wal_records.specs.Further.{Pages, pages_of}
-use Rattle.wal_records.specs.Log.{Log, log_from}
+use Rattle.wal_records.specs.Log.{log_from}
 use Rattle.wal_records.specs.Place.{place_at}
 use Rattle.wal_records.specs.Reading.{Spelled, reading}
 use Rattle.wal_records.specs.Sound.{AllNew}

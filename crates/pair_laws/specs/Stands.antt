@@ -1,5 +1,5 @@
 -- Where the three clusters of a pair stand. Own: "A pair from a number".
-use Rattle.std.specs.Prelude.{◌≡◌, ℕ, ◌≤◌, true, List, [], ◌∷◌, codes, length}
+use Rattle.std.specs.Prelude.{◌≡◌, ℕ, ◌≤◌, true, [], ◌∷◌, codes, length}
 use Rattle.std.specs.List.{list_all}
 use Rattle.cluster_tree.specs.Contents.{Contents, IsTree}
 use Rattle.cluster_tree.specs.PathValue.{PathValue, below, is_part}
@@ -15,9 +15,8 @@ source_of root = below root (codes "s" ∷ [])
 abbrev pub copy_of : PathValue → PathValue
 copy_of root = below root (codes "c" ∷ [])
 
--- A pair of so many blocks stands below a root, in a tree of files of bytes, as every tree of files is; and the root leaves room.
+-- A pair of so many blocks, 4096 at most, stands below a root, in a tree of files of bytes, as every tree of files is; and the root leaves room.
 pub record HasPair (root : PathValue) (seed blocks : ℕ) (c : Contents) : Type 0 where
-  pub some : 1 ≤ blocks
   pub few : blocks ≤ 4096
   pub room : length root.parts ≤ 60
   pub proper : list_all is_part root.parts ≡ true
