@@ -16,9 +16,9 @@ use Rattle.pair_maker.specs.Files.{control_of, pair_label, relation_bytes}
 use Rattle.pair_maker.specs.Logs.{made_at}
 use Rattle.pair_maker.specs.Pair.{PairStands, last_named}
 use Rattle.pair_maker.specs.declared.side.Side.TheVariants.{Source}
-use Rattle.pair_laws.specs.Stands.{copy_of, source_of}
+use Rattle.pair_laws.specs.Stands.{CopyStands, source_of}
 use Rattle.pair_laws.specs.Survey.{pair_needing}
-use Rattle.pair_laws.proofs.NamedLemmas.{named-all, named-append, pair-at-c, pair-at-s}
+use Rattle.pair_laws.proofs.NamedLemmas.{named-all, named-append, pair-at-s}
 use Rattle.pair_laws.proofs.ThereLemmas.{Holds, shared-hold}
 
 -- ---- the tests of both paths
@@ -92,11 +92,12 @@ module _ (seed blocks : ℕ) (parts : List (List ℕ)) where
       none_or shared_at
       (λ e there. true≢false (sym out ∙ (named-all (Holds (relation_bytes Source seed blocks)) (shared_entries seed blocks) parts (shared-hold seed blocks) e there).kept))
 
-pub pair-copied : (root : PathValue) (seed blocks : ℕ) (c : Contents) → PairStands root seed blocks c → IsWholeCopy c (pair_needing root seed blocks c (pos made_at)) c (copy_of root)
+pub pair-copied : (root other : PathValue) (seed blocks : ℕ) (c d : Contents) → PairStands root seed blocks c → CopyStands other seed blocks d
+    → IsWholeCopy c (pair_needing root seed blocks c (pos made_at)) d other
 unfolding whole_copy
-pair-copied root seed blocks c stands parts =
-    pair-at-c root seed blocks c stands parts
+pair-copied root other seed blocks c d stands copy parts =
+    copy parts
     ∙ copy_at seed blocks parts
     ∙ copy_by (is_label parts) (is_control parts) (is_excluded (path_of false parts)) (Some (FileEntry (label_text pair_label)))
     (Some (FileEntry (control_bytes (rewound_control (control_of Source seed blocks) (pos made_at))))) (last_named None (shared_entries seed blocks) parts) (entry_at c (below (source_of root) parts))
-    (shared_kept seed blocks parts) (λ other. pair-at-s root seed blocks c stands parts ∙ source_at seed blocks parts other)
+    (shared_kept seed blocks parts) (λ mine. pair-at-s root seed blocks c stands parts ∙ source_at seed blocks parts mine)

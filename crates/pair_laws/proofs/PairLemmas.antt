@@ -1,12 +1,13 @@
 -- A pair has parted, its rewind is needed, and it grew from one state.
-use Rattle.std.proofs.Common.{◌≡◌, inl, ℕ, pos, ◌+◌, ◌<◌, ◌≤◌, max, Bool, true, false, ◌&&◌, nat_lt, List, [], ◌∷◌, length, None, Some, codes, refl, sym, ap, ◌∙◌, subst, true≢false, append_assoc, arith, if◌then◌else◌}
+use Rattle.std.proofs.Common.{◌≡◌, inl, ℕ, pos, ◌+◌, ◌<◌, ◌≤◌, max, Bool, true, false, ◌&&◌, nat_lt, List, [], ◌∷◌, ◌++◌, length, take, None, Some, codes, refl, sym, ap, ◌∙◌, subst, true≢false, append_assoc, arith, if◌then◌else◌}
 use Rattle.std.proofs.lemmas.Bool.Decides.{nat_tests}
-use Rattle.std.proofs.lemmas.List.{length-append}
+use Rattle.std.proofs.Math.Seq.{take-append_seam}
+use Rattle.std.proofs.lemmas.List.{append_cancel_left, length-append}
 use Rattle.std.specs.Fmt.{digits}
 use Rattle.block_refs.specs.declared.names.BlockName.{BlockName}
 use Rattle.block_refs.specs.declared.names.Fork.TheVariants.{Main}
 use Rattle.cluster_tree.specs.Contents.{Contents, FileEntry, entry_at}
-use Rattle.cluster_tree.specs.PathValue.{PathValue, below, kept_parts, path_of}
+use Rattle.cluster_tree.specs.PathValue.{Holds, PathValue, below, kept_parts, path_of}
 use Rattle.page_masks.specs.Law.{PageView, view}
 use Rattle.relation_files.specs.Names.{name_of}
 use Rattle.relation_files.specs.Paths.{folder_parts, relation_file}
@@ -24,9 +25,9 @@ use Rattle.pair_maker.specs.Files.{relation_bytes}
 use Rattle.pair_maker.specs.Inserts.{inserts_into, pair_relation}
 use Rattle.pair_maker.specs.Logs.{block_end, log_upto, made_at}
 use Rattle.pair_maker.specs.declared.side.Side.TheVariants.{Target, Source}
-use Rattle.pair_laws.specs.Grew.{PairsFollow, PairsGrewFromOneState, pair_rewind}
+use Rattle.pair_laws.specs.Grew.{CopyStays, PairsFollow, PairsGrewFromOneState, pair_rewind}
 use Rattle.pair_laws.specs.Life.{base_of, side_records}
-use Rattle.pair_laws.specs.Stands.{HasPair, copy_of, source_of, target_of}
+use Rattle.pair_laws.specs.Stands.{HasCopy, HasPair, PairHasCopy, copy_of, source_of, target_of}
 use Rattle.pair_laws.specs.Start.{copy_start}
 use Rattle.pair_laws.specs.Survey.{PairHasParted, PairIsNeeded}
 use Rattle.pair_laws.proofs.CopyLemmas.{pair-copied}
@@ -34,7 +35,7 @@ use Rattle.pair_laws.proofs.FileLemmas.{page_of_side, relation-long}
 use Rattle.pair_laws.proofs.GrewLemmas.{cluster-bounded, cluster-kinds, cluster-logged, cluster-no_gap}
 use Rattle.pair_laws.proofs.LifeLemmas.{pair-enough, pair-lives}
 use Rattle.pair_laws.proofs.LogLemmas.{target-log_read}
-use Rattle.pair_laws.proofs.NamedLemmas.{pair-at-s, pair-at-t}
+use Rattle.pair_laws.proofs.NamedLemmas.{pair-at-c, pair-at-s, pair-at-t}
 use Rattle.pair_laws.proofs.NamesLemmas.{names_of_log, unnamed-block}
 use Rattle.pair_laws.proofs.PlannedLemmas.{IsCluster, planned-found, source-cluster, target-cluster}
 use Rattle.pair_laws.proofs.RecordLemmas.{touches-named}
@@ -108,34 +109,60 @@ module _ (root : PathValue) (seed blocks : ℕ) (c : Contents) (pair : HasPair r
       subst (λ state. Fits (view name.block) (base_of blocks name) state (steps name (side_records Source seed blocks)))
       (sym (page-there Source seed blocks pair.few c (source_of root) source_is source_file name main)) (pair-lives seed blocks name pair.few main).1
 
-  grew_from : (name : BlockName) → IsMainBlock name → GrewFrom (base_of blocks name) c (pair_rewind root seed blocks c).aim.between (copy_start root seed blocks) name
-  grew_from name main = record { life = (pair-lives seed blocks name pair.few main).0; source = source_fits name main; target = λ some unwanted. target_matches name main unwanted }
+  grew_from : (other : PathValue) (name : BlockName) → IsMainBlock name → GrewFrom (base_of blocks name) c (pair_rewind root seed blocks c).aim.between (copy_start other seed blocks) name
+  grew_from other name main = record { life = (pair-lives seed blocks name pair.few main).0; source = source_fits name main; target = λ some unwanted. target_matches name main unwanted }
 
-  copy_room : length (copy_of root).parts ≤ 61
-  copy_room = let room = pair.room in omega (arith, room, length-append root.parts (codes "c" ∷ []))
+  pub own-copy : HasCopy root (copy_of root) seed blocks c
+  own-copy = record { room = omega (arith, length-append root.parts (codes "c" ∷ [])); tree = pair.tree; bytes = pair.bytes; stands = pair-at-c root seed blocks c pair.stands }
 
-  no_deeper : length (copy_of root).parts ≤ max (length (target_of root).parts) (length (source_of root).parts)
-  no_deeper = omega (arith, length-append root.parts (codes "c" ∷ []), length-append root.parts (codes "t" ∷ []), length-append root.parts (codes "s" ∷ []))
+  module _ (other : PathValue) (d : Contents) (copy : HasCopy root other seed blocks d) where
+    copy_room : length other.parts ≤ 61
+    copy_room = let room = pair.room in let near = copy.room in omega (arith, room, near)
 
-  pair_grew : GrewFromOneState (base_of blocks) c (pair_rewind root seed blocks c) c (copy_of root) (copy_start root seed blocks)
-  pair_grew =
-      let bytes = relation_bytes Source seed blocks in
-      let long = relation-long Source seed blocks in record {
-        log = record { tree = pair.tree; bytes = pair.bytes; starts = copy-starts root seed blocks c pair.few pair.stands; enough = pair-enough seed blocks pair.few };
-        files = record {
-          kinds = cluster-kinds c (source_of root) bytes blocks pair.few long source_is;
-          no_gap = λ rel fork rels. cluster-no_gap c (source_of root) bytes blocks pair.few long source_is rel fork rels;
-        };
-        room = record { room = target_is.room; other_room = copy_room; deep = inl no_deeper; bounded = cluster-bounded c (source_of root) bytes blocks pair.few long source_is };
-        logged = λ name main logged. grew_from name main;
-        unlogged = λ name main init. absurd (true≢false (sym init ∙ cluster-logged c (source_of root) bytes blocks pair.few long source_is name.rel main.block.rel.relation));
-      }
+    no_deeper : length other.parts ≤ max (length (target_of root).parts) (length (source_of root).parts)
+    no_deeper = let near = copy.room in omega (arith, near, length-append root.parts (codes "t" ∷ []), length-append root.parts (codes "s" ∷ []))
+
+    pub pair-grew : GrewFromOneState (base_of blocks) c (pair_rewind root seed blocks c) d other (copy_start other seed blocks)
+    pair-grew =
+        let bytes = relation_bytes Source seed blocks in
+        let long = relation-long Source seed blocks in record {
+          log = record { tree = copy.tree; bytes = copy.bytes; starts = copy-starts other seed blocks d pair.few copy.stands; enough = pair-enough seed blocks pair.few };
+          files = record {
+            kinds = cluster-kinds c (source_of root) bytes blocks pair.few long source_is;
+            no_gap = λ rel fork rels. cluster-no_gap c (source_of root) bytes blocks pair.few long source_is rel fork rels;
+          };
+          room = record { room = target_is.room; other_room = copy_room; deep = inl no_deeper; bounded = cluster-bounded c (source_of root) bytes blocks pair.few long source_is };
+          logged = λ name main logged. grew_from other name main;
+          unlogged = λ name main init. absurd (true≢false (sym init ∙ cluster-logged c (source_of root) bytes blocks pair.few long source_is name.rel main.block.rel.relation));
+        }
+
+pub pair-has_copy : PairHasCopy
+pair-has_copy root seed blocks c pair = own-copy root seed blocks c pair
+
+-- ---- a rewind of the target leaves the copy
+
+first_byte : List (List ℕ) → ℕ
+first_byte ((b ∷ bytes) ∷ rest) = b
+first_byte ([] ∷ rest) = 0
+first_byte [] = 0
+
+not_held : (root : PathValue) (parts : List (List ℕ)) → Holds (target_of root) (below (copy_of root) parts) → ⊥
+not_held root parts held =
+    let t = root.parts ++ codes "t" ∷ [] in
+    let c = root.parts ++ codes "c" ∷ [] in
+    let long : length t ≡ length c = omega (arith, length-append root.parts (codes "t" ∷ []), length-append root.parts (codes "c" ∷ [])) in
+    let same : c ≡ t = sym (take-append_seam c parts) ∙ ap (λ n. take n (c ++ parts)) (sym long) ∙ held.prefix in
+    let byte : 99 ≡ 116 = ap first_byte (append_cancel_left root.parts (codes "c" ∷ []) (codes "t" ∷ []) same) in
+    absurd (omega (arith, byte))
+
+pub copy-stays : CopyStays
+copy-stays root seed blocks c c' pair left parts = left.elsewhere (below (copy_of root) parts) (not_held root parts) ∙ pair-at-c root seed blocks c pair.stands parts
 
 pub pairs-grew : PairsGrewFromOneState
-pairs-grew root seed blocks c pair = record { copied = pair-copied root seed blocks c pair.stands; grew = pair_grew root seed blocks c pair }
+pairs-grew root other seed blocks c d pair copy = record { copied = pair-copied root other seed blocks c d pair.stands copy.stands; grew = pair-grew root seed blocks c pair other d copy }
 
 pub pairs-follow : PairsFollow
-pairs-follow root seed blocks c c' pair left =
-    let grown = pairs-grew root seed blocks c pair in
-    follows c c' (target_of root) (source_of root) (pos made_at) (pair_rewind root seed blocks c) (pair-needed root seed blocks c (pos made_at) pair) left (base_of blocks) c (copy_of root)
-    (copy_start root seed blocks) grown.copied grown.grew
+pairs-follow root other seed blocks c c' d pair copy left =
+    let grown = pairs-grew root other seed blocks c d pair copy in
+    follows c c' (target_of root) (source_of root) (pos made_at) (pair_rewind root seed blocks c) (pair-needed root seed blocks c (pos made_at) pair) left (base_of blocks) d other
+    (copy_start other seed blocks) grown.copied grown.grew

@@ -21,7 +21,6 @@ use Rattle.control_file.specs.declared.control.Control.{Control}
 use Rattle.pair_maker.proofs.ControlLemmas.{rewound-holds}
 use Rattle.pair_maker.specs.Files.{control_with, history_bytes, pair_label, segment_bytes}
 use Rattle.pair_maker.specs.Logs.{common_place, last_checkpoint, last_place, made_at, origin_of, records_of}
-use Rattle.pair_maker.specs.Pair.{PairStands}
 use Rattle.pair_maker.specs.declared.side.Side.TheVariants.{Source}
 use Rattle.replay_start.specs.Checked.{checksums_on, from_control, from_label, in_log, label_at, label_in, log_with, no_hints, start_of, with_label, with_records}
 use Rattle.replay_start.specs.Faults.{of_cluster, told_by}
@@ -37,11 +36,10 @@ use Rattle.wal_records.specs.Stored.{IsPathOf}
 use Rattle.wal_records.specs.Writer.{written}
 use Rattle.pair_laws.specs.Life.{side_records}
 use Rattle.pair_laws.specs.Read.{IsRead}
-use Rattle.pair_laws.specs.Stands.{copy_of}
+use Rattle.pair_laws.specs.Stands.{CopyStands}
 use Rattle.pair_laws.specs.Start.{CopyStarts, copy_control, copy_log, copy_spans, copy_start}
 use Rattle.pair_laws.proofs.ControlLemmas.{control-fits, size-is}
 use Rattle.pair_laws.proofs.HistoryLemmas.{history-read}
-use Rattle.pair_laws.proofs.NamedLemmas.{pair-at-c}
 use Rattle.pair_laws.proofs.ReadLemmas.{side-read}
 use Rattle.pair_laws.proofs.SmallLemmas.{last_low}
 use Rattle.pair_laws.proofs.TakenLemmas.{unrefused}
@@ -59,15 +57,15 @@ control-again place low = control_again (control_for place) (control-fits Source
 no-reach : (number : ℕ) → 1 ≤ number → nat_le (number * 0x10_0000 + 0x10_0000) 0x10_00A0 ≡ false
 no-reach number h = grind (arith, nat_tests, h)
 
-tli-from : (root : PathValue) (number : ℕ) → 1 ≤ number → (segment_of (copy_log root) number).tli ≡ 2
-tli-from root number h =
+tli-from : (other : PathValue) (number : ℕ) → 1 ≤ number → (segment_of (copy_log other) number).tli ≡ 2
+tli-from other number h =
     ap (λ b. option_map_or (λ (span : Span). span.tli) (cond b (Some (ended (record { 0 = 0x10_00A0 }) (open_span 1 (record { 0 = 0 })))) (Some (open_span 2 (record { 0 = 0x10_00A0 })))) 0) (no-reach number h)
 
-copy-path : (root : PathValue) → IsPathOf (copy_log root) (origin_of Source)
-copy-path root = record {
+copy-path : (other : PathValue) → IsPathOf (copy_log other) (origin_of Source)
+copy-path other = record {
   size = refl;
   timeline = lit< tt;
-  later = λ number from. omega (arith, tli-from root number (omega (arith, from)));
+  later = λ number from. omega (arith, tli-from other number (omega (arith, from)));
   system = λ wanted e. absurd (cc e);
 }
 
@@ -77,55 +75,55 @@ label-name = refl
 
 -- ---- what stands below the copy's root
 
-module _ (root : PathValue) (seed blocks : ℕ) (c : Contents) (few : blocks ≤ 4096) (stands : PairStands root seed blocks c) where
-  copy-finished : unfinished c (copy_of root) ≡ None
+module _ (other : PathValue) (seed blocks : ℕ) (c : Contents) (few : blocks ≤ 4096) (stands : CopyStands other seed blocks c) where
+  copy-finished : unfinished c other ≡ None
   unfolding unfinished
   copy-finished =
-      let one : entry_at c (below (copy_of root) (codes "pg_rewind.unfinished" ∷ [])) ≡ None = pair-at-c root seed blocks c stands (codes "pg_rewind.unfinished" ∷ []) in
-      let two : entry_at c (below (copy_of root) (codes "pg_walreplay.unfinished" ∷ [])) ≡ None = pair-at-c root seed blocks c stands (codes "pg_walreplay.unfinished" ∷ []) in
-      let three : entry_at c (below (copy_of root) (codes "pg_resetwal.unfinished" ∷ [])) ≡ None = pair-at-c root seed blocks c stands (codes "pg_resetwal.unfinished" ∷ []) in
+      let one : entry_at c (below other (codes "pg_rewind.unfinished" ∷ [])) ≡ None = stands (codes "pg_rewind.unfinished" ∷ []) in
+      let two : entry_at c (below other (codes "pg_walreplay.unfinished" ∷ [])) ≡ None = stands (codes "pg_walreplay.unfinished" ∷ []) in
+      let three : entry_at c (below other (codes "pg_resetwal.unfinished" ∷ [])) ≡ None = stands (codes "pg_resetwal.unfinished" ∷ []) in
       rw (one, two, three) refl
 
-  control-here : entry_at c (path_in (copy_of root) (codes "global/pg_control")) ≡ Some (FileEntry (control_bytes (copy_control seed blocks)))
+  control-here : entry_at c (path_in other (codes "global/pg_control")) ≡ Some (FileEntry (control_bytes (copy_control seed blocks)))
   unfolding path_in
-  control-here = pair-at-c root seed blocks c stands (kept_parts (codes "global/pg_control"))
+  control-here = stands (kept_parts (codes "global/pg_control"))
 
-  control-said : control_at c (copy_of root) ≡ Ok (copy_control seed blocks)
+  control-said : control_at c other ≡ Ok (copy_control seed blocks)
   unfolding control_at
   control-said =
-      ap (λ o. control_in (copy_of root) (file_of o)) control-here
-      ∙ ap (λ r. at_root (copy_of root) r) (control-again (last_place Source seed blocks) (last_low Source seed blocks few))
+      ap (λ o. control_in other (file_of o)) control-here
+      ∙ ap (λ r. at_root other r) (control-again (last_place Source seed blocks) (last_low Source seed blocks few))
 
-  label-here : entry_at c (below (copy_of root) (codes "backup_label" ∷ [])) ≡ Some (FileEntry (label_text pair_label))
-  label-here = pair-at-c root seed blocks c stands (codes "backup_label" ∷ [])
+  label-here : entry_at c (below other (codes "backup_label" ∷ [])) ≡ Some (FileEntry (label_text pair_label))
+  label-here = stands (codes "backup_label" ∷ [])
 
-  label-said : label_at c (copy_of root) ≡ Ok (places_of pair_label)
+  label-said : label_at c other ≡ Ok (places_of pair_label)
   unfolding label_at
   label-said =
-      ap (λ o. label_in (copy_of root) (file_of o)) label-here
-      ∙ ap (with_label (copy_of root)) (label_read pair_label (lit< tt) (lit< tt) label-name)
+      ap (λ o. label_in other (file_of o)) label-here
+      ∙ ap (with_label other) (label_read pair_label (lit< tt) (lit< tt) label-name)
 
-  history-here : entry_at c (history_path (copy_of root) 2) ≡ Some (FileEntry history_bytes)
+  history-here : entry_at c (history_path other 2) ≡ Some (FileEntry history_bytes)
   unfolding history_name hex_digits
   history-here =
-      ap (λ l. entry_at c (path_of root.absolute l)) (append_assoc (copy_of root).parts (codes "pg_wal" ∷ []) (history_name 2 ∷ []))
-      ∙ pair-at-c root seed blocks c stands (kept_parts (codes "pg_wal/00000002.history"))
+      ap (λ l. entry_at c (path_of other.absolute l)) (append_assoc other.parts (codes "pg_wal" ∷ []) (history_name 2 ∷ []))
+      ∙ stands (kept_parts (codes "pg_wal/00000002.history"))
 
-  history-said : history_at c (copy_of root) 2 ≡ Ok copy_spans
+  history-said : history_at c other 2 ≡ Ok copy_spans
   unfolding history_at
-  history-said = ap (λ o. history_in (copy_of root) 2 (file_of o)) history-here ∙ ap (λ r. with_root (copy_of root) 2 r) history-read
+  history-said = ap (λ o. history_in other 2 (file_of o)) history-here ∙ ap (λ r. with_root other 2 r) history-read
 
-  segment-here : entry_at c (below (copy_log root).folder (name_of (segment_of (copy_log root) 1) ∷ [])) ≡ Some (FileEntry (segment_bytes Source (records_of Source seed blocks)))
+  segment-here : entry_at c (below (copy_log other).folder (name_of (segment_of (copy_log other) 1) ∷ [])) ≡ Some (FileEntry (segment_bytes Source (records_of Source seed blocks)))
   unfolding hex_digits
   segment-here =
-      ap (λ l. entry_at c (path_of root.absolute l)) (append_assoc (copy_of root).parts (codes "pg_wal" ∷ []) (name_of (segment_of (copy_log root) 1) ∷ []))
-      ∙ pair-at-c root seed blocks c stands (kept_parts (codes "pg_wal/000000020000000000000001"))
+      ap (λ l. entry_at c (path_of other.absolute l)) (append_assoc other.parts (codes "pg_wal" ∷ []) (name_of (segment_of (copy_log other) 1) ∷ []))
+      ∙ stands (kept_parts (codes "pg_wal/000000020000000000000001"))
 
   -- the copy's log is the source's
-  pub copy-read : IsRead (pages_of (copy_log root) c) Source (records_of Source seed blocks)
-  copy-read = side-read (copy_log root) c Source seed blocks few (copy-path root) segment-here
+  pub copy-read : IsRead (pages_of (copy_log other) c) Source (records_of Source seed blocks)
+  copy-read = side-read (copy_log other) c Source seed blocks few (copy-path other) segment-here
 
-  all-read : (log_of (pages_of (copy_log root) c) 0x10_0000 common_place).records ≡ side_records Source seed blocks
+  all-read : (log_of (pages_of (copy_log other) c) 0x10_0000 common_place).records ≡ side_records Source seed blocks
   unfolding written
   all-read = ap (λ (l : Log). l.records) (copy-read.from [] (records_of Source seed blocks) refl)
 
@@ -137,28 +135,28 @@ module _ (root : PathValue) (seed blocks : ℕ) (c : Contents) (few : blocks ≤
   abbrev label : LabelPlaces
   label = places_of pair_label
 
-  log-passes : with_records (copy_of root) control label (copy_log root) (log_of (pages_of (copy_log root) c) 0x10_0000 common_place).records ≡ Ok (copy_start root seed blocks)
+  log-passes : with_records other control label (copy_log other) (log_of (pages_of (copy_log other) c) 0x10_0000 common_place).records ≡ Ok (copy_start other seed blocks)
   log-passes =
-      ap (with_records (copy_of root) control label (copy_log root)) all-read
-      ∙ ap (λ o. unless o (Ok (copy_start root seed blocks))) (unrefused (copy_of root) seed blocks few)
+      ap (with_records other control label (copy_log other)) all-read
+      ∙ ap (λ o. unless o (Ok (copy_start other seed blocks))) (unrefused other seed blocks few)
 
-  label-passes : from_label c (copy_of root) control label ≡ Ok (copy_start root seed blocks)
+  label-passes : from_label c other control label ≡ Ok (copy_start other seed blocks)
   unfolding from_label
   label-passes =
-      ap (λ h. given (told_by h) (λ spans. in_log c (copy_of root) control label (log_with (copy_of root) control spans))) history-said
-      ∙ ap (λ size. in_log c (copy_of root) control label (option_map (log_at (copy_of root) copy_spans) size)) size-is
+      ap (λ h. given (told_by h) (λ spans. in_log c other control label (log_with other control spans))) history-said
+      ∙ ap (λ size. in_log c other control label (option_map (log_at other copy_spans) size)) size-is
       ∙ log-passes
 
-  control-passes : from_control c (copy_of root) control ≡ Ok (copy_start root seed blocks)
+  control-passes : from_control c other control ≡ Ok (copy_start other seed blocks)
   unfolding from_control checksums_on no_hints first_of
-  control-passes = ap (λ l. given l (from_label c (copy_of root) control)) label-said ∙ label-passes
+  control-passes = ap (λ l. given l (from_label c other control)) label-said ∙ label-passes
 
-  copy-passes : start_of c (copy_of root) ≡ Ok (copy_start root seed blocks)
+  copy-passes : start_of c other ≡ Ok (copy_start other seed blocks)
   unfolding start_of
   copy-passes =
-      ap (λ o. unless (option_map of_cluster o) (given (told_by (control_at c (copy_of root))) (from_control c (copy_of root)))) copy-finished
-      ∙ ap (λ r. given (told_by r) (from_control c (copy_of root))) control-said
+      ap (λ o. unless (option_map of_cluster o) (given (told_by (control_at c other)) (from_control c other))) copy-finished
+      ∙ ap (λ r. given (told_by r) (from_control c other)) control-said
       ∙ control-passes
 
 pub copy-starts : CopyStarts
-copy-starts root seed blocks c few stands = copy-passes root seed blocks c few stands
+copy-starts other seed blocks c few stands = copy-passes other seed blocks c few stands

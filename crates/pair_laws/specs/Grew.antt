@@ -10,7 +10,7 @@ use Rattle.rewound_laws.specs.Copy.{IsWholeCopy}
 use Rattle.rewound_laws.specs.Grew.{GrewFromOneState}
 use Rattle.pair_maker.specs.Logs.{made_at}
 use Rattle.pair_laws.specs.Life.{base_of}
-use Rattle.pair_laws.specs.Stands.{HasPair, copy_of, target_of}
+use Rattle.pair_laws.specs.Stands.{CopyStands, HasCopy, HasPair, copy_of, target_of}
 use Rattle.pair_laws.specs.Start.{copy_start}
 use Rattle.pair_laws.specs.Survey.{pair_needing}
 
@@ -18,15 +18,20 @@ use Rattle.pair_laws.specs.Survey.{pair_needing}
 abbrev pub pair_rewind : PathValue → (seed blocks : ℕ) → Contents → Needing
 pair_rewind root seed blocks c = pair_needing root seed blocks c (pos made_at)
 
--- The copy of a pair is a whole copy of its source; and target and source grew from one state, in which each block of their relation is empty.
-pub record IsGrown (root : PathValue) (seed blocks : ℕ) (c : Contents) : Type 0 where
-  pub copied : IsWholeCopy c (pair_rewind root seed blocks c) c (copy_of root)
-  pub grew : GrewFromOneState (base_of blocks) c (pair_rewind root seed blocks c) c (copy_of root) (copy_start root seed blocks)
+-- it leaves the pair's copy as it is
+abbrev pub CopyStays : Type 0
+CopyStays = (root : PathValue) (seed blocks : ℕ) (c c' : Contents) → HasPair root seed blocks c → IsRewound c (pair_rewind root seed blocks c) c' → CopyStands (copy_of root) seed blocks c'
+
+-- The copy of a pair is a whole copy of its source; and target and source grew from one state, in which each block of their relation is empty. The
+-- copy may stand at another root, in other contents, as one that is replayed behind a rewind does.
+pub record IsGrown (root : PathValue) (seed blocks : ℕ) (c d : Contents) (other : PathValue) : Type 0 where
+  pub copied : IsWholeCopy c (pair_rewind root seed blocks c) d other
+  pub grew : GrewFromOneState (base_of blocks) c (pair_rewind root seed blocks c) d other (copy_start other seed blocks)
 
 abbrev pub PairsGrewFromOneState : Type 0
-PairsGrewFromOneState = (root : PathValue) (seed blocks : ℕ) (c : Contents) → HasPair root seed blocks c → IsGrown root seed blocks c
+PairsGrewFromOneState = (root other : PathValue) (seed blocks : ℕ) (c d : Contents) → HasPair root seed blocks c → HasCopy root other seed blocks d → IsGrown root seed blocks c d other
 
--- So once its target is rewound, replay of the source's log ends below the copy and below the target, and leaves the same cluster.
+-- So once the target of a pair is rewound, replay of the source's log ends below the copy and below the target, and leaves the same cluster.
 abbrev pub PairsFollow : Type 0
-PairsFollow = (root : PathValue) (seed blocks : ℕ) (c c' : Contents) → HasPair root seed blocks c → IsRewound c (pair_rewind root seed blocks c) c'
-    → BothEnd c (copy_of root) c' (target_of root) (copy_start root seed blocks)
+PairsFollow = (root other : PathValue) (seed blocks : ℕ) (c c' d : Contents) → HasPair root seed blocks c → HasCopy root other seed blocks d
+    → IsRewound c (pair_rewind root seed blocks c) c' → BothEnd d other c' (target_of root) (copy_start other seed blocks)

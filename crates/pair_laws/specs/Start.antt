@@ -12,10 +12,9 @@ use Rattle.wal_base.specs.declared.spans.Span.{Span}
 use Rattle.wal_pages.specs.declared.log_path.LogPath.{LogPath}
 use Rattle.pair_maker.specs.Files.{control_of, pair_label}
 use Rattle.pair_maker.specs.Logs.{made_at, megabyte}
-use Rattle.pair_maker.specs.Pair.{PairStands}
 use Rattle.pair_maker.specs.declared.side.Side.TheVariants.{Source}
 use Rattle.pair_laws.specs.Life.{side_records}
-use Rattle.pair_laws.specs.Stands.{copy_of}
+use Rattle.pair_laws.specs.Stands.{CopyStands}
 
 -- the copy's control file: the source's, in archive recovery
 abbrev pub copy_control : (seed blocks : ℕ) → Control
@@ -26,17 +25,17 @@ abbrev pub copy_spans : List Span
 copy_spans = ended (record { 0 = 0x10_00A0 }) (open_span 1 (record { 0 = 0 })) ∷ open_span 2 (record { 0 = 0x10_00A0 }) ∷ []
 
 abbrev pub copy_log : PathValue → LogPath
-copy_log root = log_at (copy_of root) copy_spans megabyte
+copy_log other = log_at other copy_spans megabyte
 
 -- the source's whole log, from the common checkpoint on
 abbrev pub copy_start : PathValue → (seed blocks : ℕ) → Start
-copy_start root seed blocks = record {
+copy_start other seed blocks = record {
   control = copy_control seed blocks;
   label = places_of pair_label;
-  log = copy_log root;
+  log = copy_log other;
   records = side_records Source seed blocks;
 }
 
--- the copy of a pair passes every check before a replay
+-- the copy of a pair, wherever it stands, passes every check before a replay
 abbrev pub CopyStarts : Type 0
-CopyStarts = (root : PathValue) (seed blocks : ℕ) (c : Contents) → blocks ≤ 4096 → PairStands root seed blocks c → start_of c (copy_of root) ≡ Ok (copy_start root seed blocks)
+CopyStarts = (other : PathValue) (seed blocks : ℕ) (d : Contents) → blocks ≤ 4096 → CopyStands other seed blocks d → start_of d other ≡ Ok (copy_start other seed blocks)

@@ -8,7 +8,7 @@ mod read;
 mod start;
 mod survey;
 
-pub use grew::{pairs_follow, pairs_grew_from_one_state};
+pub use grew::{copy_stays, pair_has_copy, pairs_follow, pairs_grew_from_one_state};
 pub use life::{pair_lives, pair_says_enough};
 pub use read::pair_logs_are_read;
 pub use start::copy_starts;
