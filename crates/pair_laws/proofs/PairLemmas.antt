@@ -141,7 +141,7 @@ pair-has_copy root seed blocks c pair = own-copy root seed blocks c pair
 
 -- ---- a rewind of the target leaves the copy
 
-first_byte : List (List ℕ) → ℕ
+abbrev first_byte : List (List ℕ) → ℕ
 first_byte ((b ∷ bytes) ∷ rest) = b
 first_byte ([] ∷ rest) = 0
 first_byte [] = 0
