@@ -1,7 +1,8 @@
 -- What stands below a root once the entries of a pair were made, and that none of them is refused.
-use Rattle.std.proofs.Common.{◌≡◌, ◌≢◌, ◌⊎◌, inl, inr, ℕ, suc, ◌+◌, ◌-◌, ◌<◌, Bool, true, false, not, ◌&&◌, ◌||◌, cond, List, [], ◌∷◌, ◌++◌, length, map, take, Option, None, Some, is_some, refl, ap, sym, ◌∙◌, subst, arith, true≢false, append_assoc, codes, bytes_eq, zero-add}
+use Rattle.std.proofs.Common.{◌≡◌, ◌≢◌, ◌⊎◌, inl, inr, ℕ, ◌+◌, ◌-◌, ◌<◌, Bool, true, false, not, ◌&&◌, ◌||◌, cond, List, [], ◌∷◌, ◌++◌, length, map, take, Option, None, Some, is_some, refl, ap, sym, ◌∙◌, subst, arith, true≢false, append_assoc, codes, bytes_eq}
 use Rattle.std.proofs.lemmas.Bool.{and_parts}
 use Rattle.std.proofs.lemmas.List.{append-nil, append_cancel_left, length-append}
+use Rattle.std.proofs.Math.Seq.{take-append-add}
 use Rattle.std.proofs.lemmas.Slice.Eq.{bytes_eq-Decides, slice_eq-Decides}
 use Rattle.std.specs.Bool.{Decides}
 use Rattle.std.specs.Cmp.Lexicographic.{pointwise}
@@ -29,12 +30,6 @@ same_parts a b = slice_eq-Decides bytes_eq-Decides a b (pointwise bytes_eq a b) 
 below-same : (root : PathValue) (a b : List (List ℕ)) → below root a ≡ below root b → a ≡ b
 below-same root a b e = append_cancel_left root.parts a b (ap (λ (p : PathValue). p.parts) e)
 
-take-past : (xs ys : List (List ℕ)) (k : ℕ) → take (length xs + k) (xs ++ ys) ≡ xs ++ take k ys
-take-past [] ys k = ap (λ n. take n ys) (zero-add k)
-take-past (x ∷ xs) ys k =
-    let e : suc (length xs) + k ≡ suc (length xs + k) = omega arith in
-    ap (λ n. take n (x ∷ (xs ++ ys))) e ∙ ap (λ l. x ∷ l) (take-past xs ys k)
-
 front_parts : List (List ℕ) → List (List ℕ)
 front_parts parts = take (length parts - 1) parts
 
@@ -42,7 +37,7 @@ parent-in : (root : PathValue) (parts : List (List ℕ)) → 0 < length parts �
 unfolding front_parts
 parent-in root parts some =
     let e : length (root.parts ++ parts) - 1 ≡ length root.parts + (length parts - 1) = omega (arith, some, length-append root.parts parts) in
-    ap (λ l. path_of root.absolute l) (ap (λ n. take n (root.parts ++ parts)) e ∙ take-past root.parts parts (length parts - 1))
+    ap (λ l. path_of root.absolute l) (ap (λ n. take n (root.parts ++ parts)) e ∙ take-append-add root.parts parts (length parts - 1))
 
 in_pair-some : (parts : List (List ℕ)) → is_in_pair parts ≡ true → 0 < length parts
 in_pair-some [] h = absurd (true≢false (sym h))
