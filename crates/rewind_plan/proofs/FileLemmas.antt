@@ -17,7 +17,7 @@ use Rattle.rewind_writes.specs.declared.step.Step.TheVariants.{Cut, Whole}
 use Rattle.rewind_plan.specs.Blocks.{block_steps, is_copied, onto_runs, range_step, runs_of}
 use Rattle.rewind_plan.specs.declared.runs.Run.{Run}
 use Rattle.rewind_plan.proofs.Jobs.{AllFit, is_own}
-use Rattle.rewind_plan.proofs.ItemLemmas.{all_folders}
+use Rattle.rewind_plan.proofs.FileItems.{all_folders}
 
 -- ---- a write
 

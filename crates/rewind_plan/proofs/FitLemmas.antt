@@ -18,7 +18,8 @@ use Rattle.block_refs.specs.declared.names.RelName.{RelName}
 use Rattle.cluster_tree.specs.Change.{Change}
 use Rattle.rewind_writes.specs.Steps.{steps_changes}
 use Rattle.rewind_plan.specs.Planned.{Between, action_of, both_files, file_steps, in_target, touched_steps}
-use Rattle.rewind_plan.proofs.ItemLemmas.{Apart, Doing, Item, here, is_clearing, is_filling, is_making}
+use Rattle.rewind_plan.proofs.Items.{Apart, Doing, Item, here, is_clearing, is_making}
+use Rattle.rewind_plan.proofs.FileItems.{is_filling}
 use Rattle.rewind_plan.proofs.PairLemmas.{doing_by, filling, items_of}
 use Rattle.rewind_plan.proofs.SideLemmas.{at-below, path-is}
 use Rattle.rewind_plan.specs.Sides.{AllPaired, AreInTurn, IsPaired, is_at}

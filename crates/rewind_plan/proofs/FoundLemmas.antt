@@ -34,7 +34,8 @@ use Rattle.rewind_plan.specs.Planned.{Between, action_of, all_file_steps, both_f
 use Rattle.rewind_plan.specs.Sides.{AllPaired, IsKind, IsPaired, Sides, control_parts, label_parts, mark_parts}
 use Rattle.rewind_plan.proofs.BytesLemmas.{runs_end}
 use Rattle.rewind_plan.proofs.FinalLemmas.{changes-are, jobs, text}
-use Rattle.rewind_plan.proofs.ItemLemmas.{Clears, Doing, Fills, Leaves, Makes, all_jobs, file_of, files, folder_of, folders, removal_of, removals}
+use Rattle.rewind_plan.proofs.Items.{Clears, Doing, Fills, Leaves, Makes, file_of, files, folder_of, folders, removal_of, removals}
+use Rattle.rewind_plan.proofs.ItemLemmas.{all_jobs}
 use Rattle.rewind_plan.proofs.JobLemmas.{owns-off}
 use Rattle.rewind_plan.proofs.PairLemmas.{doing_by, items_of}
 use Rattle.rewind_plan.proofs.PlanFit.{control_job, end_job, label_job, plan-fits}

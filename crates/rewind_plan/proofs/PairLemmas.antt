@@ -12,7 +12,8 @@ use Rattle.rewind_writes.specs.declared.step.Step.{Step}
 use Rattle.rewind_plan.proofs.Jobs.{changes_in}
 use Rattle.rewind_plan.specs.Planned.{Between, action_of, all_file_steps, file_steps, folder_step, folder_steps, in_target, removal_step, removal_steps, steps_of}
 use Rattle.rewind_plan.proofs.JobLemmas.{changes-both}
-use Rattle.rewind_plan.proofs.ItemLemmas.{Clears, Doing, Fills, Item, Leaves, Makes, all_jobs, file_of, files, folder_of, folders, removal_of, removals}
+use Rattle.rewind_plan.proofs.Items.{Clears, Doing, Fills, Item, Leaves, Makes, file_of, files, folder_of, folders, removal_of, removals}
+use Rattle.rewind_plan.proofs.ItemLemmas.{all_jobs}
 
 -- what a file's changes do, or nothing where there are none
 abbrev pub filling : List Change → Doing

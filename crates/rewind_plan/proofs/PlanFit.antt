@@ -24,10 +24,13 @@ use Rattle.rewind_plan.specs.Planned.{Between, in_source, in_target, touched_ste
 use Rattle.rewind_plan.specs.Sides.{AllPaired, IsPaired, Sides, control_parts, label_parts, mark_parts}
 use Rattle.rewind_plan.proofs.FileLemmas.{within}
 use Rattle.rewind_plan.proofs.FitLemmas.{at_parts, doing_of, excluded-absent, excluded-goes, here_items, kept-stays}
-use Rattle.rewind_plan.proofs.ItemLemmas.{Item, ItemsFit, all_jobs, here, after-same, items-fit, items-leave, jobs-same, left_at, leaves_of}
+use Rattle.rewind_plan.proofs.Items.{Item, here}
+use Rattle.rewind_plan.proofs.FolderItems.{after-same, jobs-same}
+use Rattle.rewind_plan.proofs.ItemLemmas.{ItemsFit, all_jobs, items-fit, items-leave, left_at, leaves_of}
 use Rattle.rewind_plan.proofs.JobLemmas.{after-both, fit-both}
 use Rattle.rewind_plan.proofs.PairLemmas.{doing_by, filling, item_of, items_of}
-use Rattle.rewind_plan.proofs.PlaceLemmas.{deep_in, front-of, kind_none, none_kind, or_first, parent-front, path_at}
+use Rattle.rewind_plan.proofs.KindLemmas.{deep_in, kind_none, none_kind, or_first}
+use Rattle.rewind_plan.proofs.PlaceLemmas.{front-of, parent-front, path_at}
 use Rattle.rewind_plan.proofs.SideLemmas.{above-folder, below-same, child-is, parent-of}
 use Rattle.rewind_plan.proofs.SidesFit.{sides-fit, source_up, target_up}
 use Rattle.rewind_plan.proofs.WholeLemmas.{AllOff, IsOff, fit-beside, left-alone, left-beside}

@@ -17,10 +17,13 @@ use Rattle.rewind_plan.specs.Planned.{Between, action_of, both_files, file_steps
 use Rattle.rewind_plan.specs.Sides.{AllPaired, IsKind, IsPaired, IsWhole, Sides}
 use Rattle.rewind_plan.proofs.FileLemmas.{blocks-fit, blocks-own, whole-fits, whole-own}
 use Rattle.rewind_plan.proofs.FitLemmas.{Acts, FileKinds, acts, doing_of, fills_kinds, items-apart, new_ruled}
-use Rattle.rewind_plan.proofs.ItemLemmas.{Clears, Doing, FileFits, Filled, FilesFit, Fills, Item, ItemsFit, Leaves, Makes, all_folders, all_jobs, fills_at, is_filling, is_making, items-fit, items-leave, left_at, makes_at}
+use Rattle.rewind_plan.proofs.Items.{Clears, Doing, Fills, Item, Leaves, Makes, is_making, makes_at}
+use Rattle.rewind_plan.proofs.FileItems.{FileFits, Filled, FilesFit, all_folders, fills_at, is_filling}
+use Rattle.rewind_plan.proofs.ItemLemmas.{ItemsFit, all_jobs, items-fit, items-leave, left_at}
 use Rattle.rewind_plan.proofs.JobLemmas.{jobs-leave, jobs-unrefused}
 use Rattle.rewind_plan.proofs.PairLemmas.{doing_by, filling, items_of, steps-are}
-use Rattle.rewind_plan.proofs.PlaceLemmas.{deep_in, front-of, kind_none, kind_there, own-doing, parent-front, sides-folders, sides-removals, up-stands, up-unfilled, whole-path}
+use Rattle.rewind_plan.proofs.KindLemmas.{deep_in, kind_none, kind_there}
+use Rattle.rewind_plan.proofs.PlaceLemmas.{front-of, own-doing, parent-front, sides-folders, sides-removals, up-stands, up-unfilled, whole-path}
 use Rattle.rewind_plan.proofs.SideLemmas.{Ended, above-folder}
 
 module _ (c : Contents) (w : Between) where

@@ -17,7 +17,7 @@ use Rattle.rewind_plan.specs.Planned.{Between, action_of}
 use Rattle.rewind_plan.specs.Sides.{AllPaired, IsKind, IsPaired, Sides, is_at}
 use Rattle.rewind_plan.specs.Walks.{IsWalked}
 use Rattle.rewind_plan.proofs.FoundOutLemmas.{control-read, kept-there, no-mark}
-use Rattle.rewind_plan.proofs.PlaceLemmas.{there_kind}
+use Rattle.rewind_plan.proofs.KindLemmas.{there_kind}
 use Rattle.rewind_plan.proofs.TurnLemmas.{at-paths, in-turn}
 use Rattle.rewind_plan.proofs.WalkLemmas.{folder-stands, kind-stands, whole-blocks}
 

@@ -6,7 +6,11 @@ use Rattle.cluster_tree.specs.PathOrder.{path_eq}
 use Rattle.cluster_tree.specs.Contents.{FolderEntry, is_folder, parent}
 use Rattle.cluster_tree.specs.Folders.{lies_in}
 use Rattle.rewind_plan.proofs.Jobs.{AllFit, Standing, is_plain}
-use Rattle.rewind_plan.proofs.ItemLemmas.{Clears, Doing, FileFits, FilesFit, Fills, FolderFits, FoldersFit, Item, ItemsFit, Leaves, Makes, RemovalFits, RemovalsFit, all_folders, clears_at, filled_at, filled_by, here, left_at, leaves_of, makes_at, with_files}
+use Rattle.rewind_plan.proofs.Items.{Clears, Doing, Fills, Item, Leaves, Makes, clears_at, here, makes_at}
+use Rattle.rewind_plan.proofs.FolderItems.{FolderFits, FoldersFit}
+use Rattle.rewind_plan.proofs.FileItems.{FileFits, FilesFit, all_folders, filled_at, filled_by, with_files}
+use Rattle.rewind_plan.proofs.RemovalItems.{RemovalFits, RemovalsFit}
+use Rattle.rewind_plan.proofs.ItemLemmas.{ItemsFit, left_at, leaves_of}
 
 -- ---- items fit too where something else stands beside all that they ask
 

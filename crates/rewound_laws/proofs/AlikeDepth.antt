@@ -18,7 +18,7 @@ use Rattle.file_walk.specs.Walk.{kind_there}
 use Rattle.file_walk.specs.declared.action.Action.{Action}
 use Rattle.file_walk.specs.declared.action.Action.TheVariants as action
 use Rattle.file_walk.specs.declared.pair.Pair.{Pair}
-use Rattle.rewind_plan.proofs.PlaceLemmas.{or_first, or_right}
+use Rattle.rewind_plan.proofs.KindLemmas.{or_first, or_right}
 use Rattle.rewind_plan.specs.PlanOf.{rewinding}
 use Rattle.rewind_plan.specs.Planned.{Between}
 use Rattle.rewind_plan.specs.Room.{AllHaveRoom, makes}

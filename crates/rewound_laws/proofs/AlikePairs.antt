@@ -13,7 +13,7 @@ use Rattle.file_walk.specs.declared.entry.EntryKind.{EntryKind}
 use Rattle.file_walk.specs.declared.entry.EntryKind.TheVariants as kind
 use Rattle.file_walk.specs.declared.pair.Pair.{Pair}
 use Rattle.rewind_plan.proofs.FitLemmas.{ruled-at}
-use Rattle.rewind_plan.proofs.PlaceLemmas.{or_first, or_right, there_kind}
+use Rattle.rewind_plan.proofs.KindLemmas.{or_first, or_right, there_kind}
 use Rattle.rewind_plan.specs.Planned.{Between, action_of}
 use Rattle.rewind_plan.specs.Room.{AllHaveRoom, HasRoom, makes}
 use Rattle.rewind_plan.specs.Sides.{AllPaired, IsKind, IsPaired, Sides, is_at}
