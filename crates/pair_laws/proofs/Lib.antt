@@ -15,6 +15,8 @@ pub mod StepsLemmas
 pub mod LifeLemmas
 pub mod TakenLemmas
 pub mod StartLemmas
+pub mod BytesLemmas
+pub mod WalLemmas
 pub mod StepLemmas
 pub mod WalkLemmas
 pub mod NamesLemmas

@@ -2,12 +2,14 @@
 //! at its roots, and that both grew from one state.
 #![tactic(auto)]
 
+mod bytes;
 mod grew;
 mod life;
 mod read;
 mod start;
 mod survey;
 
+pub use bytes::copy_log_is_bytes;
 pub use grew::{copy_stays, pair_has_copy, pairs_follow, pairs_grew_from_one_state};
 pub use life::{pair_lives, pair_says_enough};
 pub use read::pair_logs_are_read;
