@@ -31,3 +31,4 @@ pub mod CopyLemmas
 pub mod StateLemmas
 pub mod LogLemmas
 pub mod PairLemmas
+pub mod EndLemmas

@@ -5,3 +5,4 @@ pub mod Start
 pub mod Bytes
 pub mod Survey
 pub mod Grew
+pub mod Ends
