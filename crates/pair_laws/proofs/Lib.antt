@@ -15,6 +15,8 @@ pub mod StepsLemmas
 pub mod LifeLemmas
 pub mod TakenLemmas
 pub mod StartLemmas
+pub mod BytesLemmas
+pub mod WalLemmas
 pub mod StepLemmas
 pub mod WalkLemmas
 pub mod NamesLemmas
@@ -29,3 +31,4 @@ pub mod CopyLemmas
 pub mod StateLemmas
 pub mod LogLemmas
 pub mod PairLemmas
+pub mod EndLemmas

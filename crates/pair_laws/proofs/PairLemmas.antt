@@ -1,13 +1,12 @@
 -- A pair has parted, its rewind is needed, and it grew from one state.
-use Rattle.std.proofs.Common.{◌≡◌, inl, ℕ, pos, ◌+◌, ◌<◌, ◌≤◌, max, Bool, true, false, ◌&&◌, nat_lt, List, [], ◌∷◌, ◌++◌, length, take, None, Some, codes, refl, sym, ap, ◌∙◌, subst, true≢false, append_assoc, arith, if◌then◌else◌}
+use Rattle.std.proofs.Common.{◌≡◌, inl, ℕ, pos, ◌+◌, ◌<◌, ◌≤◌, max, Bool, true, false, ◌&&◌, nat_lt, List, [], ◌∷◌, length, None, Some, codes, refl, sym, ap, ◌∙◌, subst, true≢false, append_assoc, arith, if◌then◌else◌}
 use Rattle.std.proofs.lemmas.Bool.Decides.{nat_tests}
-use Rattle.std.proofs.Math.Seq.{take-append_seam}
-use Rattle.std.proofs.lemmas.List.{append_cancel_left, length-append}
+use Rattle.std.proofs.lemmas.List.{length-append}
 use Rattle.std.specs.Fmt.{digits}
 use Rattle.block_refs.specs.declared.names.BlockName.{BlockName}
 use Rattle.block_refs.specs.declared.names.Fork.TheVariants.{Main}
 use Rattle.cluster_tree.specs.Contents.{Contents, FileEntry, entry_at}
-use Rattle.cluster_tree.specs.PathValue.{Holds, PathValue, below, kept_parts, path_of}
+use Rattle.cluster_tree.specs.PathValue.{PathValue, below, kept_parts, path_of}
 use Rattle.page_masks.specs.Law.{PageView, view}
 use Rattle.relation_files.specs.Names.{name_of}
 use Rattle.relation_files.specs.Paths.{folder_parts, relation_file}
@@ -25,7 +24,7 @@ use Rattle.pair_maker.specs.Files.{relation_bytes}
 use Rattle.pair_maker.specs.Inserts.{inserts_into, pair_relation}
 use Rattle.pair_maker.specs.Logs.{block_end, log_upto, made_at}
 use Rattle.pair_maker.specs.declared.side.Side.TheVariants.{Target, Source}
-use Rattle.pair_laws.specs.Grew.{CopyStays, PairsFollow, PairsGrewFromOneState, pair_rewind}
+use Rattle.pair_laws.specs.Grew.{PairsFollow, PairsGrewFromOneState, pair_rewind}
 use Rattle.pair_laws.specs.Life.{base_of, side_records}
 use Rattle.pair_laws.specs.Stands.{HasCopy, HasPair, PairHasCopy, copy_of, source_of, target_of}
 use Rattle.pair_laws.specs.Start.{copy_start}
@@ -138,25 +137,6 @@ module _ (root : PathValue) (seed blocks : ℕ) (c : Contents) (pair : HasPair r
 
 pub pair-has_copy : PairHasCopy
 pair-has_copy root seed blocks c pair = own-copy root seed blocks c pair
-
--- ---- a rewind of the target leaves the copy
-
-abbrev first_byte : List (List ℕ) → ℕ
-first_byte ((b ∷ bytes) ∷ rest) = b
-first_byte ([] ∷ rest) = 0
-first_byte [] = 0
-
-not_held : (root : PathValue) (parts : List (List ℕ)) → Holds (target_of root) (below (copy_of root) parts) → ⊥
-not_held root parts held =
-    let t = root.parts ++ codes "t" ∷ [] in
-    let c = root.parts ++ codes "c" ∷ [] in
-    let long : length t ≡ length c = omega (arith, length-append root.parts (codes "t" ∷ []), length-append root.parts (codes "c" ∷ [])) in
-    let same : c ≡ t = sym (take-append_seam c parts) ∙ ap (λ n. take n (c ++ parts)) (sym long) ∙ held.prefix in
-    let byte : 99 ≡ 116 = ap first_byte (append_cancel_left root.parts (codes "c" ∷ []) (codes "t" ∷ []) same) in
-    absurd (omega (arith, byte))
-
-pub copy-stays : CopyStays
-copy-stays root seed blocks c c' pair left parts = left.elsewhere (below (copy_of root) parts) (not_held root parts) ∙ pair-at-c root seed blocks c pair.stands parts
 
 pub pairs-grew : PairsGrewFromOneState
 pairs-grew root other seed blocks c d pair copy = record { copied = pair-copied root other seed blocks c d pair.stands copy.stands; grew = pair-grew root seed blocks c pair other d copy }

@@ -10,17 +10,13 @@ use Rattle.rewound_laws.specs.Copy.{IsWholeCopy}
 use Rattle.rewound_laws.specs.Grew.{GrewFromOneState}
 use Rattle.pair_maker.specs.Logs.{made_at}
 use Rattle.pair_laws.specs.Life.{base_of}
-use Rattle.pair_laws.specs.Stands.{CopyStands, HasCopy, HasPair, copy_of, target_of}
+use Rattle.pair_laws.specs.Stands.{HasCopy, HasPair, target_of}
 use Rattle.pair_laws.specs.Start.{copy_start}
 use Rattle.pair_laws.specs.Survey.{pair_needing}
 
 -- the rewind of a pair, at the moment at which its copy was made
 abbrev pub pair_rewind : PathValue → (seed blocks : ℕ) → Contents → Needing
 pair_rewind root seed blocks c = pair_needing root seed blocks c (pos made_at)
-
--- it leaves the pair's copy as it is
-abbrev pub CopyStays : Type 0
-CopyStays = (root : PathValue) (seed blocks : ℕ) (c c' : Contents) → HasPair root seed blocks c → IsRewound c (pair_rewind root seed blocks c) c' → CopyStands (copy_of root) seed blocks c'
 
 -- The copy of a pair is a whole copy of its source; and target and source grew from one state, in which each block of their relation is empty. The
 -- copy may stand at another root, in other contents, as one that is replayed behind a rewind does.

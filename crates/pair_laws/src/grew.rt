@@ -1,15 +1,10 @@
 // That a pair grew from one state.
-ghost use Rattle.pair_laws.specs.Grew.{CopyStays, PairsFollow, PairsGrewFromOneState};
+ghost use Rattle.pair_laws.specs.Grew.{PairsFollow, PairsGrewFromOneState};
 ghost use Rattle.pair_laws.specs.Stands.{PairHasCopy};
 
 /// The copy of a pair stands at its own root.
 pub fn pair_has_copy()
     ensures { PairHasCopy }
-{}
-
-/// A rewind of a pair's target leaves the pair's copy as it is.
-pub fn copy_stays()
-    ensures { CopyStays }
 {}
 
 /// The copy of a pair is a whole copy of its source, and target and source grew from one state.

@@ -2,13 +2,17 @@
 //! at its roots, and that both grew from one state.
 #![tactic(auto)]
 
+mod bytes;
+mod ends;
 mod grew;
 mod life;
 mod read;
 mod start;
 mod survey;
 
-pub use grew::{copy_stays, pair_has_copy, pairs_follow, pairs_grew_from_one_state};
+pub use bytes::copy_log_is_bytes;
+pub use ends::{copy_stays, pairs_end_the_same};
+pub use grew::{pair_has_copy, pairs_follow, pairs_grew_from_one_state};
 pub use life::{pair_lives, pair_says_enough};
 pub use read::pair_logs_are_read;
 pub use start::copy_starts;
