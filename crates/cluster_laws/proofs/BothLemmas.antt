@@ -34,7 +34,7 @@ abbrev OkAfter : After → Result After ReplayFault
 OkAfter a = Ok a
 
 module _ (base : BlockName → Option (List ℕ)) (redo : ℕ) (c d : Contents) (root other : PathValue) (s : Start)
-    (both : AlikeClusters s.control.relseg c root d other) (holds : HoldsBytes c) (kinds : HasKinds root c) (passes : start_of c root ≡ Ok s) (enough : ¬ (SomeLacksLayout s.records))
+    (both : AlikeClusters s.control.relseg c root d other) (holds : HoldsBytes c root) (kinds : HasKinds root c) (passes : start_of c root ≡ Ok s) (enough : ¬ (SomeLacksLayout s.records))
     (one : IsBased base redo s.records root s.control.relseg (first_world c root s)) (two : IsBased base redo s.records other s.control.relseg (first_world d other s)) where
   abbrev per : ℕ
   per = s.control.relseg

@@ -76,7 +76,7 @@ same_start s t a b e =
     ∙ ap (λ x. record { control = s.control; label = s.label; log = t.log; records = x }) e
 
 module _ (base : BlockName → Option (List ℕ)) (redo : ℕ) (c d : Contents) (root other : PathValue) (s : Start) (after : After)
-    (both : AlikeClusters s.control.relseg c root d other) (holds : HoldsBytes c) (passes : start_of c root ≡ Ok s) (enough : ¬ (SomeLacksLayout s.records))
+    (both : AlikeClusters s.control.relseg c root d other) (holds : HoldsBytes c root) (passes : start_of c root ≡ Ok s) (enough : ¬ (SomeLacksLayout s.records))
     (one : IsBased base redo s.records root s.control.relseg (first_world c root s)) (two : IsBased base redo s.records other s.control.relseg (first_world d other s))
     (ends : after_replay c root ≡ Ok after) where
   abbrev per : ℕ

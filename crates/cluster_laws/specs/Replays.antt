@@ -22,7 +22,7 @@ pub record EndsAs (per_file : ℕ) (left : Contents) (root : PathValue) (d : Con
 -- does that of the other, and they leave the same cluster.
 abbrev pub Convergence : Type 0
 Convergence = (base : BlockName → Option (List ℕ)) (redo : ℕ) (c d : Contents) (root other : PathValue) (s : Start) (after : After)
-    → AlikeClusters s.control.relseg c root d other → HoldsBytes c → start_of c root ≡ Ok s → ¬ (SomeLacksLayout s.records)
+    → AlikeClusters s.control.relseg c root d other → HoldsBytes c root → start_of c root ≡ Ok s → ¬ (SomeLacksLayout s.records)
     → IsBased base redo s.records root s.control.relseg (first_world c root s) → IsBased base redo s.records other s.control.relseg (first_world d other s)
     → after_replay c root ≡ Ok after → EndsAs s.control.relseg after.files root d other
 
@@ -34,6 +34,6 @@ pub record BothEnd (c : Contents) (root : PathValue) (d : Contents) (other : Pat
 
 abbrev pub BothReplay : Type 0
 BothReplay = (base : BlockName → Option (List ℕ)) (redo : ℕ) (c d : Contents) (root other : PathValue) (s : Start)
-    → AlikeClusters s.control.relseg c root d other → HoldsBytes c → HasKinds root c → start_of c root ≡ Ok s → ¬ (SomeLacksLayout s.records)
+    → AlikeClusters s.control.relseg c root d other → HoldsBytes c root → HasKinds root c → start_of c root ≡ Ok s → ¬ (SomeLacksLayout s.records)
     → IsBased base redo s.records root s.control.relseg (first_world c root s) → IsBased base redo s.records other s.control.relseg (first_world d other s)
     → BothEnd c root d other s

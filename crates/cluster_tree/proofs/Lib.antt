@@ -18,3 +18,6 @@ pub mod MadeLemmas
 pub mod RootLemmas
 pub mod RunLemmas
 pub mod HoldLemmas
+pub mod Images
+pub mod SoundLemmas
+pub mod ImageLemmas

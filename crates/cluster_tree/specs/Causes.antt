@@ -1,7 +1,5 @@
 -- How an answer is tied to the one that is meant, and a fault to its cause. Own: "Answers and their causes".
 use Rattle.std.specs.Prelude.{◌≡◌, ℕ, ◌-◌, ◌^◌, ◌<◌, ◌≤◌, ◌⊎◌, List, [], ◌∷◌, Option, None, Some, Result, Ok, Err, MatchResult}
-use Rattle.cluster_tree.specs.Contents.{Contents}
-use Rattle.cluster_tree.specs.declared.tree.ChangeCall.{ChangeCall}
 
 -- the count rose, or stands at its last value
 abbrev pub Rose : ℕ → ℕ → Type 0
@@ -39,10 +37,3 @@ MeetsInto IsFree meant into result = MatchResult result (λ _. meant ≡ Ok into
 -- a test is passed where nothing is refused, and else refused so, or with an answer that is free
 abbrev pub Passes : {A E : Type 0} → (E → Type 0) → Option E → Result A E → Type 0
 Passes IsFree refusal result = MatchResult result (λ _. refusal ≡ None) (λ e. IsFree e ⊎ (refusal ≡ Some e))
-
--- what changes nothing: the contents, the list of changing calls and the count of those that failed stay, and that of failed reads doesn't fall
-pub record OnlyReads {F : Type 0} (contents : F → Contents) (calls : F → List ChangeCall) (failed_reads failed_changes : F → ℕ) (old new : F) : Type 0 where
-  pub same : contents new ≡ contents old
-  pub uncalled : calls new ≡ calls old
-  pub reads : failed_reads old ≤ failed_reads new
-  pub changes : failed_changes new ≡ failed_changes old

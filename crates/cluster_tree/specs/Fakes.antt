@@ -2,9 +2,10 @@
 use Rattle.std.specs.Prelude.{◌≡◌, ℕ, ◌+◌, ◌<◌, true, false, List, Result, Err}
 use Rattle.cluster_tree.specs.Causes.{Rose}
 use Rattle.cluster_tree.specs.Contents.{Contents}
-use Rattle.cluster_tree.specs.Memory.{contents_of}
+use Rattle.cluster_tree.specs.Memory.{contents_of, stops_of}
 use Rattle.cluster_tree.specs.Plan.{fails_at}
-use Rattle.cluster_tree.specs.Run.{State}
+use Rattle.cluster_tree.specs.Run.{State, Moment}
+use Rattle.cluster_tree.specs.Stops.{Stops}
 use Rattle.cluster_tree.specs.Tree.{Counts}
 use Rattle.cluster_tree.specs.declared.tree.ChangeCall.{ChangeCall}
 use Rattle.cluster_tree.specs.declared.tree.TreeFault.{TreeFault}
@@ -21,6 +22,10 @@ contents_in tree = contents_of tree.nodes.items
 -- the changing calls on it, in order
 abbrev pub calls_in : MemoryTree → List ChangeCall
 calls_in tree = tree.log.calls.items
+
+-- what a stop may leave of it, and might have left
+abbrev pub stops_in : MemoryTree → Stops
+stops_in tree = stops_of tree.log
 
 -- how many changing calls on it found no memory
 abbrev pub failures_in : MemoryTree → ℕ
@@ -57,6 +62,10 @@ contents_left tree = contents_in (tree_within tree)
 -- and all that they left
 abbrev pub state_left : FailingTree → State
 state_left tree = record { contents = contents_left tree; calls = calls_in (tree_within tree) }
+
+-- and what a stop may leave
+abbrev pub moment_left : FailingTree → Moment
+moment_left tree = record { state = state_left tree; stops = stops_in (tree_within tree) }
 
 -- the plan of a sink's writes from now on
 abbrev pub sink_plan : MemorySink → FailPlan

@@ -8,6 +8,7 @@ pub mod Causes
 pub mod Tree
 pub mod Folders
 pub mod Step
+pub mod Stops
 pub mod Run
 pub mod Untold
 pub mod Sink
@@ -20,4 +21,5 @@ pub mod Below
 pub mod Change
 pub mod Laws
 pub mod ChangeLaws
+pub mod Image
 pub mod Frame

@@ -2,10 +2,13 @@
 use Rattle.std.specs.Prelude.{◌≡◌, ◌<◌, ℕ, List, map, take, length, slice_index_or, None}
 use Rattle.std.specs.FinMap.{from_entries, get}
 use Rattle.cluster_tree.specs.PathValue.{PathValue, path_cmp}
-use Rattle.cluster_tree.specs.Contents.{Entry, FolderEntry, FileEntry, LinkEntry, Contents}
+use Rattle.cluster_tree.specs.Contents.{Entry, FolderEntry, FileEntry, LinkEntry, Contents, IsTree, IsTree-prop}
+use Rattle.cluster_tree.specs.Stops.{Epoch, Stops, MayBeLeft}
 use Rattle.cluster_tree.specs.declared.nodes.Node.{Node}
 use Rattle.cluster_tree.specs.declared.nodes.Node.TheVariants as node
 use Rattle.cluster_tree.specs.declared.nodes.Placed.{Placed}
+use Rattle.cluster_tree.specs.declared.log.Epoch.{Epoch as KeptEpoch}
+use Rattle.cluster_tree.specs.declared.log.Log.{Log}
 
 -- the entry that a node is
 abbrev pub entry_of : Node → Entry
@@ -26,3 +29,21 @@ pub record IsPlace (nodes : List Placed) (path : PathValue) (i : ℕ) : Type 0 w
   pub within : i < length nodes
   pub here : (d : Placed) → (slice_index_or nodes i d).path ≡ path
   pub first : get (contents_of (take i nodes)) path ≡ None
+
+-- the time from one sync to the next
+abbrev pub epoch_of : KeptEpoch → Epoch
+epoch_of kept = record { synced = contents_of kept.synced.items; pending = kept.pending.items }
+
+-- what a stop may leave, and might have left
+abbrev pub stops_of : Log → Stops
+stops_of log = record { now = epoch_of log.now; past = map epoch_of log.past.items }
+
+-- what always holds of a tree in memory: it and what was synced are trees of files, and it is what a stop may leave
+pub record IsSound (c : Contents) (s : Stops) : Type 0 where
+  pub rooted : IsTree c
+  pub synced : IsTree s.now.synced
+  pub left : ∥ MayBeLeft s c ∥₁
+
+-- that is one fact
+pub IsSound-prop : (c : Contents) (s : Stops) → IsProp (IsSound c s)
+IsSound-prop c s = hlevel (IsTree-prop)

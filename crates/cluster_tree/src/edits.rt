@@ -5,9 +5,11 @@ ghost use Rattle.cluster_tree.specs.Contents.{entry_at, FileEntry, FolderEntry};
 ghost use Rattle.layout.specs.Splice.{splice};
 ghost use Rattle.cluster_tree.specs.Tree.{written, write_refusal, shortened, cut_refusal, make_refusal};
 ghost use Rattle.cluster_tree.specs.Folders.{remove_refusal};
-ghost use Rattle.cluster_tree.specs.Memory.{contents_of, entry_of};
+ghost use Rattle.cluster_tree.specs.Memory.{contents_of, entry_of, stops_of};
+ghost use Rattle.cluster_tree.specs.Stops.{with_pending, with_synced};
 ghost use Rattle.cluster_tree.specs.Step.{Step};
 
+use crate::copies::{copy_call, copy_nodes};
 use crate::log::Log;
 use crate::nodes::{Node, Placed, place_of};
 use crate::{ChangeCall, OutOfMemory, Path};
@@ -55,17 +57,22 @@ pub(crate) fn write_in(
     ensures listed { OnOk result (log.new.calls.items ≡ log.old.calls.items ++ ChangeCall.Write
         path.now at (length bytes.now) ∷ []) }
     ensures unlisted { OnErr result (log.new.calls.items ≡ log.old.calls.items) }
+    ensures pending { OnOk result (stops_of log.new ≡ with_pending (ChangeCall.Write
+        path.now at (length bytes.now))
+        (stops_of log.old)) }
+    ensures unpending { OnErr result (stops_of log.new ≡ stops_of log.old) }
 {
     let Some(i) = place_of(nodes, path) else {
         unreachable!();
     };
     let call = ChangeCall::Write(path.copy(alloc)?, at as u64, bytes.len() as u64);
+    let copy = copy_call(alloc, &call)?;
     log.make_room()?;
     let Node::File(file) = &mut nodes[i].node else {
         unreachable!();
     };
     lay(file, at, bytes)?;
-    log.put(call);
+    log.put(call, copy);
     Ok(())
 }
 
@@ -84,10 +91,13 @@ fn put_in(
     ensures kept { OnErr result (nodes.new.items ≡ nodes.old.items) }
     ensures listed { OnOk result (log.new.calls.items ≡ log.old.calls.items ++ call ∷ []) }
     ensures unlisted { OnErr result (log.new.calls.items ≡ log.old.calls.items) }
+    ensures pending { OnOk result (stops_of log.new ≡ with_pending call
+        (stops_of log.old)) }
+    ensures unpending { OnErr result (stops_of log.new ≡ stops_of log.old) }
 {
     let path = path.copy(alloc)?;
     nodes.reserve(1)?;
-    log.add(call)?;
+    log.add(alloc, call)?;
     nodes.push(Placed { path, node })?;
     Ok(())
 }
@@ -109,6 +119,9 @@ pub(crate) fn put_file(
     ensures listed { OnOk result
         (log.new.calls.items ≡ log.old.calls.items ++ ChangeCall.MakeFile path.now ∷ []) }
     ensures unlisted { OnErr result (log.new.calls.items ≡ log.old.calls.items) }
+    ensures pending { OnOk result (stops_of log.new ≡ with_pending (ChangeCall.MakeFile path.now)
+        (stops_of log.old)) }
+    ensures unpending { OnErr result (stops_of log.new ≡ stops_of log.old) }
 {
     let call = ChangeCall::MakeFile(path.copy(alloc)?);
     put_in(alloc, nodes, log, path, Node::File(Vec::new(alloc)), call)
@@ -131,6 +144,9 @@ pub(crate) fn put_folder(
     ensures listed { OnOk result
         (log.new.calls.items ≡ log.old.calls.items ++ ChangeCall.MakeFolder path.now ∷ []) }
     ensures unlisted { OnErr result (log.new.calls.items ≡ log.old.calls.items) }
+    ensures pending { OnOk result (stops_of log.new ≡ with_pending (ChangeCall.MakeFolder path.now)
+        (stops_of log.old)) }
+    ensures unpending { OnErr result (stops_of log.new ≡ stops_of log.old) }
 {
     let call = ChangeCall::MakeFolder(path.copy(alloc)?);
     put_in(alloc, nodes, log, path, Node::Folder(false), call)
@@ -153,11 +169,14 @@ pub(crate) fn cut_in(
     ensures listed { OnOk result
         (log.new.calls.items ≡ log.old.calls.items ++ ChangeCall.Cut path.now size ∷ []) }
     ensures unlisted { OnErr result (log.new.calls.items ≡ log.old.calls.items) }
+    ensures pending { OnOk result (stops_of log.new ≡ with_pending (ChangeCall.Cut path.now size)
+        (stops_of log.old)) }
+    ensures unpending { OnErr result (stops_of log.new ≡ stops_of log.old) }
 {
     let Some(i) = place_of(nodes, path) else {
         unreachable!();
     };
-    log.add(ChangeCall::Cut(path.copy(alloc)?, size as u64))?;
+    log.add(alloc, ChangeCall::Cut(path.copy(alloc)?, size as u64))?;
     let Node::File(file) = &mut nodes[i].node else {
         unreachable!();
     };
@@ -181,15 +200,18 @@ pub(crate) fn remove_in(
     ensures listed { OnOk result
         (log.new.calls.items ≡ log.old.calls.items ++ ChangeCall.Remove path.now ∷ []) }
     ensures unlisted { OnErr result (log.new.calls.items ≡ log.old.calls.items) }
+    ensures pending { OnOk result (stops_of log.new ≡ with_pending (ChangeCall.Remove path.now)
+        (stops_of log.old)) }
+    ensures unpending { OnErr result (stops_of log.new ≡ stops_of log.old) }
 {
-    log.add(ChangeCall::Remove(path.copy(alloc)?))?;
+    log.add(alloc, ChangeCall::Remove(path.copy(alloc)?))?;
     let (absolute, parts) = (path.is_absolute(), path.parts());
     nodes.retain(|placed| !placed.path.is(absolute, parts));
     Ok(())
 }
 
-/// Puts an entry in the place of what stands at a path, without a call.
-pub(crate) fn set_node(
+// Puts an entry in the place of what stands at a path.
+fn set_node(
     alloc: Global,
     nodes: &mut Vec<Placed>,
     path: &Path,
@@ -206,5 +228,29 @@ pub(crate) fn set_node(
             node,
         })?,
     }
+    Ok(())
+}
+
+/// Puts an entry in the place of what stands at a path, and syncs, without a call.
+pub(crate) fn set_synced(
+    alloc: Global,
+    nodes: &mut Vec<Placed>,
+    log: &mut Log,
+    path: &Path,
+    node: Node,
+) -> Result<(), OutOfMemory>
+    ensures set { OnOk result (contents_of nodes.new.items ≡ insert (contents_of nodes.old.items)
+        path.now (entry_of node)) }
+    ensures kept { OnErr result (nodes.new.items ≡ nodes.old.items) }
+    ensures uncalled { log.new.calls ≡ log.old.calls }
+    ensures synced { OnOk result (stops_of log.new ≡ with_synced (contents_of nodes.new.items)
+        (stops_of log.old)) }
+    ensures unsynced { OnErr result (stops_of log.new ≡ stops_of log.old) }
+{
+    let mut set = copy_nodes(alloc, nodes)?;
+    set_node(alloc, &mut set, path, node)?;
+    let synced = copy_nodes(alloc, &set)?;
+    log.begin(alloc, synced)?;
+    *nodes = set;
     Ok(())
 }

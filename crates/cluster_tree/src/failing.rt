@@ -75,15 +75,15 @@ impl Tree for FailingTree {
     ghost use Rattle.std.specs.FinMap.{insert, remove};
     ghost use Rattle.std.specs.List.{list_all};
     ghost use Rattle.cluster_tree.specs.PathValue.{is_part};
-    ghost use Rattle.cluster_tree.specs.Memory.{contents_of};
+    ghost use Rattle.cluster_tree.specs.Memory.{contents_of, stops_of};
     ghost use Rattle.cluster_tree.specs.Contents.{entry_at, FileEntry, FolderEntry};
     ghost use Rattle.cluster_tree.specs.Causes.{Meets, MeetsInto, Passes};
     ghost use Rattle.cluster_tree.specs.Tree.{kind_of, file_of, size_of, range_of, write_refusal, cut_refusal, make_refusal, written, shortened, HasFailed, RefusesOnly, IsFreeOfListing, Counts, file_faults, list_faults, make_faults, range_faults, remove_faults};
     ghost use Rattle.cluster_tree.specs.Folders.{list_refusal, remove_refusal, IsListing};
     ghost use Rattle.cluster_tree.specs.Step.{MayBe};
-    ghost use Rattle.cluster_tree.specs.Run.{Makes};
+    ghost use Rattle.cluster_tree.specs.Run.{Makes, Pends};
     ghost use Rattle.cluster_tree.specs.Frame.{Reads, Came};
-    ghost use Rattle.cluster_tree.specs.Fakes.{contents_left, state_left, planned_reads, changes_failed, PlannedRead, PlannedChange};
+    ghost use Rattle.cluster_tree.specs.Fakes.{contents_left, state_left, moment_left, planned_reads, changes_failed, PlannedRead, PlannedChange};
 
     ghost tells = { true };
 
@@ -91,11 +91,13 @@ impl Tree for FailingTree {
 
     ghost calls = { λ f. f.inner.log.calls.items };
 
+    ghost stops = { λ f. stops_of f.inner.log };
+
     ghost failed_reads = { λ f. f.failed_reads };
 
     ghost failed_changes = { λ f. f.failed_changes + f.inner.failed };
 
-    ghost is_tree = { λ told f. f.inner.rooted };
+    ghost is_tree = { λ told f. f.inner.sound.rooted };
 
     fn kind(&mut self, path: &Path) -> Result<Kind, TreeFault>
         ensures planned { PlannedRead self.old self.new result }
@@ -162,6 +164,8 @@ impl Tree for FailingTree {
         ensures row { RefusesOnly range_faults result }
         ensures made { Makes (ChangeCall.Write path.now at (length bytes.now)) (state_left self.old)
             (state_left self.new) result }
+        ensures pending { Pends (ChangeCall.Write path.now at (length bytes.now)) (moment_left self.old) (moment_left
+            self.new) result }
         ensures cause { Counts changes_failed planned_reads self.old self.new result }
         ensures frame { Came ⟦<FailingTree as Tree>⟧ self.old self.new }
     {
@@ -181,6 +185,8 @@ impl Tree for FailingTree {
         ensures row { RefusesOnly range_faults result }
         ensures made { Makes (ChangeCall.Cut path.now size) (state_left self.old) (state_left
             self.new) result }
+        ensures pending { Pends (ChangeCall.Cut path.now size) (moment_left self.old) (moment_left
+            self.new) result }
         ensures cause { Counts changes_failed planned_reads self.old self.new result }
         ensures frame { Came ⟦<FailingTree as Tree>⟧ self.old self.new }
     {
@@ -197,6 +203,8 @@ impl Tree for FailingTree {
         ensures refused { Passes HasFailed (make_refusal (contents_left self.old) path.now) result }
         ensures row { RefusesOnly make_faults result }
         ensures made { Makes (ChangeCall.MakeFile path.now) (state_left self.old) (state_left
+            self.new) result }
+        ensures pending { Pends (ChangeCall.MakeFile path.now) (moment_left self.old) (moment_left
             self.new) result }
         ensures cause { Counts changes_failed planned_reads self.old self.new result }
         ensures frame { Came ⟦<FailingTree as Tree>⟧ self.old self.new }
@@ -215,6 +223,8 @@ impl Tree for FailingTree {
         ensures row { RefusesOnly make_faults result }
         ensures made { Makes (ChangeCall.MakeFolder path.now) (state_left self.old) (state_left
             self.new) result }
+        ensures pending { Pends (ChangeCall.MakeFolder path.now) (moment_left self.old) (moment_left
+            self.new) result }
         ensures cause { Counts changes_failed planned_reads self.old self.new result }
         ensures frame { Came ⟦<FailingTree as Tree>⟧ self.old self.new }
     {
@@ -230,6 +240,8 @@ impl Tree for FailingTree {
         ensures refused { Passes HasFailed (remove_refusal (contents_left self.old) path.now) result }
         ensures row { RefusesOnly remove_faults result }
         ensures made { Makes (ChangeCall.Remove path.now) (state_left self.old) (state_left self.new) result }
+        ensures pending { Pends (ChangeCall.Remove path.now) (moment_left self.old) (moment_left
+            self.new) result }
         ensures cause { Counts changes_failed planned_reads self.old self.new result }
         ensures frame { Came ⟦<FailingTree as Tree>⟧ self.old self.new }
     {
@@ -244,6 +256,8 @@ impl Tree for FailingTree {
         ensures same { contents_left self.new ≡ contents_left self.old }
         ensures row { RefusesOnly [] result }
         ensures made { Makes ChangeCall.Sync (state_left self.old) (state_left self.new) result }
+        ensures pending { Pends ChangeCall.Sync (moment_left self.old) (moment_left
+            self.new) result }
         ensures cause { Counts changes_failed planned_reads self.old self.new result }
         ensures frame { Came ⟦<FailingTree as Tree>⟧ self.old self.new }
     {

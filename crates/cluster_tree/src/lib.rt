@@ -2,9 +2,11 @@
 #![tactic(auto)]
 
 mod children;
+mod copies;
 mod edits;
 mod failing;
 mod file_fault;
+mod filling;
 mod laws;
 mod log;
 mod marks;

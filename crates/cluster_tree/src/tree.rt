@@ -6,9 +6,9 @@ ghost use Rattle.cluster_tree.specs.PathValue.{is_part};
 ghost use Rattle.cluster_tree.specs.Contents.{Contents, entry_at, FileEntry, FolderEntry, IsTree};
 ghost use Rattle.cluster_tree.specs.Tree.{kind_of, file_of, size_of, range_of, write_refusal, cut_refusal, make_refusal, written, shortened, HasFailed, RefusesOnly, IsFreeOfListing, Counts, file_faults, list_faults, make_faults, range_faults, remove_faults};
 ghost use Rattle.cluster_tree.specs.Folders.{list_refusal, remove_refusal, IsListing};
-ghost use Rattle.cluster_tree.specs.Causes.{Meets, MeetsInto, Passes, OnlyReads};
+ghost use Rattle.cluster_tree.specs.Causes.{Meets, MeetsInto, Passes};
 ghost use Rattle.cluster_tree.specs.Step.{MayBe};
-ghost use Rattle.cluster_tree.specs.Run.{state_by, Goes, Makes};
+ghost use Rattle.cluster_tree.specs.Run.{state_by, moment_by, OnlyReads, Goes, Makes, Pends};
 
 use crate::{Names, OutOfMemory, Path};
 use std::alloc::Global;
@@ -94,6 +94,7 @@ pub enum ChangeCall {
 /// are.
 pub trait Tree {
     ghost use Rattle.cluster_tree.specs.declared.tree.ChangeCall.{ChangeCall};
+    ghost use Rattle.cluster_tree.specs.Stops.{Stops, no_stops};
 
     /// Whether it tells its contents.
     ghost tells: { Bool };
@@ -104,6 +105,9 @@ pub trait Tree {
     /// The changing calls so far, in order. One that failed and changed nothing may be missing, and
     /// a sync is listed only where it happened.
     ghost calls: { Self → List ChangeCall };
+
+    /// What a stop may leave now, and might have left before, where it tells its contents.
+    ghost stops: { Self → Stops } = { λ _. no_stops };
 
     /// How many reads have failed.
     ghost failed_reads: { Self → ℕ };
@@ -117,7 +121,7 @@ pub trait Tree {
             Meets HasFailed (kind_of (entry_at (contents self.old) path.now)) result }
         ensures row { RefusesOnly (TreeFault.Link ∷ []) result }
         ensures cause { Counts failed_reads failed_changes self.old self.new result }
-        ensures frame { OnlyReads contents calls failed_reads failed_changes self.old self.new };
+        ensures frame { OnlyReads contents calls stops failed_reads failed_changes self.old self.new };
 
     /// The names of what lies in a folder, in ascending order of their bytes, each a part of a path.
     /// Answers `Absent`, `NotFolder` or `Link` where no folder is there, then `NameNotText` where it
@@ -129,7 +133,7 @@ pub trait Tree {
             Passes IsFreeOfListing (list_refusal (entry_at (contents self.old) path.now)) result }
         ensures row { RefusesOnly list_faults result }
         ensures cause { Counts failed_reads failed_changes self.old self.new result }
-        ensures frame { OnlyReads contents calls failed_reads failed_changes self.old self.new };
+        ensures frame { OnlyReads contents calls stops failed_reads failed_changes self.old self.new };
 
     /// The size of a file in bytes. Answers `Absent`, `IsFolder` or `Link` where no file is there.
     fn size(&mut self, path: &Path) -> Result<u64, TreeFault>
@@ -137,7 +141,7 @@ pub trait Tree {
             Meets HasFailed (size_of (file_of (entry_at (contents self.old) path.now))) result }
         ensures row { RefusesOnly file_faults result }
         ensures cause { Counts failed_reads failed_changes self.old self.new result }
-        ensures frame { OnlyReads contents calls failed_reads failed_changes self.old self.new };
+        ensures frame { OnlyReads contents calls stops failed_reads failed_changes self.old self.new };
 
     /// Fills `into` with the bytes of a file from the offset `at` on. Answers as `size` does, and
     /// then `PastEnd` where they reach past the file's end. What `into` holds after an error is
@@ -148,7 +152,7 @@ pub trait Tree {
             into.new result }
         ensures row { RefusesOnly range_faults result }
         ensures cause { Counts failed_reads failed_changes self.old self.new result }
-        ensures frame { OnlyReads contents calls failed_reads failed_changes self.old self.new };
+        ensures frame { OnlyReads contents calls stops failed_reads failed_changes self.old self.new };
 
     /// Writes over the bytes of a file from the offset `at` on, and past its end. Answers as `size`
     /// does, and then `PastEnd` where `at` is past the file's end. One that failed leaves open what
@@ -161,8 +165,10 @@ pub trait Tree {
         ensures row { RefusesOnly range_faults result }
         ensures made { IsTrue tells → Makes (ChangeCall.Write path.now at (length bytes.now))
             (state_by contents calls self.old) (state_by contents calls self.new) result }
+        ensures pending { IsTrue tells → Pends (ChangeCall.Write path.now at (length bytes.now))
+            (moment_by contents calls stops self.old) (moment_by contents calls stops self.new) result }
         ensures cause { Counts failed_changes failed_reads self.old self.new result }
-        ensures frame { Goes contents calls failed_reads failed_changes self.old self.new };
+        ensures frame { Goes contents calls stops failed_reads failed_changes self.old self.new };
 
     /// Cuts a file to a size in bytes. Answers as `size` does, and then `PastEnd` where the file is
     /// shorter. One that failed may have cut it.
@@ -176,8 +182,10 @@ pub trait Tree {
         ensures row { RefusesOnly range_faults result }
         ensures made { IsTrue tells → Makes (ChangeCall.Cut path.now size)
             (state_by contents calls self.old) (state_by contents calls self.new) result }
+        ensures pending { IsTrue tells → Pends (ChangeCall.Cut path.now size)
+            (moment_by contents calls stops self.old) (moment_by contents calls stops self.new) result }
         ensures cause { Counts failed_changes failed_reads self.old self.new result }
-        ensures frame { Goes contents calls failed_reads failed_changes self.old self.new };
+        ensures frame { Goes contents calls stops failed_reads failed_changes self.old self.new };
 
     /// Makes an empty file. Answers `Exists` where an entry is there, and then `Absent`,
     /// `NotFolder` or `Link` where it would not lie in a folder. One that failed may have made it.
@@ -189,8 +197,10 @@ pub trait Tree {
         ensures row { RefusesOnly make_faults result }
         ensures made { IsTrue tells → Makes (ChangeCall.MakeFile path.now)
             (state_by contents calls self.old) (state_by contents calls self.new) result }
+        ensures pending { IsTrue tells → Pends (ChangeCall.MakeFile path.now)
+            (moment_by contents calls stops self.old) (moment_by contents calls stops self.new) result }
         ensures cause { Counts failed_changes failed_reads self.old self.new result }
-        ensures frame { Goes contents calls failed_reads failed_changes self.old self.new };
+        ensures frame { Goes contents calls stops failed_reads failed_changes self.old self.new };
 
     /// Makes an empty folder, with the refusals of `make_file`. One that failed may have made it.
     fn make_folder(&mut self, path: &Path) -> Result<(), TreeFault>
@@ -201,8 +211,10 @@ pub trait Tree {
         ensures row { RefusesOnly make_faults result }
         ensures made { IsTrue tells → Makes (ChangeCall.MakeFolder path.now)
             (state_by contents calls self.old) (state_by contents calls self.new) result }
+        ensures pending { IsTrue tells → Pends (ChangeCall.MakeFolder path.now)
+            (moment_by contents calls stops self.old) (moment_by contents calls stops self.new) result }
         ensures cause { Counts failed_changes failed_reads self.old self.new result }
-        ensures frame { Goes contents calls failed_reads failed_changes self.old self.new };
+        ensures frame { Goes contents calls stops failed_reads failed_changes self.old self.new };
 
     /// Removes a file or an empty folder. Answers `Absent` where nothing is there, `NotEmpty` where
     /// a folder holds something, is the root or the current folder, and `Link`. One that failed may
@@ -215,8 +227,10 @@ pub trait Tree {
         ensures row { RefusesOnly remove_faults result }
         ensures made { IsTrue tells → Makes (ChangeCall.Remove path.now)
             (state_by contents calls self.old) (state_by contents calls self.new) result }
+        ensures pending { IsTrue tells → Pends (ChangeCall.Remove path.now)
+            (moment_by contents calls stops self.old) (moment_by contents calls stops self.new) result }
         ensures cause { Counts failed_changes failed_reads self.old self.new result }
-        ensures frame { Goes contents calls failed_reads failed_changes self.old self.new };
+        ensures frame { Goes contents calls stops failed_reads failed_changes self.old self.new };
 
     /// Makes all that was changed durable. It changes no contents.
     fn sync(&mut self) -> Result<(), TreeFault>
@@ -224,8 +238,10 @@ pub trait Tree {
         ensures row { RefusesOnly [] result }
         ensures made { IsTrue tells → Makes ChangeCall.Sync
             (state_by contents calls self.old) (state_by contents calls self.new) result }
+        ensures pending { IsTrue tells → Pends ChangeCall.Sync
+            (moment_by contents calls stops self.old) (moment_by contents calls stops self.new) result }
         ensures cause { Counts failed_changes failed_reads self.old self.new result }
-        ensures frame { Goes contents calls failed_reads failed_changes self.old self.new };
+        ensures frame { Goes contents calls stops failed_reads failed_changes self.old self.new };
 
     /// Whatever is there lies in a folder.
     ghost is_tree: { IsTrue tells → (tree : Self) → IsTree (contents tree) };

@@ -1,13 +1,11 @@
 -- Removals that are carried out one after another, each behind its line, over a tree that may not tell what it holds.
-use Rattle.std.proofs.Common.{◌≡◌, ◌≢◌, ◌∙◌, ◌++◌, ℕ, Bool, true, false, IsTrue, List, [], ◌∷◌, Option, None, Some, inl, inr, refl, sym, ap, subst, append-nil, arith}
+use Rattle.std.proofs.Common.{◌≡◌, ◌≢◌, ◌∙◌, ◌++◌, ℕ, Bool, true, false, IsTrue, List, [], ◌∷◌, Option, None, Some, inl, inr, refl, sym, ap, subst, append-nil}
 use Rattle.std.specs.FinMap.{remove}
 use Rattle.cluster_tree.specs.PathValue.{PathValue}
 use Rattle.cluster_tree.specs.Contents.{Contents}
 use Rattle.cluster_tree.specs.Change.{Removes}
 use Rattle.cluster_tree.specs.declared.tree.ChangeCall.{ChangeCall}
 use Rattle.cluster_tree.specs.declared.tree.ChangeCall.TheVariants.{Remove}
-use Rattle.cluster_tree.specs.Frame.{Came}
-use Rattle.cluster_tree.specs.declared.tree.Tree.{Ghosts}
 use Rattle.marked_runs.specs.Runs.{Runs}
 use Rattle.marked_runs.proofs.RunLemmas.{made-all, made-part}
 use Rattle.acts.specs.Acts.{Act, Do, Done, SinkFailed, WriteFailed, Sunk, Seen, seen, MakesAll, Begins, IsAfterChange, Performs, ends}
@@ -175,6 +173,3 @@ module _ {tells o e : Bool} {all : Contents → List Act} {start : Seen} where
           performs = (leads_as (ap (removals q.contents) none) q.leads).on Done _ tt (ends (inl refl));
         };
   }
-
-pub came_on : {F : Type 0} (t : Ghosts F) (a b c : F) → Came t a b → Came t b c → Came t a c
-came_on t a b c p q = record { run = λ first r. q.run first (p.run first r); reads = omega (arith, p.reads, q.reads); changes = omega (arith, p.changes, q.changes) }

@@ -1,15 +1,16 @@
 -- Where changing calls go.
-use Rattle.std.proofs.Common.{◌≡◌, Bool, true, List, Option, None, Some, Result, Ok, Err, sym, ap, subst, inl, inr, arith}
+use Rattle.std.proofs.Common.{◌≡◌, Bool, true, List, Option, None, Some, Result, Ok, Err, sym, ap, subst, inl, inr}
 use Rattle.cluster_tree.specs.PathValue.{PathValue}
 use Rattle.cluster_tree.specs.PathOrder.{path_eq}
 use Rattle.cluster_tree.specs.Contents.{Contents}
 use Rattle.cluster_tree.specs.Frame.{Reads, Came}
 use Rattle.cluster_tree.specs.Laws.{changed_path}
-use Rattle.cluster_tree.specs.Run.{State, state_by, Makes, Run}
+use Rattle.cluster_tree.specs.Run.{State, state_by, Makes}
 use Rattle.cluster_tree.specs.declared.tree.Tree.{Ghosts}
 use Rattle.cluster_tree.specs.declared.tree.ChangeCall.{ChangeCall}
 use Rattle.cluster_tree.specs.declared.tree.TreeFault.{TreeFault}
 use Rattle.cluster_tree.proofs.OrderLemmas.{path_eq-own}
+use Rattle.cluster_tree.proofs.RunLemmas.{came_read, came_on}
 use Rattle.file_edits.specs.Own.{is_on, is_own, GoesOn, Same, More, OnOwn}
 
 pub at-own : (path : PathValue) → path_eq path path ≡ true
@@ -46,11 +47,7 @@ pub own-on : {F : Type 0} (calls : F → List ChangeCall) (own : PathValue → B
 own-on calls own a b c p q first on = q first (p first on)
 
 pub came-read : {F : Type 0} (t : Ghosts F) (a b : F) → Reads t a b → Came t a b
-came-read t a b reads = record {
-  run = λ first r. subst (Run first) (λ i. record { contents = sym reads.same i; calls = sym reads.uncalled i }) r;
-  reads = reads.reads;
-  changes = omega (arith, reads.changes);
-}
+came-read = came_read
 
 pub came-on : {F : Type 0} (t : Ghosts F) (a b c : F) → Came t a b → Came t b c → Came t a c
-came-on t a b c p q = record { run = λ first r. q.run first (p.run first r); reads = omega (arith, p.reads, q.reads); changes = omega (arith, p.changes, q.changes) }
+came-on = came_on

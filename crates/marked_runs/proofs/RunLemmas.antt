@@ -77,7 +77,7 @@ or_false : (b : Bool) → (b || false) ≡ false → b ≡ false
 or_false true e = e
 or_false false e = e
 
-off_path : (x : Change) (p : PathValue) → is_on p x ≡ false → changed_path (call_of x) ≢ Some p
+pub off_path : (x : Change) (p : PathValue) → is_on p x ≡ false → changed_path (call_of x) ≢ Some p
 off_path (Writes path at bytes) p off = apart_from p path off
 off_path (Cuts path size) p off = apart_from p path off
 off_path (MakesFile path) p off = apart_from p path off

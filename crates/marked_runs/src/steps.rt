@@ -4,6 +4,7 @@ ghost use Rattle.cluster_tree.specs.Causes.{Rose};
 ghost use Rattle.cluster_tree.specs.Change.{Cuts, MakesFile, MakesFolder, Removes, Syncs, Writes};
 ghost use Rattle.cluster_tree.specs.Frame.{Came};
 ghost use Rattle.marked_runs.specs.Carried.{Carries};
+ghost use Rattle.marked_runs.specs.Moments.{Took};
 ghost use Rattle.marked_runs.specs.Settled.{settled};
 
 use crate::StepFault;
@@ -24,6 +25,7 @@ fn settled(done: Result<(), TreeFault>) -> Result<(), StepFault>
 /// where the tree refuses it.
 pub fn remove_entry<F: Tree>(tree: &mut F, path: &Path) -> Result<(), StepFault>
     ensures carries { Carries F.Tree (Removes path.now ∷ []) tree.old tree.new result }
+    ensures took { Took F.Tree (Removes path.now) tree.old tree.new result }
     ensures frame { Came F.Tree tree.old tree.new }
     ensures read_fault { result ≢ Err StepFault.ReadFault }
     ensures write_fault { IsErrOf result StepFault.WriteFault →
@@ -84,6 +86,7 @@ pub(crate) fn make_file<F: Tree>(tree: &mut F, path: &Path) -> Result<(), StepFa
 /// Makes all that was changed durable, with the answers of `remove_entry`.
 pub(crate) fn sync<F: Tree>(tree: &mut F) -> Result<(), StepFault>
     ensures carries { Carries F.Tree (Syncs ∷ []) tree.old tree.new result }
+    ensures took { Took F.Tree Syncs tree.old tree.new result }
     ensures frame { Came F.Tree tree.old tree.new }
     ensures read_fault { result ≢ Err StepFault.ReadFault }
     ensures write_fault { IsErrOf result StepFault.WriteFault →

@@ -1,9 +1,10 @@
 -- The records of a log that is read off bytes are of bytes.
-use Rattle.std.proofs.Common.{◌≡◌, ℕ, zero, suc, ◌+◌, ◌-◌, ◌%◌, ◌^◌, ◌<◌, nat_lt, nat_le, Bool, true, false, List, [], ◌∷◌, ◌++◌, length, take, drop, Option, None, Some, Result, Ok, Err, refl, ap, subst, ◌∙◌, arith}
+use Rattle.std.proofs.Common.{◌≡◌, ℕ, zero, suc, ◌+◌, ◌-◌, ◌%◌, ◌^◌, ◌<◌, nat_lt, nat_le, Bool, true, false, List, [], ◌∷◌, ◌++◌, length, take, drop, Option, None, Some, Result, Ok, Err, refl, ap, sym, subst, ◌∙◌, arith}
 use Rattle.std.specs.Prelude.{if◌then◌else◌}
 use Rattle.std.specs.List.{AllByRecursion, flat_map}
 use Rattle.cluster_tree.specs.Contents.{Contents, Entry, FileEntry, FolderEntry, LinkEntry, entry_at}
 use Rattle.cluster_tree.specs.PathValue.{PathValue, below}
+use Rattle.clusters.specs.Roots.{wal_folder}
 use Rattle.layout.specs.Readers.{u32_at}
 use Rattle.layout_readers.specs.Rows.{AreBytes}
 use Rattle.wal_base.specs.Segment.{bytes_of, name_of}
@@ -64,20 +65,22 @@ OkPage page = Ok page
 one_page : (p q : List ℕ) → OkPage p ≡ OkPage q → p ≡ q
 one_page p q e = cc
 
-file_small : (c : Contents) (path : PathValue) (bytes : List ℕ) → HoldsBytes c → file_in (entry_at c path) ≡ Some bytes → Small bytes
+file_small : (c : Contents) (path : PathValue) (bytes : List ℕ) → ((own : List ℕ) → entry_at c path ≡ Some (FileEntry own) → AreBytes own) → file_in (entry_at c path) ≡ Some bytes → Small bytes
 file_small c path bytes holds is = by (entry_at c path) refl is
   where
     by : (o : Option Entry) → entry_at c path ≡ o → file_in o ≡ Some bytes → Small bytes
     by None there e = absurd cc
     by (Some (FolderEntry bad)) there e = absurd cc
-    by (Some (FileEntry own)) there e = let same : own ≡ bytes = cc in small bytes (holds path bytes (there ∙ ap (λ b. Some (FileEntry b)) same))
+    by (Some (FileEntry own)) there e = let same : own ≡ bytes = cc in small bytes (holds bytes (there ∙ ap (λ b. Some (FileEntry b)) same))
     by (Some LinkEntry) there e = absurd cc
 
-segment_small : (log : LogPath) (c : Contents) (at : ℕ) (bytes : List ℕ) → HoldsBytes c → segment_bytes log (folder_of c log.folder) at ≡ Some bytes → Small bytes
-segment_small log c at bytes holds is = by (nat_lt at (2 ^ 64)) is
+segment_small : (log : LogPath) (c : Contents) (root : PathValue) (at : ℕ) (bytes : List ℕ) → log.folder ≡ wal_folder root → HoldsBytes c root → segment_bytes log (folder_of c log.folder) at ≡ Some bytes → Small bytes
+segment_small log c root at bytes lies holds is = by (nat_lt at (2 ^ 64)) is
   where
     by : (b : Bool) → (if b then folder_of c log.folder (name_of (segment_at log at)) else None) ≡ Some bytes → Small bytes
-    by true e = file_small c (below log.folder (name_of (segment_at log at) ∷ [])) bytes holds e
+    by true e =
+        file_small c (below log.folder (name_of (segment_at log at) ∷ [])) bytes
+        (λ own there. holds (name_of (segment_at log at)) own (ap (λ f. entry_at c (below f (name_of (segment_at log at) ∷ []))) (sym lies) ∙ there)) e
     by false e = absurd cc
 
 taken_small : (log : LogPath) (offset at : ℕ) (o : Option (List ℕ)) (page : List ℕ) → ((bytes : List ℕ) → o ≡ Some bytes → Small bytes) → bytes_from (segment_at log at) offset o ≡ Ok page → Small page
@@ -92,13 +95,13 @@ good : (at : ℕ) (p page : List ℕ) (o : Option PageField) → unless_bad at p
 good at p page None e = one_page p page e
 good at p page (Some field) e = absurd cc
 
-pub pages-small : (log : LogPath) (c : Contents) → HoldsBytes c → AreSmall (pages_of log c)
+pub pages-small : (log : LogPath) (c : Contents) (root : PathValue) → log.folder ≡ wal_folder root → HoldsBytes c root → AreSmall (pages_of log c)
 unfolding page_at
-pages-small log c holds at page made =
+pages-small log c root lies holds at page made =
     let offset : ℕ = at % bytes_of log.size in
     let two = given-ok (bytes_from (segment_at log at) offset (segment_bytes log (folder_of c log.folder) at)) (λ p. unless_bad at p (first_bad_field log at p)) page made in
     subst Small (good at two.0 page (first_bad_field log at two.0) two.2)
-    (taken_small log offset at (segment_bytes log (folder_of c log.folder) at) two.0 (λ bytes is. segment_small log c at bytes holds is) two.1)
+    (taken_small log offset at (segment_bytes log (folder_of c log.folder) at) two.0 (λ bytes is. segment_small log c root at bytes lies holds is) two.1)
 
 -- records
 

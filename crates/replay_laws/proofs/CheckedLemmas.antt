@@ -1,5 +1,5 @@
 -- The log of a cluster that was checked before a replay is one of records that replay takes.
-use Rattle.std.proofs.Common.{◌≡◌, List, [], ◌∷◌, Option, None, Some, Result, Ok, refl, subst, arith}
+use Rattle.std.proofs.Common.{◌≡◌, List, [], ◌∷◌, Option, None, Some, Result, Ok, refl, ap, sym, subst, arith}
 use Rattle.std.specs.Option.{option_map}
 use Rattle.backup_label.specs.declared.reading.LabelPlaces.{LabelPlaces}
 use Rattle.cluster_tree.specs.Causes.{first_of, given}
@@ -8,6 +8,8 @@ use Rattle.cluster_tree.specs.PathValue.{PathValue}
 use Rattle.clusters.specs.Marks.{unfinished}
 use Rattle.clusters.specs.RootControl.{control_at}
 use Rattle.clusters.specs.RootHistory.{history_at}
+use Rattle.clusters.specs.RootLog.{log_at}
+use Rattle.clusters.specs.Roots.{wal_folder}
 use Rattle.control_file.specs.Reading.{timeline_of}
 use Rattle.control_file.specs.declared.control.Control.{Control}
 use Rattle.replay_profile.specs.Profile.{first_outside}
@@ -17,6 +19,9 @@ use Rattle.replay_start.specs.Faults.{of_cluster, of_profile, told_by}
 use Rattle.replay_start.specs.Scanned.{log_refusal}
 use Rattle.replay_start.specs.declared.fault.ReplayFault.{ReplayFault}
 use Rattle.wal_base.specs.Segment.{bytes_of}
+use Rattle.wal_base.specs.SizeOfBytes.{size_of_bytes}
+use Rattle.wal_base.specs.declared.seg_size.SegSize.{SegSize}
+use Rattle.wal_base.specs.declared.spans.Span.{Span}
 use Rattle.wal_pages.specs.declared.log_path.LogPath.{LogPath}
 use Rattle.wal_records.specs.Further.{pages_of}
 use Rattle.wal_records.specs.Log.{log_of}
@@ -47,20 +52,25 @@ OkStart start = Ok start
 one_start : (a b : Start) → OkStart a ≡ OkStart b → a ≡ b
 one_start a b e = cc
 
-module _ (c : Contents) (root : PathValue) (start : Start) (holds : HoldsBytes c) where
+-- a log lies in the folder of its cluster's log
+log_lies : (root : PathValue) (spans : List Span) (size : Option SegSize) (log : LogPath) → option_map (log_at root spans) size ≡ Some log → log.folder ≡ wal_folder root
+log_lies root spans None log e = absurd cc
+log_lies root spans (Some size) log e = let same : log_at root spans size ≡ log = cc in ap (λ (l : LogPath). l.folder) (sym same)
+
+module _ (c : Contents) (root : PathValue) (start : Start) (holds : HoldsBytes c root) where
   abbrev Taken : Start → Type 0
   Taken s = AreTaken s.label.start.0 s.records
 
-  log_taken : (control : Control) (label : LabelPlaces) (o : Option LogPath) → in_log c root control label o ≡ Ok start → Taken start
-  log_taken control label None e = absurd cc
-  log_taken control label (Some log) e =
+  log_taken : (control : Control) (label : LabelPlaces) (o : Option LogPath) → ((log : LogPath) → o ≡ Some log → log.folder ≡ wal_folder root) → in_log c root control label o ≡ Ok start → Taken start
+  log_taken control label None lies e = absurd cc
+  log_taken control label (Some log) lies e =
       let at = label.start.0 in
       let size = bytes_of log.size in
       let records : List LogRecord = (log_of (pages_of log c) size at).records in
       let two = not-refused (log_refusal root control label records) _ start e in
       subst Taken (one_start (record { control = control; label = label; log = log; records = records }) start two.1) (record {
         judged = none_outside root control label records two.0;
-        bytes = log-bytes (pages_of log c) (pages-small log c holds) size None (place_at size at);
+        bytes = log-bytes (pages_of log c) (pages-small log c root (lies log refl) holds) size None (place_at size at);
         order = log_in_order (pages_of log c) size at (place_at size at) None (omega (arith, log.size.is_size.least)) (place_at_up size at);
       })
 
@@ -68,7 +78,7 @@ module _ (c : Contents) (root : PathValue) (start : Start) (holds : HoldsBytes c
   unfolding from_label
   label_taken control label e =
       let spans = given-ok (told_by (history_at c root (timeline_of control))) (λ spans. in_log c root control label (log_with root control spans)) start e in
-      log_taken control label (log_with root control spans.0) spans.2
+      log_taken control label (log_with root control spans.0) (log_lies root spans.0 (size_of_bytes control.walSegSize)) spans.2
 
   control_taken : (control : Control) → from_control c root control ≡ Ok start → Taken start
   unfolding from_control

@@ -44,4 +44,4 @@ RunsWhole = (root : PathValue) (per_file start : ℕ) (records : List LogRecord)
 -- the log of a cluster that passes every check before a replay is one of records that replay takes
 abbrev pub StartIsTaken : Type 0
 StartIsTaken = (c : Contents) (root : PathValue) (start : Start)
-    → HoldsBytes c → start_of c root ≡ Ok start → AreTaken start.label.start.0 start.records
+    → HoldsBytes c root → start_of c root ≡ Ok start → AreTaken start.label.start.0 start.records

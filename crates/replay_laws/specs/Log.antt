@@ -1,13 +1,14 @@
 -- Records that a replay takes, and a log as one block meets it: PostgreSQL 16, src/backend/access/transam/xlogrecovery.c,
 -- PerformWalRecovery. Own: "The profile of replay", "A replay, seen on one block".
-use Rattle.std.specs.Prelude.{◌≡◌, ◌<◌, ℕ, List, map, None, Some, Ok}
+use Rattle.std.specs.Prelude.{◌≡◌, ◌<◌, ℕ, List, [], ◌∷◌, map, None, Some, Ok}
 use Rattle.std.specs.List.{AllByRecursion}
 use Rattle.block_effects.specs.Lives.{Split, steps_of}
 use Rattle.block_refs.specs.Outcomes.{record_parts}
 use Rattle.block_refs.specs.Parts.{PartsView}
 use Rattle.block_refs.specs.declared.names.BlockName.{BlockName}
 use Rattle.cluster_tree.specs.Contents.{Contents, FileEntry, entry_at}
-use Rattle.cluster_tree.specs.PathValue.{PathValue}
+use Rattle.cluster_tree.specs.PathValue.{PathValue, below}
+use Rattle.clusters.specs.Roots.{wal_folder}
 use Rattle.layout_readers.specs.Rows.{AreBytes}
 use Rattle.record_effects.specs.Managers.{rules_of}
 use Rattle.replay_law.specs.Effect.{Step}
@@ -31,9 +32,9 @@ pub record AreTaken (start : ℕ) (records : List LogRecord) : Type 0 where
   pub bytes : AllByRecursion HasBytes records
   pub order : AreInOrder start records
 
--- each file holds bytes
-abbrev pub HoldsBytes : Contents → Type 0
-HoldsBytes c = (path : PathValue) (bytes : List ℕ) → entry_at c path ≡ Some (FileEntry bytes) → AreBytes bytes
+-- each file in the folder of a cluster's log holds bytes
+abbrev pub HoldsBytes : Contents → PathValue → Type 0
+HoldsBytes c root = (name bytes : List ℕ) → entry_at c (below (wal_folder root) (name ∷ [])) ≡ Some (FileEntry bytes) → AreBytes bytes
 
 -- a record with the parts that replay reads of it
 abbrev pub split_of : LogRecord → Split

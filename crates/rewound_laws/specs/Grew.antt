@@ -24,12 +24,12 @@ use Rattle.storage_laws.specs.Names.{IsRel}
 use Rattle.storage_laws.specs.States.{block_in, page_in}
 use Rattle.rewound_laws.specs.Alike.{IsRoomy}
 
--- The log that a whole copy of the source replays. The copy stands in a tree of files of bytes, as every tree of files is, and passes every check
--- before a replay: hints were logged, pages have no checksums, and the log is of the profile, has the common checkpoint and doesn't end too soon.
+-- The log that a whole copy of the source replays. The copy stands in a tree of files, whose log's files hold bytes, as every file does, and passes every
+-- check before a replay: hints were logged, pages have no checksums, and the log is of the profile, has the common checkpoint and doesn't end too soon.
 -- Its records say enough.
 pub record HasLog (d : Contents) (other : PathValue) (s : Start) : Type 0 where
   pub tree : IsTree d
-  pub bytes : HoldsBytes d
+  pub bytes : HoldsBytes d other
   pub starts : start_of d other ≡ Ok s
   pub enough : ¬ (SomeLacksLayout s.records)
 

@@ -14,4 +14,6 @@ mod rows;
 #[cfg(test)]
 mod silent;
 #[cfg(test)]
+mod stops;
+#[cfg(test)]
 mod trees;

@@ -1,6 +1,7 @@
 use Rattle.std.proofs.Common.{arith, refl, rules}
 use Rattle.run_acts.proofs.UnseenSteps.{unseen_start}
-use Rattle.cmd_archivecleanup.proofs.RemovalLemmas.{all_removed, came_on, files_from, removed_from, unremoved_from, untold_from}
+use Rattle.cluster_tree.proofs.RunLemmas.{came_on}
+use Rattle.cmd_archivecleanup.proofs.RemovalLemmas.{all_removed, files_from, removed_from, unremoved_from, untold_from}
 use Rattle.cmd_archivecleanup.proofs.removing.remove_all.Goals as goal
 
 pub returns-in-Err-clause-performs : goal.returns-in-Err-clause-performs

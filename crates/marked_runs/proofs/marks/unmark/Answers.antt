@@ -1,6 +1,7 @@
 use Rattle.std.proofs.Common.{[], ◌∷◌}
 use Rattle.cluster_tree.specs.Change.{Removes, Syncs}
 use Rattle.marked_runs.proofs.CarriedLemmas.{carried-front, carried-then}
+use Rattle.marked_runs.proofs.MarkLemmas.{unmark-broken, unmark-left, unmark-synced}
 use Rattle.marked_runs.proofs.marks.unmark.Goals as goal
 
 pub returns-in-Ok-clause-carries : goal.returns-in-Ok-clause-carries
@@ -8,3 +9,12 @@ returns-in-Ok-clause-carries g c = carried-then g.F.Tree (Removes c.args.mark.no
 
 pub returns-in-Err-clause-carries : goal.returns-in-Err-clause-carries
 returns-in-Err-clause-carries g c = carried-front g.F.Tree (Removes c.args.mark.now ∷ []) (Syncs ∷ []) _ _ _ c.in-Err.ensures.carries
+
+pub returns-in-Ok-clause-any_moment : goal.returns-in-Ok-clause-any_moment
+returns-in-Ok-clause-any_moment g c = λ told synced. unmark-left g.F.Tree c.args.mark.now told _ _ _ _ _ synced c.in-Ok.ensures.took c.sync.ensures.took
+
+pub returns-in-Ok-clause-synced : goal.returns-in-Ok-clause-synced
+returns-in-Ok-clause-synced g c = λ told none. unmark-synced g.F.Tree c.args.mark.now told _ _ _ _ _ none c.in-Ok.ensures.carries c.sync.ensures.took
+
+pub returns-in-Err-clause-any_moment : goal.returns-in-Err-clause-any_moment
+returns-in-Err-clause-any_moment g c = λ told synced. unmark-broken g.F.Tree c.args.mark.now told _ _ c.in-Err.e synced c.in-Err.ensures.took

@@ -13,7 +13,7 @@ pub loop-at-init : goal.loop-at-init
 loop-at-init g c = record {
   added = sym (append-nil c.args.gone.now.items);
   none = λ told. kinds_none (g.F.Tree.contents c.args.tree.now) [] refl;
-  reads = record { same = refl; uncalled = refl; reads = omega arith; changes = refl };
+  reads = record { same = refl; uncalled = refl; unstopped = refl; reads = omega arith; changes = refl };
 }
 
 pub unreachable-requires : goal.unreachable-requires

@@ -1,15 +1,24 @@
 use Rattle.std.proofs.Common.{arith, refl}
 use Rattle.cluster_tree.specs.Memory.{contents_of}
-use Rattle.cluster_tree.proofs.RunLemmas.{run_made, made_by, kept_by}
+use Rattle.cluster_tree.specs.Run.{Happens, Occurs}
+use Rattle.cluster_tree.proofs.RunLemmas.{calls_made, made_of, pends_by, kept_by}
 use Rattle.cluster_tree.specs.declared.tree.ChangeCall.TheVariants as call
-use Rattle.cluster_tree.proofs.TreeLemmas.{step-tree}
+use Rattle.cluster_tree.proofs.SoundLemmas.{sound-made}
 use Rattle.cluster_tree.proofs.memory.MemoryTreeTree.cut.Goals as goal
 
 pub invariant_of-self : goal.invariant_of-self
-invariant_of-self c = record { rooted = step-tree (call.Cut c.args.path.now c.args.size) _ _ c.args.self.now.rooted c.cut_in-done.ensures.step }
+invariant_of-self c = record { sound = sound-made (call.Cut c.args.path.now c.args.size) c.cut_in-done.result _ _ _ _ c.args.self.now.sound c.cut_in-done.ensures.step (kept_by contents_of _ _ c.cut_in-done.result c.cut_in-done.ensures.kept) c.cut_in-done.ensures.pending c.cut_in-done.ensures.unpending }
+
+pub returns-clause-pending : goal.returns-clause-pending
+returns-clause-pending c told = pends_by _ _ (call.Cut c.args.path.now c.args.size) _ _ c.cut_in-done.result c.counted.result c.counted.ensures.done c.counted.ensures.undone c.cut_in-done.ensures.step (kept_by contents_of _ _ c.cut_in-done.result c.cut_in-done.ensures.kept) c.cut_in-done.ensures.listed c.cut_in-done.ensures.unlisted c.cut_in-done.ensures.pending c.cut_in-done.ensures.unpending
 
 pub returns-clause-made : goal.returns-clause-made
-returns-clause-made c told = made_by _ _ (call.Cut c.args.path.now c.args.size) _ _ c.cut_in-done.result c.counted.result c.counted.ensures.done c.counted.ensures.undone c.cut_in-done.ensures.step c.cut_in-done.ensures.listed c.cut_in-done.ensures.unlisted (kept_by contents_of _ _ _ c.cut_in-done.ensures.kept)
+returns-clause-made c told = made_of (call.Cut c.args.path.now c.args.size) _ _ c.counted.result (returns-clause-pending c told)
 
 pub returns-clause-frame : goal.returns-clause-frame
-returns-clause-frame c = record { run = λ first r. run_made first _ _ (call.Cut c.args.path.now c.args.size) c.counted.result r (returns-clause-made c refl); reads = omega arith; changes = omega arith }
+returns-clause-frame c = record {
+  run = λ first r. calls_made Happens first _ _ (call.Cut c.args.path.now c.args.size) c.counted.result r (returns-clause-made c refl);
+  course = λ first r. calls_made Occurs first _ _ (call.Cut c.args.path.now c.args.size) c.counted.result r (returns-clause-pending c refl);
+  reads = omega arith;
+  changes = omega arith;
+}
