@@ -3,3 +3,4 @@ pub mod Answers
 pub mod Leaves
 pub mod Converges
 pub mod Runs
+pub mod Stopped

@@ -1,7 +1,8 @@
 // A command, carried out.
 ghost use Rattle.std.specs.Prelude.{◌≡◌, ◌≢◌, ◌⊎◌, Err, IfErr, IsTrue, Ok, OnOk, Some};
-ghost use Rattle.cluster_tree.specs.Frame.{Came, Reads};
+ghost use Rattle.cluster_tree.specs.Frame.{Came, Reads, moment_of};
 ghost use Rattle.cluster_tree.specs.PathValue.{PathValue};
+ghost use Rattle.cluster_tree.specs.Stops.{LeavesOnly};
 ghost use Rattle.commands.specs.Fit.{IsFit};
 ghost use Rattle.acts.specs.Acts.{seen, sunk};
 ghost use Rattle.run_acts.specs.Answers.{Blames};
@@ -9,6 +10,7 @@ ghost use Rattle.run_acts.specs.Causes.{cause_of, is_deep, is_of_files};
 ghost use Rattle.run_acts.specs.Unseen.{CarriesUnseen};
 ghost use Rattle.wal_tools.specs.Answers.{IsAnswer, answered};
 ghost use Rattle.wal_tools.specs.Leaves.{LeavesAsked, StaysAsked};
+ghost use Rattle.wal_tools.specs.Stopped.{IsLeftAsked};
 ghost use Rattle.wal_tools.specs.Words.{AreFaulty, IsSeen, MayChange, NeedsNoTree, Walks, refused_by_words};
 
 use cluster_tree::{Sink, Tree};
@@ -62,6 +64,9 @@ pub(crate) fn carry_out<F: Tree, O: Sink, E: Sink>(
         (O.written out.old) (O.written out.new)) }
     ensures stays { IsTrue F.tells →
         StaysAsked (Ok command.now) (F.contents tree.old) (F.contents tree.new) (cause_of result) }
+    ensures stops { IsTrue F.tells →
+        LeavesOnly (IsLeftAsked (Ok command.now) now (moment_of F.Tree tree.old))
+        (F.stops tree.old) (F.stops tree.new) }
 {
     match command {
         Command::Rewind(words) => rewind(alloc, tree, err, words, now),

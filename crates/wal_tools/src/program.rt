@@ -1,7 +1,8 @@
 // The top call.
 ghost use Rattle.std.specs.Prelude.{◌≡◌, ◌≢◌, ◌⊎◌, Err, IsTrue, None, OnOk, Some, map, string_bytes};
-ghost use Rattle.cluster_tree.specs.Frame.{Came, Reads};
+ghost use Rattle.cluster_tree.specs.Frame.{Came, Reads, moment_of};
 ghost use Rattle.cluster_tree.specs.PathValue.{PathValue};
+ghost use Rattle.cluster_tree.specs.Stops.{LeavesOnly};
 ghost use Rattle.commands.specs.Name.{name_of};
 ghost use Rattle.tool_words.specs.Command.{command_of};
 ghost use Rattle.acts.specs.Acts.{seen, sunk};
@@ -13,6 +14,7 @@ ghost use Rattle.wal_tools.specs.Answers.{IsAnswer, answered};
 ghost use Rattle.wal_tools.specs.Converges.{ConvergesAsked};
 ghost use Rattle.wal_tools.specs.Leaves.{LeavesAsked, StaysAsked};
 ghost use Rattle.wal_tools.specs.Runs.{Runs};
+ghost use Rattle.wal_tools.specs.Stopped.{IsLeftAsked};
 ghost use Rattle.wal_tools.specs.Words.{AreFaulty, IsSeen, MayChange, NeedsNoTree, Walks, refused_by_words};
 
 use crate::commanded::carry_out;
@@ -67,6 +69,9 @@ fn answer<F: Tree, O: Sink, E: Sink>(
         (F.contents tree.new) (O.written out.old) (O.written out.new)) }
     ensures stays { IsTrue F.tells → StaysAsked (command_of (map string_bytes words.now))
         (F.contents tree.old) (F.contents tree.new) (cause_of result) }
+    ensures stops { IsTrue F.tells → LeavesOnly (IsLeftAsked
+        (command_of (map string_bytes words.now)) now (moment_of F.Tree tree.old))
+        (F.stops tree.old) (F.stops tree.new) }
     ensures built { result ≡ Err Cause.NotBuilt →
         refused_by_words (command_of (map string_bytes words.now)) ≡ Some Cause.NotBuilt }
     ensures undone { result ≢ Err Cause.Done }
@@ -140,6 +145,10 @@ pub fn run<F: Tree, O: Sink, E: Sink>(
     // whatever its cause, a replay leaves the log, and a refusal behind its first change the mark
     ensures stays { IsTrue F.tells → StaysAsked (command_of (map string_bytes words.now))
         (F.contents tree.old) (F.contents tree.new) result.cause }
+    // a stop at any moment leaves a cluster untouched, marked as unfinished or whole
+    ensures stops { IsTrue F.tells → LeavesOnly (IsLeftAsked
+        (command_of (map string_bytes words.now)) now (moment_of F.Tree tree.old))
+        (F.stops tree.old) (F.stops tree.new) }
 
     // what the words alone decide, over every tree
     ensures usage { result.cause ≡ Cause.Usage →

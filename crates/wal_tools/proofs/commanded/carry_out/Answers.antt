@@ -1,7 +1,9 @@
 use Rattle.std.proofs.Common.{FitsSigned, Ok, rules, w64}
 use Rattle.std.proofs.lemmas.Int.{to_z-of_z}
 use Rattle.acts.specs.Acts.{sunk}
+use Rattle.cluster_tree.specs.Frame.{moment_of}
 use Rattle.wal_tools.proofs.RunLemmas.{at_time, dried_cleanup, dried_reset, dried_rewind, of_archivecleanup, of_controldata, of_resetwal, of_rewind, of_waldump, of_walcompare, of_walreplay, replay_may, replayed_at, rewound_at, same_at, stays_at}
+use Rattle.wal_tools.proofs.StopLemmas.{left_of_cleanup, left_of_replay, left_of_reset, left_of_rewind, read_left}
 use Rattle.wal_tools.proofs.commanded.carry_out.Goals as goal
 
 pub returns-in-Rewind-clause-carries : goal.returns-in-Rewind-clause-carries
@@ -91,3 +93,28 @@ pub returns-in-Walcompare-clause-leaves : goal.returns-in-Walcompare-clause-leav
 returns-in-Walcompare-clause-leaves g c t =
     same_at c.walcompare.result _ g.O.Sink.tells (g.F.Tree.contents c.args.tree.now) (g.F.Tree.contents c.walcompare.new.tree)
     (g.O.Sink.written c.args.out.now) (g.O.Sink.written c.walcompare.new.out) c.in-Walcompare.is (c.walcompare.ensures.same t)
+
+pub returns-in-Rewind-clause-stops : goal.returns-in-Rewind-clause-stops
+returns-in-Rewind-clause-stops g c t =
+    let fits : FitsSigned w64 c.args.now = search rules in
+    left_of_rewind (moment_of g.F.Tree c.args.tree.now) _ _ c.in-Rewind.is (to_z-of_z w64 c.args.now fits) (c.rewind.ensures.stops t)
+
+pub returns-in-Controldata-clause-stops : goal.returns-in-Controldata-clause-stops
+returns-in-Controldata-clause-stops g c t = read_left g.F.Tree _ _ c.args.tree.now c.controldata.new.tree c.controldata.ensures.reads
+
+pub returns-in-Waldump-clause-stops : goal.returns-in-Waldump-clause-stops
+returns-in-Waldump-clause-stops g c t = read_left g.F.Tree _ _ c.args.tree.now c.waldump.new.tree c.waldump.ensures.reads
+
+pub returns-in-Resetwal-clause-stops : goal.returns-in-Resetwal-clause-stops
+returns-in-Resetwal-clause-stops g c t =
+    let fits : FitsSigned w64 c.args.now = search rules in
+    left_of_reset (moment_of g.F.Tree c.args.tree.now) _ _ c.in-Resetwal.is (to_z-of_z w64 c.args.now fits) (c.resetwal.ensures.stops t)
+
+pub returns-in-Archivecleanup-clause-stops : goal.returns-in-Archivecleanup-clause-stops
+returns-in-Archivecleanup-clause-stops g c t = left_of_cleanup _ _ _ _ c.in-Archivecleanup.is
+
+pub returns-in-Walreplay-clause-stops : goal.returns-in-Walreplay-clause-stops
+returns-in-Walreplay-clause-stops g c t = left_of_replay _ _ _ _ c.in-Walreplay.is (c.walreplay.ensures.stops t)
+
+pub returns-in-Walcompare-clause-stops : goal.returns-in-Walcompare-clause-stops
+returns-in-Walcompare-clause-stops g c t = read_left g.F.Tree _ _ c.args.tree.now c.walcompare.new.tree c.walcompare.ensures.reads

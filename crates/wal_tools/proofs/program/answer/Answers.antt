@@ -1,7 +1,9 @@
 use Rattle.std.proofs.Common.{FitsSigned, Ok, map, rules, string_bytes, w64}
 use Rattle.std.proofs.lemmas.Int.{to_z-of_z}
+use Rattle.cluster_tree.specs.Frame.{moment_of}
 use Rattle.tool_words.specs.Command.{command_of}
 use Rattle.wal_tools.proofs.RunLemmas.{at_time, no_words, of_command, stays_refused, stays_unmade, words_refused}
+use Rattle.wal_tools.proofs.StopLemmas.{left_at, left_of_command, still_left}
 use Rattle.wal_tools.proofs.program.answer.Goals as goal
 
 pub returns-in-Ok-clause-carries : goal.returns-in-Ok-clause-carries
@@ -22,3 +24,14 @@ returns-in-Err-OutOfMemory-clause-stays g c t = stays_unmade (command_of (map st
 pub returns-in-Err-clause-stays : goal.returns-in-Err-clause-stays
 returns-in-Err-clause-stays g c t =
     stays_refused c.in-Err.fault (command_of (map string_bytes c.args.words.now)) (g.F.Tree.contents c.args.tree.now) c.words_cause.ensures c.in-Err.ensures.answer
+
+pub returns-in-Ok-clause-stops : goal.returns-in-Ok-clause-stops
+returns-in-Ok-clause-stops g c t =
+    let fits : FitsSigned w64 c.args.now = search rules in
+    left_of_command _ _ _ _ _ c.in-Ok.ensures.answer (left_at (Ok c.in-Ok.command) _ _ _ (to_z-of_z w64 c.args.now fits) (c.carry_out.ensures.stops t))
+
+pub returns-in-Err-OutOfMemory-clause-stops : goal.returns-in-Err-OutOfMemory-clause-stops
+returns-in-Err-OutOfMemory-clause-stops g c t = still_left _ _ (moment_of g.F.Tree c.args.tree.now)
+
+pub returns-in-Err-clause-stops : goal.returns-in-Err-clause-stops
+returns-in-Err-clause-stops g c t = still_left _ _ (moment_of g.F.Tree c.args.tree.now)

@@ -6,6 +6,7 @@ use Rattle.tool_words.specs.Command.{command_of}
 use Rattle.cause_lines.specs.Lines.{line_of}
 use Rattle.wal_tools.specs.Runs.{Says}
 use Rattle.wal_tools.proofs.RunLemmas.{at_time, converges_left, exact_told, leaves_done, stays_told}
+use Rattle.wal_tools.proofs.StopLemmas.{left_at}
 use Rattle.wal_tools.proofs.program.run.Goals as goal
 
 pub returns-clause-exact : goal.returns-clause-exact
@@ -48,3 +49,8 @@ pub returns-clause-stays : goal.returns-clause-stays
 returns-clause-stays g c t =
     stays_told (command_of (map string_bytes c.args.words.now)) (g.F.Tree.contents c.args.tree.now) (g.F.Tree.contents c.answer-outcome.new.tree)
     c.cause_of.ensures c.finish.ensures.cause (c.answer-outcome.ensures.stays t)
+
+pub returns-clause-stops : goal.returns-clause-stops
+returns-clause-stops g c t =
+    let fits : FitsSigned w64 c.args.now = search rules in
+    left_at (command_of (map string_bytes c.args.words.now)) _ _ _ (to_z-of_z w64 c.args.now fits) (c.answer-outcome.ensures.stops t)
