@@ -226,7 +226,7 @@ module _ (c : Contents) (w : Between) (all : List Pair) (new : Control) (label :
   abbrev pub jobs : List Job
   jobs = plan_jobs c w all sides text (label_text label) (control_bytes new)
 
-  closing_is : closing_changes plan.label plan.control ≡ MakesFile (below w.target label_parts) ∷ Writes (below w.target label_parts) 0 (label_text label) ∷ Writes (below w.target control_parts) 0 (control_bytes new) ∷ []
+  pub closing_is : closing_changes plan.label plan.control ≡ MakesFile (below w.target label_parts) ∷ Writes (below w.target label_parts) 0 (label_text label) ∷ Writes (below w.target control_parts) 0 (control_bytes new) ∷ []
   closing_is =
       ap₂ (λ p b. MakesFile p ∷ Writes p 0 b ∷ Writes plan.control.path 0 plan.control.bytes.items ∷ []) of.label_at of.label_says
       ∙ ap₂ (λ p b. MakesFile (below w.target label_parts) ∷ Writes (below w.target label_parts) 0 (label_text label) ∷ Writes p 0 b ∷ []) of.control_at of.control_says

@@ -1,19 +1,15 @@
 -- What the steps of a plan read is there, and no change of the plan is on it.
-use Rattle.std.proofs.Common.{◌≡◌, ◌≢◌, ℕ, ◌+◌, ◌*◌, ◌/◌, ◌≤◌, Bool, true, false, ◌||◌, cond, nat_lt, List, [], ◌∷◌, ◌++◌, length, map, take, Option, None, Some, refl, sym, ap, ◌∙◌, subst, arith, rules}
+use Rattle.std.proofs.Common.{◌≡◌, ◌≢◌, ℕ, ◌+◌, ◌*◌, ◌/◌, ◌≤◌, Bool, true, false, cond, nat_lt, List, [], ◌∷◌, ◌++◌, length, map, take, Option, None, Some, refl, sym, ap, ◌∙◌, subst, arith, rules}
 use Rattle.std.specs.List.{list_any}
-use Rattle.std.proofs.lemmas.List.Folds.{list_any-append}
 use Rattle.std.proofs.Math.Seq.{take-append_seam}
 use Rattle.std.proofs.lemmas.List.{take-append-le}
 use Rattle.block_refs.specs.declared.names.RelName.{RelName}
 use Rattle.cluster_tree.specs.Apart.{AreApart}
-use Rattle.cluster_tree.specs.PathValue.{Holds, PathValue, below}
-use Rattle.cluster_tree.proofs.RootLemmas.{holds-below}
+use Rattle.cluster_tree.specs.PathValue.{PathValue, below}
 use Rattle.cluster_tree.specs.Contents.{Contents, FileEntry, entry_at, is_file}
 use Rattle.cluster_tree.specs.Change.{Change, is_on}
 use Rattle.cluster_tree.specs.Tree.{bytes_in}
-use Rattle.control_file.specs.Writing.{control_bytes}
 use Rattle.control_file.specs.declared.control.Control.{Control}
-use Rattle.backup_label.specs.Text.{label_text}
 use Rattle.backup_label.specs.declared.label.Label.{Label}
 use Rattle.file_walk.specs.Relations.{relation_of}
 use Rattle.file_walk.specs.declared.action.Action.{Action}
@@ -26,19 +22,13 @@ use Rattle.rewind_writes.specs.Steps.{FindAll, IsRead}
 use Rattle.rewind_writes.specs.declared.plan.Plan.{Plan}
 use Rattle.rewind_writes.specs.declared.step.Step.{Step}
 use Rattle.rewind_writes.specs.declared.step.Step.TheVariants.{Cut}
-use Rattle.rewind_plan.proofs.Jobs.{Job, JobsFit, Standing, after_job, changes_in}
 use Rattle.rewind_plan.specs.Blocks.{AllEnd, block_steps, is_copied, range_step, runs_of}
 use Rattle.rewind_plan.specs.declared.runs.Run.{Run}
 use Rattle.rewind_plan.specs.PlanOf.{IsPlanOf}
 use Rattle.rewind_plan.specs.Planned.{Between, action_of, all_file_steps, both_files, file_steps, folder_step, folder_steps, in_source, in_target, removal_step, removal_steps, steps_of, touched_steps, wants, whole_step}
-use Rattle.rewind_plan.specs.Sides.{AllPaired, IsKind, IsPaired, Sides, control_parts, label_parts, mark_parts}
+use Rattle.rewind_plan.specs.Sides.{AllPaired, IsKind, IsPaired, Sides}
 use Rattle.rewind_plan.proofs.BytesLemmas.{runs_end}
-use Rattle.rewind_plan.proofs.FinalLemmas.{changes-are, jobs, text}
-use Rattle.rewind_plan.proofs.Items.{Clears, Doing, Fills, Leaves, Makes, file_of, files, folder_of, folders, removal_of, removals}
-use Rattle.rewind_plan.proofs.ItemLemmas.{all_jobs}
-use Rattle.rewind_plan.proofs.JobLemmas.{owns-off}
-use Rattle.rewind_plan.proofs.PairLemmas.{doing_by, items_of}
-use Rattle.rewind_plan.proofs.PlanFit.{control_job, end_job, label_job, plan-fits}
+use Rattle.rewind_plan.proofs.OffLemmas.{off-plan}
 
 -- ---- paths below one root aren't below another one that is apart
 
@@ -57,62 +47,6 @@ apart-below target source xs ys apart e = by (nat_lt (length source.parts) (leng
     by : (b : Bool) → nat_lt (length source.parts) (length target.parts) ≡ b → ⊥
     by true is = let l : length source.parts ≤ length target.parts = grind (arith, rules, is) in apart.1 (record { mark = mark; prefix = prefix_of source.parts xs target.parts ys parts l })
     by false is = let l : length target.parts ≤ length source.parts = grind (arith, rules, is) in apart.0 (record { mark = sym mark; prefix = prefix_of target.parts ys source.parts xs (sym parts) l })
-
--- ---- all jobs of a plan are below the target's root
-
-abbrev Under : PathValue → Job → Type 0
-Under root job = (parts : List (List ℕ)) × (job.path ≡ below root parts)
-
-abbrev AllUnder : PathValue → List Job → Type 0
-AllUnder root [] = Unit {0}
-AllUnder root (job ∷ jobs) = Under root job × AllUnder root jobs
-
-under_both : (root : PathValue) (xs ys : List Job) → AllUnder root xs → AllUnder root ys → AllUnder root (xs ++ ys)
-under_both root [] ys one other = other
-under_both root (x ∷ xs) ys one other = (one.0, under_both root xs ys one.1 other)
-
-off_jobs : (root q : PathValue) (s : Standing) (xs : List Job) → ((parts : List (List ℕ)) → q ≢ below root parts) → JobsFit s xs → AllUnder root xs → list_any (is_on q) (changes_in xs) ≡ false
-off_jobs root q s [] off fit under = refl
-off_jobs root q s (x ∷ xs) off fit under =
-    list_any-append (is_on q) x.changes (changes_in xs)
-    ∙ ap (λ b. b || list_any (is_on q) (changes_in xs)) (owns-off x.path q x.changes (λ e. off under.0.0 (e ∙ under.0.1)) fit.0.own)
-    ∙ off_jobs root q (after_job s x) xs off fit.1 under.1
-
-module _ (c : Contents) (w : Between) where
-  folder_under : (x : Pair) (d : Doing) → AllUnder w.target (folder_of (in_target w x) d)
-  folder_under x Makes = ((x.path.parts, refl), tt)
-  folder_under x (Fills changes) = tt
-  folder_under x Clears = tt
-  folder_under x Leaves = tt
-
-  file_under : (x : Pair) (d : Doing) → AllUnder w.target (file_of (in_target w x) d)
-  file_under x Makes = tt
-  file_under x (Fills changes) = ((x.path.parts, refl), tt)
-  file_under x Clears = tt
-  file_under x Leaves = tt
-
-  removal_under : (x : Pair) (d : Doing) → AllUnder w.target (removal_of (in_target w x) d)
-  removal_under x Makes = tt
-  removal_under x (Fills changes) = tt
-  removal_under x Clears = ((x.path.parts, refl), tt)
-  removal_under x Leaves = tt
-
-  folders_under : (xs : List Pair) → AllUnder w.target (folders (items_of c w xs))
-  folders_under [] = tt
-  folders_under (x ∷ xs) = under_both w.target (folder_of (in_target w x) (doing_by c w x (action_of x))) (folders (items_of c w xs)) (folder_under x (doing_by c w x (action_of x))) (folders_under xs)
-
-  files_under : (xs : List Pair) → AllUnder w.target (files (items_of c w xs))
-  files_under [] = tt
-  files_under (x ∷ xs) = under_both w.target (file_of (in_target w x) (doing_by c w x (action_of x))) (files (items_of c w xs)) (file_under x (doing_by c w x (action_of x))) (files_under xs)
-
-  removals_under : (xs : List Pair) → AllUnder w.target (removals (items_of c w xs))
-  removals_under [] = tt
-  removals_under (x ∷ xs) = under_both w.target (removals (items_of c w xs)) (removal_of (in_target w x) (doing_by c w x (action_of x))) (removals_under xs) (removal_under x (doing_by c w x (action_of x)))
-
-  items_under : (xs : List Pair) → AllUnder w.target (all_jobs (items_of c w xs))
-  items_under xs =
-      under_both w.target (folders (items_of c w xs)) (files (items_of c w xs) ++ removals (items_of c w xs)) (folders_under xs)
-      (under_both w.target (files (items_of c w xs)) (removals (items_of c w xs)) (files_under xs) (removals_under xs))
 
 -- ---- what the steps read
 
@@ -201,20 +135,6 @@ module _ (c : Contents) (w : Between) (changes : List Change) (off : (parts : Li
   all_found xs paired =
       finds_both c changes (folder_steps w xs) (all_file_steps w xs ++ removal_steps w xs) (all_folders_found xs)
       (finds_both c changes (all_file_steps w xs) (removal_steps w xs) (all_files_found xs paired) (all_removals_found xs))
-
--- all that a plan changes lies below the target's root
-off-plan : (c : Contents) (w : Between) (all : List Pair) (new : Control) (label : Label) (plan : Plan) → Sides c w all → IsPlanOf w all new label plan
-    → (q : PathValue) → ((parts : List (List ℕ)) → q ≢ below w.target parts) → list_any (is_on q) (plan_changes c plan) ≡ false
-off-plan c w all new label plan sides of q off =
-    ap (list_any (is_on q)) (changes-are c w all new label plan sides of)
-    ∙ off_jobs w.target q (entry_at c) (jobs c w all new label plan sides of) off
-    (plan-fits c w all sides (text c w all new label plan sides of) (label_text label) (control_bytes new))
-    ((mark_parts, refl), under_both w.target (all_jobs (items_of c w all)) (label_job (below w.target label_parts) (label_text label) ∷ control_job (below w.target control_parts) (control_bytes new) ∷ end_job (below w.target mark_parts) ∷ []) (items_under c w all) ((label_parts, refl), ((control_parts, refl), ((mark_parts, refl), tt))))
-
-pub plan-below : (c : Contents) (w : Between) (all : List Pair) (new : Control) (label : Label) (plan : Plan) → Sides c w all → IsPlanOf w all new label plan
-    → (q : PathValue) → (Holds w.target q → ⊥) → list_any (is_on q) (plan_changes c plan) ≡ false
-plan-below c w all new label plan sides of q out =
-    off-plan c w all new label plan sides of q (λ parts is. out (subst (Holds w.target) (sym is) (holds-below w.target parts)))
 
 pub plan-found : (c : Contents) (w : Between) (all : List Pair) (new : Control) (label : Label) (plan : Plan) → Sides c w all → IsPlanOf w all new label plan → IsFound c plan
 plan-found c w all new label plan sides of =

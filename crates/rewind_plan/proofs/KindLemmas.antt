@@ -1,7 +1,6 @@
 -- What kinds and entries tell of each other, and small facts on lists.
 use Rattle.std.proofs.Common.{◌≡◌, ℕ, ◌==◌, Bool, true, false, ◌||◌, List, [], ◌∷◌, ◌++◌, length, Option, None, Some, is_some, refl, sym, ap, ◌∙◌, append_assoc, true≢false}
 use Rattle.cluster_tree.specs.Contents.{Contents, Entry, is_folder}
-use Rattle.file_walk.specs.declared.action.Action.TheVariants as action
 use Rattle.file_walk.specs.declared.entry.EntryKind.{EntryKind}
 use Rattle.file_walk.specs.declared.entry.EntryKind.TheVariants as kind
 use Rattle.file_walk.specs.declared.pair.Pair.{Pair}

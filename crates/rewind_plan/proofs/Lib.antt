@@ -21,6 +21,7 @@ pub mod CodeLemmas
 pub mod RoomLemmas
 pub mod RewoundLemmas
 pub mod FinalLemmas
+pub mod OffLemmas
 pub mod FoundLemmas
 pub mod FileRoom
 pub mod WalkLemmas

@@ -104,7 +104,7 @@ module _ (c : Contents) (w : Between) (all : List Pair) (sides : Sides c w all) 
   no_folder : (o : Option Entry) → o ≡ None → is_folder o ≡ true → ⊥
   no_folder o none h = true≢false (sym h ∙ ap is_folder none)
 
-  off_one : (x : Pair) → IsPaired c w x → IsOff mark (item_of c w x)
+  pub off_one : (x : Pair) → IsPaired c w x → IsOff mark (item_of c w x)
   off_one x paired = (
     λ e. let parts : x.path.parts ≡ mark_parts = below-same w.target x.path.parts mark_parts e in
         not_both x.target x.source

@@ -1,7 +1,8 @@
 -- What follows from the definitions, for callers. Own: "The plan of a rewind".
-use Rattle.std.specs.Prelude.{◌≡◌, ℕ, List, None}
+use Rattle.std.specs.Prelude.{◌≡◌, ℕ, false, List, None}
+use Rattle.std.specs.List.{list_any}
 use Rattle.cluster_tree.specs.Apart.{AreApart}
-use Rattle.cluster_tree.specs.Change.{all_changed, first_refusal}
+use Rattle.cluster_tree.specs.Change.{all_changed, first_refusal, is_on}
 use Rattle.cluster_tree.specs.Contents.{Contents, IsTree, entry_at}
 use Rattle.cluster_tree.specs.PathValue.{below}
 use Rattle.control_file.specs.declared.control.Control.{Control}
@@ -10,7 +11,7 @@ use Rattle.file_walk.specs.Pairs.{pairs_of}
 use Rattle.file_walk.specs.declared.entry.Entry.{Entry}
 use Rattle.file_walk.specs.declared.pair.Pair.{Pair}
 use Rattle.rewound_tree.specs.Rewound.{rewound}
-use Rattle.rewind_writes.specs.Plan.{IsFound, plan_changes}
+use Rattle.rewind_writes.specs.Plan.{IsFound, body_changes, plan_changes}
 use Rattle.rewind_writes.specs.declared.plan.Plan.{Plan}
 use Rattle.rewind_plan.specs.Checks.{first_difference}
 use Rattle.rewind_plan.specs.Planned.{Between}
@@ -33,6 +34,11 @@ PlansLeaveTheRewoundTree = (c : Contents) (w : Between) (pairs : List Pair) (con
 abbrev pub PlansFindWhatTheyRead : Type 0
 PlansFindWhatTheyRead = (c : Contents) (w : Between) (pairs : List Pair) (control : Control) (label : Label) (plan : Plan) →
     Sides c w pairs → IsPlanOf w pairs control label plan → IsFound c plan
+
+-- no change under its mark is on it
+abbrev pub PlansLeaveTheMark : Type 0
+PlansLeaveTheMark = (c : Contents) (w : Between) (pairs : List Pair) (control : Control) (label : Label) (plan : Plan) →
+    Sides c w pairs → IsPlanOf w pairs control label plan → list_any (is_on plan.mark) (body_changes c plan) ≡ false
 
 -- two clusters that were seen, side by side
 abbrev pub WalksAreSides : Type 0

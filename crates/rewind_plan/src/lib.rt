@@ -12,7 +12,8 @@ mod steps;
 
 pub use checks::{first_difference, first_lacking};
 pub use laws::{
-    plans_are_not_refused, plans_find_what_they_read, plans_leave_the_rewound_tree, walks_are_sides,
+    plans_are_not_refused, plans_find_what_they_read, plans_leave_the_mark,
+    plans_leave_the_rewound_tree, walks_are_sides,
 };
 pub use making::plan_of;
 pub use roots::Clusters;

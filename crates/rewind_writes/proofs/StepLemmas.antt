@@ -1,10 +1,10 @@
 -- Steps, one after another.
-use Rattle.std.proofs.Common.{◌≡◌, ℕ, Bool, true, false, ◌||◌, List, [], ◌∷◌, ◌++◌, Result, Ok, Err, refl, sym, ◌∙◌, subst, append_assoc, codes}
+use Rattle.std.proofs.Common.{◌≡◌, ℕ, Bool, true, false, ◌||◌, IsTrue, None, List, [], ◌∷◌, ◌++◌, Result, Ok, Err, refl, sym, ◌∙◌, subst, codes}
 use Rattle.std.proofs.lemmas.List.Folds.{list_any-append}
 use Rattle.std.specs.List.{list_any}
 use Rattle.cluster_tree.specs.PathValue.{PathValue}
 use Rattle.cluster_tree.specs.Contents.{Contents, entry_at}
-use Rattle.cluster_tree.specs.Change.{Change, is_on}
+use Rattle.cluster_tree.specs.Change.{Change, first_refusal, is_on}
 use Rattle.cluster_tree.specs.declared.tree.Tree.{Ghosts}
 use Rattle.marked_runs.specs.Performed.{Performs}
 use Rattle.marked_runs.specs.declared.faults.PerformFault.{PerformFault}
@@ -13,7 +13,8 @@ use Rattle.marked_runs.specs.Runs.{begun, ended, writes_at}
 use Rattle.marked_runs.proofs.CarriedLemmas.{both_unrefused, performs-done, performs-front, performs-nothing, performs-then}
 use Rattle.rewind_writes.specs.Plan.{IsFound, body_changes, closing_changes, plan_changes}
 use Rattle.rewind_writes.specs.Steps.{FindAll, Finds, IsRead, changes_of, opened, part_of, steps_changes}
-use Rattle.rewind_writes.specs.Taken.{AllAreAsFound, IsAsFound, Takes, TakesAll, TakesBody}
+use Rattle.rewind_writes.specs.Taken.{AllAreAsFound, IsAsFound, Takes, TakesAll, TakesBody, TakesMarked}
+use Rattle.rewind_writes.specs.declared.plan.FileBytes.{FileBytes}
 use Rattle.rewind_writes.specs.declared.plan.Plan.{Plan}
 use Rattle.rewind_writes.specs.declared.step.Step.{Step}
 use Rattle.rewind_writes.specs.declared.step.Step.TheVariants.{Folder, Whole, Cut, Range, Remove}
@@ -117,32 +118,40 @@ whole-broken tree c from to size old new e one found as_found = performs-front t
 
 -- ---- a plan
 
-pub body-taken : {F : Type 0} (tree : Ghosts F) (c : Contents) (plan : Plan) (old mid new : F) (u : Unit {0}) (r : Result (Unit {0}) PerformFault) → TakesAll tree c plan.steps.items old mid (Ok u) → Performs tree (closing_changes plan.label plan.control ++ ended plan.mark) mid new r → TakesBody tree c plan old new r
-body-taken tree c plan old mid new u r one other found as_found =
-    let steps = steps_changes c plan.steps.items in
-    let closing = closing_changes plan.label plan.control in
-    let same : steps ++ (closing ++ ended plan.mark) ≡ (steps ++ closing) ++ ended plan.mark = sym (append_assoc steps closing (ended plan.mark)) in
-    let own = find-both c steps (closing ++ ended plan.mark) plan.steps.items (subst (λ l. FindAll c l plan.steps.items) (sym same) found) in
-    subst (λ l. Performs tree l old new r) same (performs-then tree steps (closing ++ ended plan.mark) old mid new u r (one own.0 as_found) other)
+pub body-taken : {F : Type 0} (tree : Ghosts F) (c : Contents) (steps : List Step) (label control : FileBytes) (old mid new : F) (u : Unit {0}) (r : Result (Unit {0}) PerformFault) → TakesAll tree c steps old mid (Ok u) → Performs tree (closing_changes label control) mid new r → TakesBody tree c steps label control old new r
+body-taken tree c steps label control old mid new u r one other found as_found =
+    performs-then tree (steps_changes c steps) (closing_changes label control) old mid new u r (one (find-both c (steps_changes c steps) (closing_changes label control) steps found).0 as_found) other
 
-pub body-broken : {F : Type 0} (tree : Ghosts F) (c : Contents) (plan : Plan) (old new : F) (e : PerformFault) → TakesAll tree c plan.steps.items old new (Err e) → TakesBody tree c plan old new (Err e)
-body-broken tree c plan old new e one found as_found =
-    let steps = steps_changes c plan.steps.items in
-    let closing = closing_changes plan.label plan.control in
-    let same : steps ++ (closing ++ ended plan.mark) ≡ (steps ++ closing) ++ ended plan.mark = sym (append_assoc steps closing (ended plan.mark)) in
-    let own = find-both c steps (closing ++ ended plan.mark) plan.steps.items (subst (λ l. FindAll c l plan.steps.items) (sym same) found) in
-    subst (λ l. Performs tree l old new (Err e)) same (performs-front tree steps (closing ++ ended plan.mark) old new e (one own.0 as_found))
+pub body-broken : {F : Type 0} (tree : Ghosts F) (c : Contents) (steps : List Step) (label control : FileBytes) (old new : F) (e : PerformFault) → TakesAll tree c steps old new (Err e) → TakesBody tree c steps label control old new (Err e)
+body-broken tree c steps label control old new e one found as_found =
+    performs-front tree (steps_changes c steps) (closing_changes label control) old new e (one (find-both c (steps_changes c steps) (closing_changes label control) steps found).0 as_found)
 
-pub plan-taken : {F : Type 0} (tree : Ghosts F) (plan : Plan) (old mid new : F) (u : Unit {0}) (r : Result (Unit {0}) PerformFault) → Carries tree (begun plan.mark (codes "pg_rewind 1\n")) old mid (Ok u) → TakesBody tree (tree.contents old) plan mid new r
-    → IsFound (tree.contents old) plan → Performs tree (plan_changes (tree.contents old) plan) old new r
-plan-taken tree plan old mid new u r one other found told none =
+pub marked-taken : {F : Type 0} (tree : Ghosts F) (c : Contents) (plan : Plan) (old mid new : F) (u : Unit {0}) (r : Result (Unit {0}) PerformFault) → TakesBody tree c plan.steps.items plan.label plan.control old mid (Ok u) → Performs tree (ended plan.mark) mid new r → TakesMarked tree c plan old new r
+marked-taken tree c plan old mid new u r one other found as_found =
+    performs-then tree (body_changes c plan) (ended plan.mark) old mid new u r (one (find-both c (body_changes c plan) (ended plan.mark) plan.steps.items found).0 as_found) other
+
+pub marked-broken : {F : Type 0} (tree : Ghosts F) (c : Contents) (plan : Plan) (old new : F) (e : PerformFault) → TakesBody tree c plan.steps.items plan.label plan.control old new (Err e) → TakesMarked tree c plan old new (Err e)
+marked-broken tree c plan old new e one found as_found =
+    performs-front tree (body_changes c plan) (ended plan.mark) old new e (one (find-both c (body_changes c plan) (ended plan.mark) plan.steps.items found).0 as_found)
+
+-- what the steps read stays as it was while the mark is made
+pub found-then : {F : Type 0} (tree : Ghosts F) (plan : Plan) (old mid : F) (u : Unit {0}) → Carries tree (begun plan.mark (codes "pg_rewind 1\n")) old mid (Ok u) → IsTrue tree.tells → IsFound (tree.contents old) plan
+    → first_refusal (tree.contents old) (plan_changes (tree.contents old) plan) ≡ None
+    → FindAll (tree.contents old) (body_changes (tree.contents old) plan ++ ended plan.mark) plan.steps.items × AllAreAsFound (tree.contents old) (tree.contents mid) plan.steps.items
+found-then tree plan old mid u one told found none =
     let c = tree.contents old in
     let first = begun plan.mark (codes "pg_rewind 1\n") in
     let body = body_changes c plan ++ ended plan.mark in
     let own = find-both c first body plan.steps.items found in
     let ran = one told (both_unrefused c first body none).0 in
-    performs-then tree first body old mid new u r (performs-done tree first old mid u one)
-    (other own.1 (stay-found c c (tree.contents mid) first plan.steps.items ran.runs.elsewhere own.0 (all-found c plan.steps.items))) told none
+    (own.1, stay-found c c (tree.contents mid) first plan.steps.items ran.runs.elsewhere own.0 (all-found c plan.steps.items))
+
+pub plan-taken : {F : Type 0} (tree : Ghosts F) (plan : Plan) (old mid new : F) (u : Unit {0}) (r : Result (Unit {0}) PerformFault) → Carries tree (begun plan.mark (codes "pg_rewind 1\n")) old mid (Ok u) → TakesMarked tree (tree.contents old) plan mid new r
+    → IsFound (tree.contents old) plan → Performs tree (plan_changes (tree.contents old) plan) old new r
+plan-taken tree plan old mid new u r one other found told none =
+    let first = begun plan.mark (codes "pg_rewind 1\n") in
+    let there = found-then tree plan old mid u one told found none in
+    performs-then tree first (body_changes (tree.contents old) plan ++ ended plan.mark) old mid new u r (performs-done tree first old mid u one) (other there.0 there.1) told none
 
 -- equal changes
 pub performs-same : {F : Type 0} (tree : Ghosts F) (xs ys : List Change) (a b : F) (r : Result (Unit {0}) PerformFault) → xs ≡ ys → Performs tree xs a b r → Performs tree ys a b r

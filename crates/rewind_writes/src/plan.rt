@@ -1,15 +1,18 @@
 // A rewind that was planned, carried out under its mark.
-ghost use Rattle.std.specs.Prelude.{◌≡◌, ◌≢◌, ◌++◌, List, Err, IsErrOf};
+ghost use Rattle.std.specs.Prelude.{◌≡◌, ◌≢◌, [], ◌∷◌, Err, false, IsErrOf, IsTrue, None};
+ghost use Rattle.std.specs.FinMap.{remove};
+ghost use Rattle.std.specs.List.{list_any};
 ghost use Rattle.cluster_tree.specs.Causes.{Rose};
-ghost use Rattle.cluster_tree.specs.Change.{Change, MakesFile, Writes};
+ghost use Rattle.cluster_tree.specs.Change.{MakesFile, Writes, all_changed, first_refusal, is_on};
 ghost use Rattle.cluster_tree.specs.Contents.{Contents};
-ghost use Rattle.cluster_tree.specs.Frame.{Came};
+ghost use Rattle.cluster_tree.specs.Frame.{Came, moment_of};
+ghost use Rattle.cluster_tree.specs.Stops.{LeavesOnly};
+ghost use Rattle.marked_runs.specs.Moments.{IsEnded, IsSafe, StandsMarked};
 ghost use Rattle.marked_runs.specs.Performed.{Performs};
 ghost use Rattle.marked_runs.specs.Runs.{ended};
-ghost use Rattle.std.specs.Prelude.{[], ◌∷◌};
-ghost use Rattle.rewind_writes.specs.Plan.{IsFound, closing_changes, plan_changes};
+ghost use Rattle.rewind_writes.specs.Plan.{IsFound, body_changes, closing_changes, plan_changes};
 ghost use Rattle.rewind_writes.specs.Steps.{AllAreFit};
-ghost use Rattle.rewind_writes.specs.Taken.{TakesBody};
+ghost use Rattle.rewind_writes.specs.Taken.{EndsMarked, TakesBody, TakesMarked};
 
 use crate::Step;
 use crate::stepping::take_all;
@@ -91,6 +94,8 @@ fn put_closing<F: Tree>(
 // Ends the mark.
 fn unmark<F: Tree>(tree: &mut F, mark: Path) -> Result<(), PerformFault>
     ensures performs { Performs F.Tree (ended mark) tree.old tree.new result }
+    ensures stops { IsTrue F.tells → StandsMarked mark (moment_of F.Tree tree.old) → LeavesOnly
+        (IsEnded mark (remove (F.contents tree.old) mark)) (F.stops tree.old) (F.stops tree.new) }
     ensures frame { Came F.Tree tree.old tree.new }
     ensures read_fault { result ≢ Err PerformFault.ReadFault }
     ensures write_fault { IsErrOf result PerformFault.WriteFault →
@@ -102,30 +107,33 @@ fn unmark<F: Tree>(tree: &mut F, mark: Path) -> Result<(), PerformFault>
     }
 }
 
-// Makes the last changes, and ends the mark.
-fn close<F: Tree>(
+// All changes under the mark.
+fn put_body<F: Tree>(
     tree: &mut F,
-    mark: Path,
+    steps: VecDeque<Step>,
     label: FileBytes,
     control: FileBytes,
 ) -> Result<(), PerformFault>
-    ensures performs { Performs F.Tree (closing_changes label control ++ ended mark)
-        tree.old tree.new result }
+    requires fit { AllAreFit steps.items }
+    ensures takes { (c : Contents) →
+        TakesBody F.Tree c steps.items label control tree.old tree.new result }
     ensures frame { Came F.Tree tree.old tree.new }
-    ensures read_fault { result ≢ Err PerformFault.ReadFault }
+    ensures read_fault { IsErrOf result PerformFault.ReadFault →
+        Rose (F.failed_reads tree.old) (F.failed_reads tree.new) }
     ensures write_fault { IsErrOf result PerformFault.WriteFault →
         Rose (F.failed_changes tree.old) (F.failed_changes tree.new) }
 {
-    match put_closing(tree, label, control) {
-        Ok(()) => unmark(tree, mark),
+    match take_all(tree, steps) {
+        Ok(()) => put_closing(tree, label, control),
         Err(fault) => Err(fault),
     }
 }
 
-// All changes behind the making of the mark.
+// All changes behind the making of the mark, and its end.
 fn perform_marked<F: Tree>(tree: &mut F, plan: Plan) -> Result<(), PerformFault>
     requires fit { AllAreFit plan.steps.items }
-    ensures takes { (c : Contents) → TakesBody F.Tree c plan tree.old tree.new result }
+    ensures takes { (c : Contents) → TakesMarked F.Tree c plan tree.old tree.new result }
+    ensures stops { (c : Contents) → EndsMarked F.Tree c plan tree.old tree.new }
     ensures frame { Came F.Tree tree.old tree.new }
     ensures read_fault { IsErrOf result PerformFault.ReadFault →
         Rose (F.failed_reads tree.old) (F.failed_reads tree.new) }
@@ -138,8 +146,8 @@ fn perform_marked<F: Tree>(tree: &mut F, plan: Plan) -> Result<(), PerformFault>
         label,
         control,
     } = plan;
-    match take_all(tree, steps) {
-        Ok(()) => close(tree, mark, label, control),
+    match put_body(tree, steps, label, control) {
+        Ok(()) => unmark(tree, mark),
         Err(fault) => Err(fault),
     }
 }
@@ -150,11 +158,18 @@ fn perform_marked<F: Tree>(tree: &mut F, plan: Plan) -> Result<(), PerformFault>
 /// Answers `ReadFault` only where a read failed and `WriteFault` only where a changing call did, which
 /// the tree has counted, and `Changed` never where the tree tells, holds what the steps read, and would
 /// refuse none of the changes in its turn: then these changes ran, all of them where it is done, else
-/// the first ones, of the last perhaps a part.
+/// the first ones, of the last perhaps a part. Where none of them but those of the mark is on it, a stop
+/// at any moment leaves what one could have left at the start, the mark, or all that was to be.
 pub fn perform<F: Tree>(tree: &mut F, plan: Plan) -> Result<(), PerformFault>
     requires fit { AllAreFit plan.steps.items }
     ensures performs { IsFound (F.contents tree.old) plan →
         Performs F.Tree (plan_changes (F.contents tree.old) plan) tree.old tree.new result }
+    ensures stops { IsTrue F.tells → IsFound (F.contents tree.old) plan →
+        first_refusal (F.contents tree.old) (plan_changes (F.contents tree.old) plan) ≡ None →
+        list_any (is_on plan.mark) (body_changes (F.contents tree.old) plan) ≡ false → LeavesOnly
+        (IsSafe plan.mark (moment_of F.Tree tree.old)
+        (all_changed (F.contents tree.old) (plan_changes (F.contents tree.old) plan)))
+        (F.stops tree.old) (F.stops tree.new) }
     ensures frame { Came F.Tree tree.old tree.new }
     ensures read_fault { IsErrOf result PerformFault.ReadFault →
         Rose (F.failed_reads tree.old) (F.failed_reads tree.new) }
