@@ -18,9 +18,13 @@ use Rattle.reset_cleanup.proofs.GoneLemmas.{none-of, removals-elsewhere, removal
 use Rattle.reset_cleanup.proofs.UnderLemmas.{IsUnder, all-map, beside-control, control_path, under-beside, under-control}
 use Rattle.reset_cleanup.proofs.UnrefusedLemmas.{Found, controlled, emptied, kept-controlled, mark_path, marked_tree, new-under, or_root-more}
 
+-- what is changed under the mark
+abbrev pub reset_body : PathValue → List PathValue → (name bytes page : List ℕ) → List Change
+reset_body root gone name bytes page =
+    Writes (control_path root) 0 bytes ∷ (map Removes gone ++ MakesFile (in_folder (wal_folder root) name) ∷ Writes (in_folder (wal_folder root) name) 0 page ∷ [])
+
 abbrev pub reset_changes : PathValue → List PathValue → (name text bytes page : List ℕ) → List Change
-reset_changes root gone name text bytes page =
-    marked (mark_path root) text (Writes (control_path root) 0 bytes ∷ (map Removes gone ++ MakesFile (in_folder (wal_folder root) name) ∷ Writes (in_folder (wal_folder root) name) 0 page ∷ []))
+reset_changes root gone name text bytes page = marked (mark_path root) text (reset_body root gone name bytes page)
 
 -- with the new segment
 abbrev filled : Contents → PathValue → List PathValue → (name text bytes page : List ℕ) → Contents

@@ -8,3 +8,4 @@ pub mod TruthLemmas
 pub mod AfterLemmas
 pub mod MeantLemmas
 pub mod ResetLemmas
+pub mod StopLemmas

@@ -1,39 +1,45 @@
 -- A reset that isn't refused: none of its changes is, and what stands when they are made.
-use Rattle.std.proofs.Common.{◌≡◌, ◌++◌, ◌∙◌, ◌+◌, ℕ, ℤ, List, [], length, Option, None, Some, is_some, option_map, Result, Ok, Err, refl, sym, ap, subst, codes, arith}
+use Rattle.std.proofs.Common.{◌≡◌, ◌≢◌, ◌++◌, ◌∙◌, ◌+◌, ◌||◌, ℕ, ℤ, false, List, [], ◌∷◌, length, map, Option, None, Some, is_some, option_map, Result, Ok, Err, refl, sym, ap, ap₂, subst, codes, arith}
 use Rattle.std.specs.Prelude.{if◌then◌else◌, IfOk, OnOk, is_ok}
-use Rattle.std.proofs.lemmas.List.{append-nil, drop_all}
+use Rattle.std.proofs.lemmas.List.{append-nil, append_cancel_right, drop_all}
+use Rattle.std.specs.List.{AllByRecursion, list_any}
 use Rattle.layout.specs.Splice.{splice}
 use Rattle.cluster_tree.specs.Causes.{given}
 use Rattle.cluster_tree.specs.PathValue.{PathValue}
 use Rattle.cluster_tree.specs.Contents.{Contents, FileEntry, IsTree, entry_at, is_file}
-use Rattle.cluster_tree.specs.Change.{all_changed, first_refusal}
+use Rattle.cluster_tree.specs.Change.{Change, MakesFile, Removes, Writes, all_changed, first_refusal, is_on}
 use Rattle.cluster_tree.specs.Folders.{list_refusal, names_in}
 use Rattle.cluster_tree.specs.Marks.{marks_of}
 use Rattle.cluster_tree.specs.Tree.{bytes_at, bytes_in}
 use Rattle.cluster_tree.specs.declared.tree.ChangeCall.{ChangeCall}
+use Rattle.cluster_tree.proofs.OrderLemmas.{path_eq-other}
 use Rattle.clusters.specs.Marks.{unfinished}
 use Rattle.clusters.specs.RootControl.{control_at}
 use Rattle.clusters.specs.Roots.{path_in, wal_folder}
 use Rattle.control_file.specs.Writing.{control_bytes}
 use Rattle.control_file.specs.declared.control.Control.{Control}
-use Rattle.marked_runs.specs.Runs.{Runs}
+use Rattle.marked_runs.specs.Runs.{Runs, ended, marked}
 use Rattle.wal_base.specs.Segment.{name_of}
 use Rattle.wal_base.specs.declared.segment.Segment.{Segment}
 use Rattle.reset_numbers.specs.Behind.{new_segment}
 use Rattle.reset_numbers.specs.declared.options.ResetOptions.{ResetOptions}
 use Rattle.reset_plan.specs.NewSegment.{segment_bytes}
+use Rattle.reset_plan.specs.Plan.{body_changes, plan_changes}
 use Rattle.reset_plan.specs.Prepared.{IsDry, reset_by}
-use Rattle.reset_plan.specs.Reset.{Reset, changed_to, changes_of, control_after, gone_in, gone_refusal, not_clean, reset_known, reset_of, reset_to, segment_found, wal_refusal}
-use Rattle.reset_plan.specs.ResetFaults.{folder_fault, of_cluster, told_by}
+use Rattle.reset_plan.specs.Reset.{Reset, changed_to, changes_of, control_after, gone_in, gone_refusal, in_folder, not_clean, reset_known, reset_of, reset_to, segment_found, wal_refusal}
+use Rattle.reset_plan.specs.ResetFaults.{folder_fault, told_by}
 use Rattle.reset_plan.specs.declared.fault.ResetFault.{ResetFault}
+use Rattle.reset_plan.specs.declared.fault.ResetFault.TheVariants as fault
+use Rattle.reset_plan.specs.declared.plan.Plan.{Plan}
 use Rattle.reset_plan.specs.declared.plan.Prepared.{Prepared}
+use Rattle.reset_plan.specs.declared.plan.Prepared.TheVariants.{Ready}
 use Rattle.reset_cleanup.specs.Resetting.{LogIsReset}
-use Rattle.reset_cleanup.proofs.AfterLemmas.{LeftAt, left-at, reset_changes}
+use Rattle.reset_cleanup.proofs.AfterLemmas.{LeftAt, left-at, reset_body, reset_changes}
 use Rattle.reset_cleanup.proofs.FoundLemmas.{given-ok, unless-ok}
 use Rattle.reset_cleanup.proofs.ResetLemmas.{dry-none, one-reset}
 use Rattle.reset_cleanup.proofs.TruthLemmas.{control-there, found, map-none, told-ok, unmarked}
-use Rattle.reset_cleanup.proofs.UnderLemmas.{control_path, control_path-is}
-use Rattle.reset_cleanup.proofs.UnrefusedLemmas.{Found, reset-unrefused}
+use Rattle.reset_cleanup.proofs.UnderLemmas.{IsUnder, all-map, beside-control, control_path, control_path-is, under-beside}
+use Rattle.reset_cleanup.proofs.UnrefusedLemmas.{Found, mark_path, new-under, reset-unrefused}
 
 -- those that go
 abbrev gone_at : Contents → PathValue → List PathValue
@@ -56,14 +62,14 @@ segment_ok wal (Some found) segment e = let is : found ≡ segment = cc e in ap 
 seen : (c : Contents) (root : PathValue) (options : ResetOptions) (now : ℤ) (reset : Reset) → reset_of c root options now ≡ Ok reset → Seen c root options now reset
 unfolding reset_known
 seen c root options now reset is =
-    let a = unless-ok (option_map of_cluster (unfinished c root)) (given (told_by (control_at c root)) (λ old. reset_known c root options now old)) reset is in
+    let a = unless-ok (option_map fault.Cluster (unfinished c root)) (given (told_by (control_at c root)) (λ old. reset_known c root options now old)) reset is in
     let b = given-ok (told_by (control_at c root)) (λ old. reset_known c root options now old) reset a.1 in
     let d = unless-ok (wal_refusal c (wal_folder root)) _ reset b.next in
     let s = given-ok (segment_found (wal_folder root) (new_segment options b.read (names_in c (wal_folder root)))) _ reset d.1 in
     record {
       old = b.read;
       segment = s.read;
-      mark = unmarked c root (map-none of_cluster (unfinished c root) a.0);
+      mark = unmarked c root (map-none fault.Cluster (unfinished c root) a.0);
       was = told-ok (control_at c root) b.read b.is;
       wal = map-none (folder_fault (wal_folder root)) (list_refusal (entry_at c (wal_folder root))) d.0;
       behind = segment_ok (wal_folder root) (new_segment options b.read (names_in c (wal_folder root))) s.read s.is;
@@ -181,3 +187,56 @@ pub after-prepared : (c e d : Contents) (k l : List ChangeCall) (root : PathValu
 after-prepared c e d k l root options now p (Ok control) tree dry meant told size same ran =
     after-reset c d root options now (reset_by p) control tree dry meant told (size (not_dry c root options now p tree dry meant)) (ran.after refl ∙ ap (λ x. all_changed x (reset_by p).changes) same)
 after-prepared c e d k l root options now p (Err f) tree dry meant told size same ran = tt
+
+-- ---- its mark is no path of what is changed under it
+
+same_mark : (m n : PathValue) (xs ys : List Change) → MakesFile m ∷ xs ≡ MakesFile n ∷ ys → m ≡ n
+same_mark m n xs ys e = cc
+
+same_rest : (m n : PathValue) (text : List ℕ) (xs ys : List Change) → marked m text xs ≡ marked n text ys → xs ++ ended m ≡ ys ++ ended n
+same_rest m n text xs ys e = cc
+
+same_body : (m n : PathValue) (text : List ℕ) (xs ys : List Change) → marked m text xs ≡ marked n text ys → m ≡ n → xs ≡ ys
+same_body m n text xs ys e same = append_cancel_right xs ys (ended n) (ap (λ p. xs ++ ended p) (sym same) ∙ same_rest m n text xs ys e)
+
+removals_off : (mark : PathValue) (gone : List PathValue) (more : List Change) → AllByRecursion (λ p. p ≢ mark) gone → list_any (is_on mark) more ≡ false → list_any (is_on mark) (map Removes gone ++ more) ≡ false
+removals_off mark [] more off rest = rest
+removals_off mark (p ∷ gone) more off rest = ap₂ (λ a b. a || b) (path_eq-other mark p (λ e. off.0 (sym e))) (removals_off mark gone more off.1 rest)
+
+body_off : (root : PathValue) (gone : List PathValue) (name bytes page : List ℕ) → AllByRecursion (IsUnder (wal_folder root)) gone → list_any (is_on (mark_path root)) (reset_body root gone name bytes page) ≡ false
+body_off root gone name bytes page under =
+    let mark = mark_path root in
+    let new = in_folder (wal_folder root) name in
+    let off_new = path_eq-other mark new (λ e. under-beside root new (codes "pg_resetwal.unfinished") (new-under root name) (sym e)) in
+    ap₂ (λ a b. a || b) (path_eq-other mark (control_path root) (beside-control root (codes "pg_resetwal.unfinished")))
+    (removals_off mark gone (MakesFile new ∷ Writes new 0 page ∷ []) (all-map (IsUnder (wal_folder root)) (λ p. p ≢ mark) (λ p u. under-beside root p (codes "pg_resetwal.unfinished") u) gone under)
+    (ap (λ a. a || (a || false)) off_new))
+
+-- of a reset with changes
+pub record IsReadyOf (root : PathValue) (options : ResetOptions) (plan : Plan) : Type 0 where
+  pub wet : options.dry ≡ None
+  pub mark : plan.mark ≡ (marks_of root).reset
+  pub off : list_any (is_on plan.mark) (body_changes plan.body) ≡ false
+
+ready_wet : (c : Contents) (root : PathValue) (options : ResetOptions) (now : ℤ) (plan : Plan) → Seen c root options now (reset_by (Ready plan)) → options.dry ≡ None
+ready_wet c root options now plan s =
+    elim options.dry as (λ (o : Option (Unit {0})). options.dry ≡ o → options.dry ≡ None) [
+      | None ↦ λ dry. dry
+      | Some u ↦ λ dry. let none : plan_changes plan ≡ [] = dry_is c root options now (reset_by (Ready plan)) u dry s in absurd (cc none)
+    ] refl
+
+pub ready-of : (c : Contents) (root : PathValue) (options : ResetOptions) (now : ℤ) (plan : Plan) → IsTree c → reset_of c root options now ≡ Ok (reset_by (Ready plan)) → IsReadyOf root options plan
+ready-of c root options now plan tree meant =
+    let s = seen c root options now (reset_by (Ready plan)) meant in
+    let wet = ready_wet c root options now plan s in
+    let w = wet_is c root options now (reset_by (Ready plan)) tree wet s in
+    let control = control_after options now s.segment s.old in
+    let body = reset_body root (gone_at c root) (name_of s.segment) (control_bytes control) (segment_bytes control s.segment) in
+    let same : marked plan.mark (codes "pg_resetwal 1\n") (body_changes plan.body) ≡ marked (mark_path root) (codes "pg_resetwal 1\n") body = wet_changes c root control s.segment (reset_by (Ready plan)) w in
+    let mark = same_mark plan.mark (mark_path root) _ _ same in
+    record {
+      wet = wet;
+      mark = mark;
+      off = ap₂ (λ m l. list_any (is_on m) l) mark (same_body plan.mark (mark_path root) (codes "pg_resetwal 1\n") (body_changes plan.body) body same mark)
+          ∙ body_off root (gone_at c root) (name_of s.segment) (control_bytes control) (segment_bytes control s.segment) w.all.under;
+    }

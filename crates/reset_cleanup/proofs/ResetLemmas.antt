@@ -15,7 +15,7 @@ use Rattle.marked_runs.specs.declared.faults.PerformFault.TheVariants as perform
 use Rattle.reset_numbers.specs.declared.options.ResetOptions.{ResetOptions}
 use Rattle.reset_plan.specs.Prepared.{IsDry, IsOfNames, control_in, reset_by}
 use Rattle.reset_plan.specs.Reset.{Reset, control_told, reset_of}
-use Rattle.reset_plan.specs.ResetFaults.{IsFree}
+use Rattle.reset_plan.specs.ResetFaults.{IsFree, changed_at, read_failed}
 use Rattle.reset_plan.specs.declared.fault.ResetFault.{ResetFault}
 use Rattle.reset_plan.specs.declared.fault.ResetFault.TheVariants as fault
 use Rattle.reset_plan.specs.declared.plan.Prepared.{Prepared}
@@ -30,7 +30,7 @@ change-of perform.ReadFault never = absurd (never refl)
 change-of perform.WriteFault never = inl refl
 change-of (perform.Changed p) never = inr (p, refl)
 
-pub changed-of : (f : PerformFault) (p : PathValue) → fault_of f ≡ fault.Changed p → f ≡ perform.Changed p
+pub changed-of : (f : PerformFault) (p : PathValue) → fault_of f ≡ changed_at p → f ≡ perform.Changed p
 changed-of perform.ReadFault p h = absurd (cc h)
 changed-of perform.WriteFault p h = absurd (cc h)
 changed-of (perform.Changed q) p h = cc h
@@ -81,7 +81,7 @@ runs-from meant a b k m l c e d done is other calls same ran =
 
 -- the answer is its control file, or free
 pub meets-of : (meant : Result Reset ResetFault) (reset : Reset) (result : Result Control ResetFault) → meant ≡ Ok reset → IfOk result (λ control. control ≡ reset.control) → IfErr result IsOfChange
-    → ((p : PathValue) → result ≢ Err (fault.Changed p)) → Meets IsFree (control_told meant) result
+    → ((p : PathValue) → result ≢ Err (changed_at p)) → Meets IsFree (control_told meant) result
 meets-of meant reset (Ok control) is told only never = ap control_told is ∙ ap (λ x. Ok x) (sym told)
 meets-of meant reset (Err e) is told (inl write) never = inl (inr (inl write))
 meets-of meant reset (Err e) is told (inr (p, changed)) never = absurd (never p (ap (λ x. Err x) changed))
@@ -111,16 +111,16 @@ dry-none (Dry control) dry = refl
 dry-none (Ready plan) dry = absurd dry
 
 -- a fault of a change is neither of a read nor of memory
-pub not-read : (e : ResetFault) → IsOfChange e → e ≢ fault.ReadFault
+pub not-read : (e : ResetFault) → IsOfChange e → e ≢ read_failed
 not-read e (inl write) = λ h. cc (sym h ∙ write)
 not-read e (inr (p, changed)) = λ h. cc (sym h ∙ changed)
 
-pub only-change : (P : Type 0) (result : Result Control ResetFault) → IfErr result IsOfChange → IfErr result (λ e. e ≢ fault.WriteFault → ((p : PathValue) → e ≢ fault.Changed p) → P)
+pub only-change : (P : Type 0) (result : Result Control ResetFault) → IfErr result IsOfChange → IfErr result (λ e. e ≢ fault.WriteFault → ((p : PathValue) → e ≢ changed_at p) → P)
 only-change P (Ok control) only = tt
 only-change P (Err e) (inl write) = λ a b. absurd (a write)
 only-change P (Err e) (inr (p, changed)) = λ a b. absurd (b p changed)
 
-pub err-not_read : (result : Result Control ResetFault) → IfErr result IsOfChange → result ≢ Err fault.ReadFault
+pub err-not_read : (result : Result Control ResetFault) → IfErr result IsOfChange → result ≢ Err read_failed
 err-not_read (Ok control) only = λ h. cc h
 err-not_read (Err e) only = λ h. not-read e only (cc h)
 

@@ -1,5 +1,5 @@
 -- None of the changes of a reset that isn't refused is refused in its turn.
-use Rattle.std.proofs.Common.{◌≡◌, ℕ, ◌/◌, ◌%◌, ◌==◌, ◌&&◌, ◌||◌, Bool, true, false, cond, List, [], ◌∷◌, ◌++◌, length, map, filter, bytes_eq, Option, None, Some, is_some, option_map, Result, Ok, Err, refl, sym, ap, ap₂, ◌∙◌, subst, arith, true≢false, codes, length-append}
+use Rattle.std.proofs.Common.{◌≡◌, ℕ, ℤ, ◌/◌, ◌%◌, ◌==◌, ◌&&◌, ◌||◌, Bool, true, false, cond, List, [], ◌∷◌, ◌++◌, length, map, filter, bytes_eq, Option, None, Some, is_some, option_map, Result, Ok, Err, refl, sym, ap, ap₂, ◌∙◌, subst, arith, true≢false, codes, length-append}
 use Rattle.std.specs.Prelude.{if◌then◌else◌}
 use Rattle.std.proofs.lemmas.Bool.Decides.{Decides-eqb}
 use Rattle.std.proofs.lemmas.List.{take_all, drop_all}
@@ -8,6 +8,7 @@ use Rattle.std.specs.Cmp.Lexicographic.{bytes_decides}
 use Rattle.std.specs.FinMap.{get}
 use Rattle.std.specs.List.{list_all, list_any}
 use Rattle.archive_names.specs.Cleanup.{ends_segment, is_segment}
+use Rattle.cluster_tree.specs.Causes.{given, unless}
 use Rattle.cluster_tree.specs.PathValue.{PathValue}
 use Rattle.cluster_tree.specs.PathOrder.{path_eq}
 use Rattle.cluster_tree.specs.Contents.{Contents, Entry, FolderEntry, FileEntry, LinkEntry, IsTree, entry_at, is_file}
@@ -21,17 +22,22 @@ use Rattle.clusters.specs.Marks.{unfinished, with_mark}
 use Rattle.clusters.specs.RootControl.{at_root, control_at, control_in}
 use Rattle.clusters.specs.Roots.{path_in, wal_folder}
 use Rattle.clusters.specs.declared.fault.ClusterFault.{ClusterFault}
+use Rattle.clusters.specs.declared.fault.ClusterFault.TheVariants as cluster
 use Rattle.control_file.specs.Admission.{control_of}
 use Rattle.control_file.specs.declared.fault.ControlFault.{ControlFault}
 use Rattle.control_file.specs.declared.fault.ControlFault.TheVariants.{Size}
 use Rattle.control_file.specs.declared.control.Control.{Control}
+use Rattle.marked_runs.specs.Moments.{IsMarked}
 use Rattle.wal_base.specs.Hex.{hex8, is_long_name, is_upper_hex}
 use Rattle.wal_base.specs.Segment.{bytes_of, name_of, segments_per_high}
 use Rattle.wal_base.specs.declared.segment.Segment.{Segment}
 use Rattle.wal_base.proofs.HexDigits.{length-hex_digits, upper-hex_digits}
 use Rattle.reset_numbers.specs.Names.{is_status}
-use Rattle.reset_plan.specs.Reset.{gone_in, gone_refusal, in_folder, kind_refusal, names_at, status_folder, status_refusal}
+use Rattle.reset_numbers.specs.declared.options.ResetOptions.{ResetOptions}
+use Rattle.reset_plan.specs.Reset.{gone_in, gone_refusal, in_folder, kind_refusal, names_at, reset_known, reset_of, status_folder, status_refusal}
 use Rattle.reset_plan.specs.ResetFaults.{told_by}
+use Rattle.reset_plan.specs.declared.fault.ResetFault.TheVariants as fault
+use Rattle.reset_cleanup.specs.Stopping.{standing}
 use Rattle.reset_cleanup.proofs.FoundLemmas.{are-files, both-apart, first_of-head, names-apart, sorted-kept, sorted-kept_at, stand-kept, stand-kept_at}
 use Rattle.reset_plan.proofs.ListingLemmas.{listed_folder}
 use Rattle.reset_cleanup.proofs.UnderLemmas.{IsUnder, all-both, control_path, control_path-is, under-names, under-statuses}
@@ -57,6 +63,21 @@ pub unmarked : (c : Contents) (root : PathValue) → unfinished c root ≡ None 
 unfolding unfinished
 unmarked c root none =
     none_there (entry_at c (marks_of root).reset) (mark_none (marks_of root) (is_there c (marks_of root).rewind) (is_there c (marks_of root).replay) (is_there c (marks_of root).reset) none)
+
+-- and where that of a reset stands, the first that does refuses
+first_standing : (marks : MarkPaths) (a b d : Bool) → d ≡ true → with_mark marks (cond a (Some 0) (cond b (Some 1) (cond d (Some 2) None))) ≡ Some (cluster.Unfinished (cond a marks.rewind (cond b marks.replay marks.reset)))
+first_standing marks true b d e = refl
+first_standing marks false true d e = refl
+first_standing marks false false true e = refl
+first_standing marks false false false e = absurd (true≢false (sym e))
+
+unfinished_at : (c : Contents) (root : PathValue) → IsMarked (marks_of root).reset c → unfinished c root ≡ Some (cluster.Unfinished (standing c (marks_of root)))
+unfolding unfinished
+unfinished_at c root marked = first_standing (marks_of root) (is_there c (marks_of root).rewind) (is_there c (marks_of root).replay) (is_there c (marks_of root).reset) marked
+
+pub marked-refused : (c : Contents) (root : PathValue) (options : ResetOptions) (now : ℤ) → IsMarked (marks_of root).reset c → reset_of c root options now ≡ Err (fault.Cluster (cluster.Unfinished (standing c (marks_of root))))
+marked-refused c root options now marked =
+    ap (λ o. unless (option_map fault.Cluster o) (given (told_by (control_at c root)) (λ old. reset_known c root options now old))) (unfinished_at c root marked)
 
 -- ---- the control file
 

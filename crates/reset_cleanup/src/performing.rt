@@ -1,13 +1,18 @@
 // A reset, carried out.
-ghost use Rattle.std.specs.Prelude.{◌≡◌, ◌≢◌, ◌-◌, ◌++◌, [], ◌∷◌, Err, IsErrOf, OnOk, length, map};
+ghost use Rattle.std.specs.Prelude.{◌≡◌, ◌≢◌, ◌-◌, ◌++◌, [], ◌∷◌, Err, IsErrOf, IsTrue, None, OnOk, false, length, map};
+ghost use Rattle.std.specs.FinMap.{remove};
+ghost use Rattle.std.specs.List.{list_any};
 ghost use Rattle.cluster_tree.specs.Causes.{Rose};
-ghost use Rattle.cluster_tree.specs.Change.{MakesFile, Removes, Writes};
-ghost use Rattle.cluster_tree.specs.Frame.{Came};
+ghost use Rattle.cluster_tree.specs.Change.{MakesFile, Removes, Writes, all_changed, first_refusal, is_on};
+ghost use Rattle.cluster_tree.specs.Frame.{Came, moment_of};
+ghost use Rattle.cluster_tree.specs.Stops.{LeavesOnly};
 ghost use Rattle.control_file.specs.Admission.{IsControl};
 ghost use Rattle.control_file.specs.Writing.{control_bytes};
+ghost use Rattle.marked_runs.specs.Moments.{IsEnded, StandsMarked};
 ghost use Rattle.marked_runs.specs.Performed.{Performs};
 ghost use Rattle.marked_runs.specs.Runs.{ended};
 ghost use Rattle.reset_plan.specs.Plan.{body_changes, files_changes, padded, plan_changes};
+ghost use Rattle.reset_cleanup.specs.Stopping.{IsPerformed};
 
 use cluster_tree::{Path, Tree};
 use control_file::{Control, write_control};
@@ -147,6 +152,9 @@ fn put_body<F: Tree>(tree: &mut F, body: Body) -> Result<(), PerformFault>
 // Ends the mark.
 fn unmark<F: Tree>(tree: &mut F, mark: Path) -> Result<(), PerformFault>
     ensures performs { Performs F.Tree (ended mark) tree.old tree.new result }
+    ensures stops { IsTrue F.tells → StandsMarked mark (moment_of F.Tree tree.old) →
+        LeavesOnly (IsEnded mark (remove (F.contents tree.old) mark)) (F.stops tree.old)
+        (F.stops tree.new) }
     ensures frame { Came F.Tree tree.old tree.new }
     ensures read_fault { result ≢ Err PerformFault.ReadFault }
     ensures write_fault { IsErrOf result PerformFault.WriteFault →
@@ -162,6 +170,12 @@ fn unmark<F: Tree>(tree: &mut F, mark: Path) -> Result<(), PerformFault>
 fn put_marked<F: Tree>(tree: &mut F, mark: Path, body: Body) -> Result<(), PerformFault>
     requires { IsControl body.control }
     ensures performs { Performs F.Tree (body_changes body ++ ended mark) tree.old tree.new result }
+    ensures stops { IsTrue F.tells →
+        first_refusal (F.contents tree.old) (body_changes body ++ ended mark) ≡ None →
+        list_any (is_on mark) (body_changes body) ≡ false →
+        StandsMarked mark (moment_of F.Tree tree.old) → LeavesOnly (IsEnded mark
+        (all_changed (F.contents tree.old) (body_changes body ++ ended mark)))
+        (F.stops tree.old) (F.stops tree.new) }
     ensures size { length (control_bytes body.control) ≡ 8192 }
     ensures frame { Came F.Tree tree.old tree.new }
     ensures read_fault { result ≢ Err PerformFault.ReadFault }
@@ -180,6 +194,11 @@ fn put_marked<F: Tree>(tree: &mut F, mark: Path, body: Body) -> Result<(), Perfo
 pub(crate) fn perform<F: Tree>(tree: &mut F, plan: Plan) -> Result<(), PerformFault>
     requires { IsControl plan.body.control }
     ensures performs { Performs F.Tree (plan_changes plan) tree.old tree.new result }
+    // a stop leaves all untouched, the mark, or all that was to be
+    ensures stops { IsTrue F.tells → first_refusal (F.contents tree.old) (plan_changes plan) ≡ None →
+        list_any (is_on plan.mark) (body_changes plan.body) ≡ false →
+        LeavesOnly (IsPerformed plan (moment_of F.Tree tree.old)) (F.stops tree.old)
+        (F.stops tree.new) }
     ensures size { OnOk result (length (control_bytes plan.body.control) ≡ 8192) }
     ensures frame { Came F.Tree tree.old tree.new }
     ensures read_fault { result ≢ Err PerformFault.ReadFault }

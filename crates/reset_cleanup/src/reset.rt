@@ -1,22 +1,26 @@
 // The public call: a reset of a log.
-ghost use Rattle.std.specs.Prelude.{◌≡◌, ◌≢◌, ◌≤◌, None, Err, IfErr, IfOk, IsErrOf, IsSome, IsTrue, OnOk, Ok, is_ok, length};
+ghost use Rattle.std.specs.Prelude.{◌≡◌, ◌≢◌, ◌≤◌, None, Err, IfErr, IfOk, IsErrOf, IsSome, IsTrue, OnOk, Ok, false, is_ok, length};
+ghost use Rattle.std.specs.List.{list_any};
 ghost use Rattle.cluster_tree.specs.Causes.{Meets, Rose};
-ghost use Rattle.cluster_tree.specs.Change.{first_refusal};
-ghost use Rattle.cluster_tree.specs.Frame.{Came, Reads};
+ghost use Rattle.cluster_tree.specs.Change.{first_refusal, is_on};
+ghost use Rattle.cluster_tree.specs.Frame.{Came, Reads, moment_of};
 ghost use Rattle.cluster_tree.specs.PathValue.{PathValue};
+ghost use Rattle.cluster_tree.specs.Stops.{LeavesOnly};
 ghost use Rattle.control_file.specs.Admission.{IsControl};
 ghost use Rattle.control_file.specs.Writing.{control_bytes};
 ghost use Rattle.marked_runs.specs.Runs.{Runs};
 ghost use Rattle.reset_numbers.specs.Options.{IsFit};
-ghost use Rattle.reset_plan.specs.Plan.{plan_changes};
+ghost use Rattle.reset_plan.specs.Plan.{body_changes, plan_changes};
 ghost use Rattle.reset_plan.specs.Prepared.{IsDry, control_in, reset_by};
 ghost use Rattle.reset_plan.specs.Reset.{Reset, control_told, reset_of};
-ghost use Rattle.reset_plan.specs.ResetFaults.{IsFree};
+ghost use Rattle.reset_plan.specs.ResetFaults.{IsFree, changed_at, read_failed};
 ghost use Rattle.reset_cleanup.specs.Performing.{IsOfChange, fault_of};
 ghost use Rattle.reset_cleanup.specs.Resetting.{Forms, LogIsReset};
+ghost use Rattle.reset_cleanup.specs.Stopping.{IsLeft, IsOffMark, IsPerformed, IsPreparedLeft};
 
 use crate::performing::perform;
 use cluster_tree::{Path, Tree};
+use clusters::ClusterFault;
 use control_file::Control;
 use marked_runs::PerformFault;
 use reset_plan::{Plan, Prepared, ResetFault, ResetOptions, prepare};
@@ -27,9 +31,9 @@ fn fault_of(fault: PerformFault) -> ResetFault
     ensures { result ≡ fault_of fault }
 {
     match fault {
-        PerformFault::ReadFault => ResetFault::ReadFault,
+        PerformFault::ReadFault => ResetFault::Cluster(ClusterFault::ReadFault),
         PerformFault::WriteFault => ResetFault::WriteFault,
-        PerformFault::Changed(path) => ResetFault::Changed(path),
+        PerformFault::Changed(path) => ResetFault::Cluster(ClusterFault::Changed(path)),
     }
 }
 
@@ -43,8 +47,12 @@ fn carry_out<F: Tree>(tree: &mut F, plan: Plan) -> Result<Control, ResetFault>
         (F.contents tree.old) (F.contents tree.new) (is_ok result) }
     ensures changed { IsTrue F.tells →
         first_refusal (F.contents tree.old) (plan_changes plan) ≡ None →
-        (p : PathValue) → result ≢ Err (ResetFault.Changed p) }
+        (p : PathValue) → result ≢ Err (changed_at p) }
     ensures only { IfErr result IsOfChange }
+    ensures stops { IsTrue F.tells → first_refusal (F.contents tree.old) (plan_changes plan) ≡ None →
+        list_any (is_on plan.mark) (body_changes plan.body) ≡ false →
+        LeavesOnly (IsPerformed plan (moment_of F.Tree tree.old)) (F.stops tree.old)
+        (F.stops tree.new) }
     ensures frame { Came F.Tree tree.old tree.new }
     ensures write_fault { IsErrOf result ResetFault.WriteFault →
         Rose (F.failed_changes tree.old) (F.failed_changes tree.new) }
@@ -68,8 +76,12 @@ fn reset_prepared<F: Tree>(tree: &mut F, prepared: Prepared) -> Result<Control, 
         (F.contents tree.old) (F.contents tree.new) (is_ok result) }
     ensures changed { IsTrue F.tells →
         first_refusal (F.contents tree.old) (reset_by prepared).changes ≡ None →
-        (p : PathValue) → result ≢ Err (ResetFault.Changed p) }
+        (p : PathValue) → result ≢ Err (changed_at p) }
     ensures only { IfErr result (λ e. IsOfChange e × (IsDry prepared → ⊥)) }
+    ensures stops { IsTrue F.tells →
+        first_refusal (F.contents tree.old) (reset_by prepared).changes ≡ None →
+        IsOffMark prepared → LeavesOnly (IsPreparedLeft prepared (moment_of F.Tree tree.old))
+        (F.stops tree.old) (F.stops tree.new) }
     ensures dry { IsDry prepared → Reads F.Tree tree.old tree.new }
     ensures frame { Came F.Tree tree.old tree.new }
     ensures write_fault { IsErrOf result ResetFault.WriteFault →
@@ -115,20 +127,25 @@ pub fn reset_log<F: Tree>(
     // and what stands then, path by path
     ensures after { IsTrue F.tells → options.now.dry ≡ None → IfOk result
         (LogIsReset (F.contents tree.old) (F.contents tree.new) root.now options.now now) }
+    // a stop at any moment leaves the tree untouched, and of a reset that isn't dry and isn't refused
+    // the mark, or all that stands then
+    ensures stops { IsTrue F.tells → LeavesOnly
+        (IsLeft root.now options.now now (moment_of F.Tree tree.old)) (F.stops tree.old)
+        (F.stops tree.new) }
 
     // a refusal and want of memory come before the first change
     ensures unchanged { IfErr result (λ e. e ≢ ResetFault.WriteFault →
-        ((p : PathValue) → e ≢ ResetFault.Changed p) → Reads F.Tree tree.old tree.new) }
+        ((p : PathValue) → e ≢ changed_at p) → Reads F.Tree tree.old tree.new) }
     ensures dry { IsSome options.now.dry → Reads F.Tree tree.old tree.new }
     ensures control { IfOk result IsControl }
 
     ensures frame { Came F.Tree tree.old tree.new }
-    ensures read_fault { IsErrOf result ResetFault.ReadFault →
+    ensures read_fault { IsErrOf result read_failed →
         Rose (F.failed_reads tree.old) (F.failed_reads tree.new) }
     ensures write_fault { IsErrOf result ResetFault.WriteFault →
         Rose (F.failed_changes tree.old) (F.failed_changes tree.new) }
     ensures dry_faults { IsSome options.now.dry → result ≢ Err ResetFault.WriteFault }
-    ensures changed { IsTrue F.tells → (p : PathValue) → result ≢ Err (ResetFault.Changed p) }
+    ensures changed { IsTrue F.tells → (p : PathValue) → result ≢ Err (changed_at p) }
 {
     match prepare(alloc, tree, root, options, now) {
         Ok(prepared) => reset_prepared(tree, prepared),

@@ -11,7 +11,7 @@ use Rattle.cluster_tree.specs.declared.tree.TreeFault.TheVariants as tree_fault
 use Rattle.cluster_tree.proofs.NamesLemmas.{listing_names}
 use Rattle.reset_plan.specs.Removals.{Looks, unlisted}
 use Rattle.reset_plan.specs.Reset.{names_at, status_fault}
-use Rattle.reset_plan.specs.ResetFaults.{IsFree, folder_fault}
+use Rattle.reset_plan.specs.ResetFaults.{IsFree, folder_fault, no_memory, read_failed}
 use Rattle.reset_plan.specs.declared.fault.ResetFault.{ResetFault}
 use Rattle.reset_plan.specs.declared.fault.ResetFault.TheVariants as fault
 
@@ -32,32 +32,32 @@ listed_names c folder names none listing =
 -- ---- a listing that failed
 
 -- of pg_wal
-pub wal_from : (folder : PathValue) (o : Option Entry) (f : TreeFault) (e : ResetFault) → IsFreeOfListing f ⊎ (list_refusal o ≡ Some f) → (e ≡ folder_fault folder f) ⊎ (e ≡ fault.OutOfMemory) → IsFree e ⊎ (option_map (folder_fault folder) (list_refusal o) ≡ Some e)
+pub wal_from : (folder : PathValue) (o : Option Entry) (f : TreeFault) (e : ResetFault) → IsFreeOfListing f ⊎ (list_refusal o ≡ Some f) → (e ≡ folder_fault folder f) ⊎ (e ≡ no_memory) → IsFree e ⊎ (option_map (folder_fault folder) (list_refusal o) ≡ Some e)
 wal_from folder o f e why (inr memory) = inl (inr (inr memory))
 wal_from folder o f e (inl (inl failed)) (inl is) = inl (inl (is ∙ ap (folder_fault folder) failed))
 wal_from folder o f e (inl (inr (inl memory))) (inl is) = inl (inr (inr (is ∙ ap (folder_fault folder) memory)))
 wal_from folder o f e (inl (inr (inr none))) (inl is) = elim none [ ]
 wal_from folder o f e (inr refused) (inl is) = inr (ap (option_map (folder_fault folder)) refused ∙ ap Some (sym is))
 
-free_told : (r : Result (List (List ℕ)) ResetFault) (meant : Result (List (List ℕ)) ResetFault) (o : Option ResetFault) (e : ResetFault) → IsFree e → meant ≡ Err e → Meets (λ x. x ≡ fault.OutOfMemory) meant r → Looks o r
+free_told : (r : Result (List (List ℕ)) ResetFault) (meant : Result (List (List ℕ)) ResetFault) (o : Option ResetFault) (e : ResetFault) → IsFree e → meant ≡ Err e → Meets (λ x. x ≡ no_memory) meant r → Looks o r
 free_told (Ok names) meant o e free is told = absurd (cc (sym told ∙ is))
 free_told (Err x) meant o e free is (inl memory) = inl (inr (inr memory))
 free_told (Err x) meant o e free is (inr same) = inl (let one : e ≡ x = cc (sym is ∙ same) in subst IsFree one free)
 
-refused_told : (r meant : Result (List (List ℕ)) ResetFault) (o : Option ResetFault) (e : ResetFault) → o ≡ Some e → meant ≡ Err e → Meets (λ x. x ≡ fault.OutOfMemory) meant r → Looks o r
+refused_told : (r meant : Result (List (List ℕ)) ResetFault) (o : Option ResetFault) (e : ResetFault) → o ≡ Some e → meant ≡ Err e → Meets (λ x. x ≡ no_memory) meant r → Looks o r
 refused_told (Ok names) meant o e some is told = absurd (cc (sym told ∙ is))
 refused_told (Err x) meant o e some is (inl memory) = inl (inr (inr memory))
 refused_told (Err x) meant o e some is (inr same) = inr (some ∙ (let one : e ≡ x = cc (sym is ∙ same) in ap Some one))
 
-none_told : (r : Result (List (List ℕ)) ResetFault) (meant : Result (List (List ℕ)) ResetFault) (o : Option ResetFault) → o ≡ None → meant ≡ Ok [] → Meets (λ x. x ≡ fault.OutOfMemory) meant r → Looks o r
+none_told : (r : Result (List (List ℕ)) ResetFault) (meant : Result (List (List ℕ)) ResetFault) (o : Option ResetFault) → o ≡ None → meant ≡ Ok [] → Meets (λ x. x ≡ no_memory) meant r → Looks o r
 none_told (Ok names) meant o none is told = none
 none_told (Err x) meant o none is (inl memory) = inl (inr (inr memory))
 none_told (Err x) meant o none is (inr same) = absurd (cc (sym is ∙ same))
 
 -- of archive_status
-pub status_from : (folder : PathValue) (o : Option Entry) (f : TreeFault) (r : Result (List (List ℕ)) ResetFault) → IsFreeOfListing f ⊎ (list_refusal o ≡ Some f) → Meets (λ x. x ≡ fault.OutOfMemory) (unlisted folder f) r → Looks (status_fault folder o) r
-status_from folder o f r (inl (inl failed)) told = free_told r (unlisted folder f) (status_fault folder o) fault.ReadFault (inl refl) (ap (unlisted folder) failed) told
-status_from folder o f r (inl (inr (inl memory))) told = free_told r (unlisted folder f) (status_fault folder o) fault.OutOfMemory (inr (inr refl)) (ap (unlisted folder) memory) told
+pub status_from : (folder : PathValue) (o : Option Entry) (f : TreeFault) (r : Result (List (List ℕ)) ResetFault) → IsFreeOfListing f ⊎ (list_refusal o ≡ Some f) → Meets (λ x. x ≡ no_memory) (unlisted folder f) r → Looks (status_fault folder o) r
+status_from folder o f r (inl (inl failed)) told = free_told r (unlisted folder f) (status_fault folder o) read_failed (inl refl) (ap (unlisted folder) failed) told
+status_from folder o f r (inl (inr (inl memory))) told = free_told r (unlisted folder f) (status_fault folder o) no_memory (inr (inr refl)) (ap (unlisted folder) memory) told
 status_from folder o f r (inl (inr (inr none))) told = elim none [ ]
 status_from folder None f r (inr refused) told =
     let absent : f ≡ tree_fault.Absent = cc (sym refused) in none_told r (unlisted folder f) None refl (ap (unlisted folder) absent) told
@@ -80,7 +80,7 @@ absent_names c folder (Some (FolderEntry false)) f names (inr refused) told = ab
 absent_names c folder (Some (FileEntry bytes)) f names (inr refused) told = refl
 absent_names c folder (Some LinkEntry) f names (inr refused) told = refl
 
-pub status_names-from : (c : Contents) (folder : PathValue) (f : TreeFault) (r : Result (List (List ℕ)) ResetFault) → IsFreeOfListing f ⊎ (list_refusal (entry_at c folder) ≡ Some f) → Meets (λ x. x ≡ fault.OutOfMemory) (unlisted folder f) r → IfOk r (λ names. names ≡ []) → IfOk r (λ names. names ≡ names_at c folder)
+pub status_names-from : (c : Contents) (folder : PathValue) (f : TreeFault) (r : Result (List (List ℕ)) ResetFault) → IsFreeOfListing f ⊎ (list_refusal (entry_at c folder) ≡ Some f) → Meets (λ x. x ≡ no_memory) (unlisted folder f) r → IfOk r (λ names. names ≡ []) → IfOk r (λ names. names ≡ names_at c folder)
 status_names-from c folder f (Ok names) why told none =
     none ∙ sym (ap (λ (b : Bool). if b then names_in c folder else []) (absent_names c folder (entry_at c folder) f names why told))
 status_names-from c folder f (Err e) why told none = tt

@@ -15,7 +15,7 @@ use Rattle.reset_numbers.specs.Behind.{new_segment}
 use Rattle.reset_numbers.specs.declared.options.ResetOptions.{ResetOptions}
 use Rattle.reset_plan.specs.Prepared.{IsOfNames, Prepares, reset_by, reset_with}
 use Rattle.reset_plan.specs.Reset.{Reset, changed_to, changes_of, control_after, gone_in, gone_of, gone_refusal, not_clean, reset_known, reset_of, reset_to, segment_found, wal_refusal}
-use Rattle.reset_plan.specs.ResetFaults.{IsFree, of_cluster, told_by}
+use Rattle.reset_plan.specs.ResetFaults.{IsFree, no_memory, told_by}
 use Rattle.reset_plan.specs.declared.fault.ResetFault.{ResetFault}
 use Rattle.reset_plan.specs.declared.fault.ResetFault.TheVariants as fault
 use Rattle.reset_plan.specs.declared.plan.Prepared.{Prepared}
@@ -31,20 +31,20 @@ meant control changes = Ok (made control changes)
 abbrev at_control : Contents → PathValue → ResetOptions → ℤ → Result Control ResetFault → Result Reset ResetFault
 at_control c root options now r = given r (λ old. reset_known c root options now old)
 
-pub of-marks : (c : Contents) (root : PathValue) (options : ResetOptions) (now : ℤ) (e : ResetFault) → IsFree e ⊎ (option_map of_cluster (unfinished c root) ≡ Some e) → IsFree e ⊎ (reset_of c root options now ≡ Err e)
+pub of-marks : (c : Contents) (root : PathValue) (options : ResetOptions) (now : ℤ) (e : ResetFault) → IsFree e ⊎ (option_map fault.Cluster (unfinished c root) ≡ Some e) → IsFree e ⊎ (reset_of c root options now ≡ Err e)
 of-marks c root options now e (inl free) = inl free
 of-marks c root options now e (inr is) = inr (ap (λ o. unless o (at_control c root options now (told_by (control_at c root)))) is)
 
-unmarked : (c d : Contents) (root : PathValue) (options : ResetOptions) (now : ℤ) (r : Result Control ResetFault) → option_map of_cluster (unfinished c root) ≡ None → d ≡ c → told_by (control_at d root) ≡ r → reset_of c root options now ≡ at_control c root options now r
+unmarked : (c d : Contents) (root : PathValue) (options : ResetOptions) (now : ℤ) (r : Result Control ResetFault) → option_map fault.Cluster (unfinished c root) ≡ None → d ≡ c → told_by (control_at d root) ≡ r → reset_of c root options now ≡ at_control c root options now r
 unmarked c d root options now r none same told =
     ap (λ o. unless o (at_control c root options now (told_by (control_at c root)))) none
     ∙ ap (at_control c root options now) (ap (λ x. told_by (control_at x root)) (sym same) ∙ told)
 
-pub of-control : (c d : Contents) (root : PathValue) (options : ResetOptions) (now : ℤ) (e : ResetFault) → option_map of_cluster (unfinished c root) ≡ None → d ≡ c → IsFree e ⊎ (told_by (control_at d root) ≡ Err e) → IsFree e ⊎ (reset_of c root options now ≡ Err e)
+pub of-control : (c d : Contents) (root : PathValue) (options : ResetOptions) (now : ℤ) (e : ResetFault) → option_map fault.Cluster (unfinished c root) ≡ None → d ≡ c → IsFree e ⊎ (told_by (control_at d root) ≡ Err e) → IsFree e ⊎ (reset_of c root options now ≡ Err e)
 of-control c d root options now e none same (inl free) = inl free
 of-control c d root options now e none same (inr told) = inr (unmarked c d root options now (Err e) none same told)
 
-pub of-known : (c d k : Contents) (root : PathValue) (options : ResetOptions) (now : ℤ) (old : Control) (r : Result Prepared ResetFault) → option_map of_cluster (unfinished c root) ≡ None → d ≡ c → k ≡ c → told_by (control_at d root) ≡ Ok old
+pub of-known : (c d k : Contents) (root : PathValue) (options : ResetOptions) (now : ℤ) (old : Control) (r : Result Prepared ResetFault) → option_map fault.Cluster (unfinished c root) ≡ None → d ≡ c → k ≡ c → told_by (control_at d root) ≡ Ok old
     → Prepares (reset_known k root options now old) r → Prepares (reset_of c root options now) r
 of-known c d k root options now old r none same again told prepared =
     subst (λ m. Prepares m r) (ap (λ x. reset_known x root options now old) again ∙ sym (unmarked c d root options now (Ok old) none same told)) prepared
@@ -127,7 +127,7 @@ to-ready c root wal options old control said segment names changes wet clean at 
 
 -- ---- a refusal that is made in memory
 
-pub no-segment : (wal : PathValue) (o : Option Segment) (e : ResetFault) → None ≡ o → (e ≡ fault.BadSegment wal) ⊎ (e ≡ fault.OutOfMemory) → IsFree e ⊎ (segment_found wal o ≡ Err e)
+pub no-segment : (wal : PathValue) (o : Option Segment) (e : ResetFault) → None ≡ o → (e ≡ fault.BadSegment wal) ⊎ (e ≡ no_memory) → IsFree e ⊎ (segment_found wal o ≡ Err e)
 no-segment wal o e none (inl bad) = inr (ap (segment_found wal) (sym none) ∙ ap (λ x. Err x) (sym bad))
 no-segment wal o e none (inr memory) = inl (inr (inr memory))
 
@@ -138,7 +138,7 @@ pub clean : (root : PathValue) (old : Control) (options : ResetOptions) → ((ol
 unfolding not_clean
 clean root old options is = ap (unless_passed root old) is
 
-pub unclean : (root : PathValue) (old : Control) (options : ResetOptions) (e : ResetFault) → ((old.state == 1) || is_some options.force) ≡ false → (e ≡ fault.NotClean root old.state) ⊎ (e ≡ fault.OutOfMemory) → IsFree e ⊎ (not_clean root old options.force ≡ Some e)
+pub unclean : (root : PathValue) (old : Control) (options : ResetOptions) (e : ResetFault) → ((old.state == 1) || is_some options.force) ≡ false → (e ≡ fault.NotClean root old.state) ⊎ (e ≡ no_memory) → IsFree e ⊎ (not_clean root old options.force ≡ Some e)
 unfolding not_clean
 unclean root old options e is (inl state) = inr (ap (unless_passed root old) is ∙ ap (λ x. Some x) (sym state))
 unclean root old options e is (inr memory) = inl (inr (inr memory))

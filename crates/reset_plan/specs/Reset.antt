@@ -19,7 +19,7 @@ use Rattle.reset_numbers.specs.Behind.{new_segment}
 use Rattle.reset_numbers.specs.Names.{is_status}
 use Rattle.reset_numbers.specs.NewControl.{new_control}
 use Rattle.reset_plan.specs.NewSegment.{segment_bytes}
-use Rattle.reset_plan.specs.ResetFaults.{folder_fault, of_cluster, told_by}
+use Rattle.reset_plan.specs.ResetFaults.{folder_fault, told_by}
 use Rattle.reset_plan.specs.declared.fault.ResetFault.{ResetFault}
 use Rattle.reset_plan.specs.declared.fault.ResetFault.TheVariants as fault
 use Rattle.reset_numbers.specs.declared.options.ResetOptions.{ResetOptions}
@@ -130,7 +130,7 @@ reset_known c root options now old =
 -- the first point that refuses decides
 abbrev pub reset_of : Contents → PathValue → ResetOptions → ℤ → Result Reset ResetFault
 reset_of c root options now =
-    unless (option_map of_cluster (unfinished c root)) (
+    unless (option_map fault.Cluster (unfinished c root)) (
     given (told_by (control_at c root)) (λ old.
     reset_known c root options now old))
 

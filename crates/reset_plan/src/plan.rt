@@ -12,13 +12,13 @@ ghost use Rattle.wal_base.specs.Segment.{bytes_of, name_of};
 ghost use Rattle.reset_plan.specs.Plan.{body_changes, files_changes, plan_changes};
 ghost use Rattle.reset_plan.specs.Removals.{Looks, Stand, both_refusal, going};
 ghost use Rattle.reset_plan.specs.Reset.{changes_of, files_after, gone_in, gone_of, gone_refusal, in_folder, not_clean};
-ghost use Rattle.reset_plan.specs.ResetFaults.{IsFree};
+ghost use Rattle.reset_plan.specs.ResetFaults.{IsFree, changed_at, no_memory, read_failed};
 
 use crate::ResetFault;
 use crate::page::first_page;
 use crate::removals::{Area, add_all, status_names};
 use cluster_tree::{Names, Path, Tree};
-use clusters::path_in;
+use clusters::{ClusterFault, path_in};
 use control_file::Control;
 use reset_numbers::ResetOptions;
 use std::alloc::Global;
@@ -73,7 +73,7 @@ pub enum Prepared {
 fn status_folder(alloc: Global, wal: &Path) -> Result<Path, ResetFault>
     requires { length wal.now.parts ≤ 62 }
     ensures is { IfOk result (λ folder. folder ≡ in_folder wal.now (codes "archive_status")) }
-    ensures memory { IfErr result (λ e. e ≡ ResetFault.OutOfMemory) }
+    ensures memory { IfErr result (λ e. e ≡ no_memory) }
 {
     Ok(wal.below(alloc, "archive_status")?)
 }
@@ -98,10 +98,10 @@ fn both_gone<F: Tree>(
     ensures gone { IfOk result (λ gone. gone.items ≡ going Area.Segments wal.now names.now
         ++ going Area.Statuses folder.now statuses.now) }
     ensures reads { Reads F.Tree tree.old tree.new }
-    ensures read_fault { IsErrOf result ResetFault.ReadFault →
+    ensures read_fault { IsErrOf result read_failed →
         Rose (F.failed_reads tree.old) (F.failed_reads tree.new) }
     ensures write_fault { result ≢ Err ResetFault.WriteFault }
-    ensures changed { IsTrue F.tells → (p : PathValue) → result ≢ Err (ResetFault.Changed p) }
+    ensures changed { IsTrue F.tells → (p : PathValue) → result ≢ Err (changed_at p) }
 {
     let mut gone = VecDeque::new(alloc);
     match add_all(alloc, tree, &mut gone, Area::Segments, wal, names) {
@@ -132,10 +132,10 @@ fn files_gone<F: Tree>(
     ensures form { IfOk result (λ gone. (statuses : List (List ℕ)) ×
         (gone.items ≡ gone_of wal.now names.now statuses)) }
     ensures reads { Reads F.Tree tree.old tree.new }
-    ensures read_fault { IsErrOf result ResetFault.ReadFault →
+    ensures read_fault { IsErrOf result read_failed →
         Rose (F.failed_reads tree.old) (F.failed_reads tree.new) }
     ensures write_fault { result ≢ Err ResetFault.WriteFault }
-    ensures changed { IsTrue F.tells → (p : PathValue) → result ≢ Err (ResetFault.Changed p) }
+    ensures changed { IsTrue F.tells → (p : PathValue) → result ≢ Err (changed_at p) }
 {
     let folder = match status_folder(alloc, wal) {
         Ok(folder) => folder,
@@ -157,7 +157,7 @@ fn segment_path(alloc: Global, wal: &Path, segment: Segment) -> Result<Path, Res
     requires depth { length wal.now.parts ≤ 63 }
     requires fits { segment.number * bytes_of segment.size < 2 ^ 64 }
     ensures is { IfOk result (λ path. path ≡ in_folder wal.now (name_of segment)) }
-    ensures memory { IfErr result (λ e. e ≡ ResetFault.OutOfMemory) }
+    ensures memory { IfErr result (λ e. e ≡ no_memory) }
 {
     let name = segment.name(alloc)?;
     Ok(wal.below(alloc, name.as_str())?)
@@ -175,7 +175,7 @@ fn files_of(
     requires low { segment.number * bytes_of segment.size < 2 ^ 63 }
     ensures changes { IfOk result (λ files. files_changes files
         ≡ files_after wal.now gone.items control.now segment) }
-    ensures memory { IfErr result (λ e. e ≡ ResetFault.OutOfMemory) }
+    ensures memory { IfErr result (λ e. e ≡ no_memory) }
 {
     let path = segment_path(alloc, wal, segment)?;
     let page = first_page(alloc, control, segment)?;
@@ -195,11 +195,11 @@ fn body_of(alloc: Global, root: &Path, files: Files, control: Control) -> Result
     ensures changes { IfOk result (λ body. body_changes body ≡ Writes (path_in root.now
         (codes "global/pg_control")) 0 (control_bytes control) ∷ files_changes files) }
     ensures control { IfOk result (λ body. body.control ≡ control) }
-    ensures memory { IfErr result (λ e. e ≡ ResetFault.OutOfMemory) }
+    ensures memory { IfErr result (λ e. e ≡ no_memory) }
 {
     let path = match path_in(alloc, root, "global/pg_control") {
         Ok(path) => path,
-        Err(_) => return Err(ResetFault::OutOfMemory),
+        Err(_) => return Err(ResetFault::Cluster(ClusterFault::OutOfMemory)),
     };
     Ok(Body {
         path,
@@ -213,7 +213,7 @@ fn body_of(alloc: Global, root: &Path, files: Files, control: Control) -> Result
 fn mark_of(alloc: Global, root: &Path) -> Result<Path, ResetFault>
     requires { length root.now.parts ≤ 61 }
     ensures is { IfOk result (λ mark. mark ≡ (marks_of root.now).reset) }
-    ensures memory { IfErr result (λ e. e ≡ ResetFault.OutOfMemory) }
+    ensures memory { IfErr result (λ e. e ≡ no_memory) }
 {
     Ok(root.below(alloc, "pg_resetwal.unfinished")?)
 }
@@ -228,14 +228,14 @@ fn may_reset(old: &Control, options: &ResetOptions) -> bool
 // A cluster was not shut down, or want of memory for its root.
 fn unclean(alloc: Global, root: &Path, state: u32) -> ResetFault
     ensures value { (result ≡ ResetFault.NotClean root.now state)
-        ⊎ (result ≡ ResetFault.OutOfMemory) }
-    ensures read { result ≢ ResetFault.ReadFault }
+        ⊎ (result ≡ no_memory) }
+    ensures read { result ≢ read_failed }
     ensures write_fault { result ≢ ResetFault.WriteFault }
-    ensures changed { (p : PathValue) → result ≢ ResetFault.Changed p }
+    ensures changed { (p : PathValue) → result ≢ changed_at p }
 {
     match root.copy(alloc) {
         Ok(path) => ResetFault::NotClean(path, state),
-        Err(_) => ResetFault::OutOfMemory,
+        Err(_) => ResetFault::Cluster(ClusterFault::OutOfMemory),
     }
 }
 
@@ -247,9 +247,9 @@ pub(crate) fn check_clean(
     options: &ResetOptions,
 ) -> Result<(), ResetFault>
     ensures answer { Passes IsFree (not_clean root.now old.now options.now.force) result }
-    ensures read_fault { result ≢ Err ResetFault.ReadFault }
+    ensures read_fault { result ≢ Err read_failed }
     ensures write_fault { result ≢ Err ResetFault.WriteFault }
-    ensures changed { (p : PathValue) → result ≢ Err (ResetFault.Changed p) }
+    ensures changed { (p : PathValue) → result ≢ Err (changed_at p) }
 {
     if may_reset(old, options) {
         return Ok(());
@@ -272,7 +272,7 @@ fn plan_of(
     ensures changes { IfOk result (λ plan. plan_changes plan
         ≡ changes_of root.now gone.items control segment) }
     ensures control { IfOk result (λ plan. plan.body.control ≡ control) }
-    ensures memory { IfErr result (λ e. e ≡ ResetFault.OutOfMemory) }
+    ensures memory { IfErr result (λ e. e ≡ no_memory) }
 {
     let files = files_of(alloc, wal, gone, &control, segment)?;
     let body = body_of(alloc, root, files, control)?;
@@ -306,10 +306,10 @@ pub(crate) fn make_ready<F: Tree>(
         ≡ changes_of root.now (gone_of wal.now names.now statuses) control segment)) }
     ensures control { IfOk result (λ plan. plan.body.control ≡ control) }
     ensures reads { Reads F.Tree tree.old tree.new }
-    ensures read_fault { IsErrOf result ResetFault.ReadFault →
+    ensures read_fault { IsErrOf result read_failed →
         Rose (F.failed_reads tree.old) (F.failed_reads tree.new) }
     ensures write_fault { result ≢ Err ResetFault.WriteFault }
-    ensures changed { IsTrue F.tells → (p : PathValue) → result ≢ Err (ResetFault.Changed p) }
+    ensures changed { IsTrue F.tells → (p : PathValue) → result ≢ Err (changed_at p) }
 {
     let gone = match files_gone(alloc, tree, wal, names) {
         Ok(gone) => gone,

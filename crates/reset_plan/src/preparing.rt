@@ -13,12 +13,13 @@ ghost use Rattle.reset_numbers.specs.Options.{IsFit};
 ghost use Rattle.reset_plan.specs.Prepared.{IsDry, IsOfNames, Prepares, control_in, reset_by, reset_with};
 ghost use Rattle.reset_plan.specs.Removals.{Looks};
 ghost use Rattle.reset_plan.specs.Reset.{control_after, gone_of, reset_known, reset_of, reset_to, segment_found, wal_refusal};
-ghost use Rattle.reset_plan.specs.ResetFaults.{IsFree};
+ghost use Rattle.reset_plan.specs.ResetFaults.{IsFree, changed_at, no_memory, read_failed};
 
 use crate::ResetFault;
 use crate::plan::{Prepared, check_clean, make_ready};
 use crate::roots::{check_marks, control_at, listing_fault};
 use cluster_tree::{Names, Path, Tree};
+use clusters::ClusterFault;
 use control_file::Control;
 use reset_numbers::{ResetOptions, new_control, new_segment};
 use std::alloc::Global;
@@ -28,11 +29,11 @@ use wal_base::Segment;
 fn wal_folder(alloc: Global, root: &Path) -> Result<Path, ResetFault>
     requires { length root.now.parts ≤ 61 }
     ensures is { IfOk result (λ path. path ≡ wal_folder root.now) }
-    ensures memory { IfErr result (λ e. e ≡ ResetFault.OutOfMemory) }
+    ensures memory { IfErr result (λ e. e ≡ no_memory) }
 {
     match clusters::wal_folder(alloc, root) {
         Ok(path) => Ok(path),
-        Err(_) => Err(ResetFault::OutOfMemory),
+        Err(_) => Err(ResetFault::Cluster(ClusterFault::OutOfMemory)),
     }
 }
 
@@ -43,10 +44,10 @@ fn wal_names<F: Tree>(alloc: Global, tree: &mut F, wal: &Path) -> Result<Names, 
         IfOk result (λ names. names ≡ names_in (F.contents tree.old) wal.now) }
     ensures parts { IfOk result (λ names. list_all is_part names ≡ true) }
     ensures reads { Reads F.Tree tree.old tree.new }
-    ensures read_fault { IsErrOf result ResetFault.ReadFault →
+    ensures read_fault { IsErrOf result read_failed →
         Rose (F.failed_reads tree.old) (F.failed_reads tree.new) }
     ensures write_fault { result ≢ Err ResetFault.WriteFault }
-    ensures changed { (p : PathValue) → result ≢ Err (ResetFault.Changed p) }
+    ensures changed { (p : PathValue) → result ≢ Err (changed_at p) }
 {
     match tree.list(alloc, wal) {
         Ok(names) => Ok(names),
@@ -56,14 +57,14 @@ fn wal_names<F: Tree>(alloc: Global, tree: &mut F, wal: &Path) -> Result<Names, 
 
 // No new segment can be, or want of memory for the folder's path.
 fn no_segment(alloc: Global, wal: &Path) -> ResetFault
-    ensures value { (result ≡ ResetFault.BadSegment wal.now) ⊎ (result ≡ ResetFault.OutOfMemory) }
-    ensures read { result ≢ ResetFault.ReadFault }
+    ensures value { (result ≡ ResetFault.BadSegment wal.now) ⊎ (result ≡ no_memory) }
+    ensures read { result ≢ read_failed }
     ensures write_fault { result ≢ ResetFault.WriteFault }
-    ensures changed { (p : PathValue) → result ≢ ResetFault.Changed p }
+    ensures changed { (p : PathValue) → result ≢ changed_at p }
 {
     match wal.copy(alloc) {
         Ok(path) => ResetFault::BadSegment(path),
-        Err(_) => ResetFault::OutOfMemory,
+        Err(_) => ResetFault::Cluster(ClusterFault::OutOfMemory),
     }
 }
 
@@ -80,9 +81,9 @@ fn segment_of(
     ensures exact { Meets IsFree
         (segment_found wal.now (new_segment options.now old.now names.now)) result }
     ensures low { IfOk result (λ segment. segment.number * bytes_of segment.size < 2 ^ 63) }
-    ensures read_fault { result ≢ Err ResetFault.ReadFault }
+    ensures read_fault { result ≢ Err read_failed }
     ensures write_fault { result ≢ Err ResetFault.WriteFault }
-    ensures changed { (p : PathValue) → result ≢ Err (ResetFault.Changed p) }
+    ensures changed { (p : PathValue) → result ≢ Err (changed_at p) }
 {
     match new_segment(options, old, names) {
         Some(segment) => Ok(segment),
@@ -126,10 +127,10 @@ fn prepare_to<F: Tree>(
         ≡ reset_with root.now options.now control (gone_of wal.now names.now statuses) segment)) }
     ensures dry { IsSome options.now.dry → IfOk result IsDry }
     ensures reads { Reads F.Tree tree.old tree.new }
-    ensures read_fault { IsErrOf result ResetFault.ReadFault →
+    ensures read_fault { IsErrOf result read_failed →
         Rose (F.failed_reads tree.old) (F.failed_reads tree.new) }
     ensures write_fault { result ≢ Err ResetFault.WriteFault }
-    ensures changed { IsTrue F.tells → (p : PathValue) → result ≢ Err (ResetFault.Changed p) }
+    ensures changed { IsTrue F.tells → (p : PathValue) → result ≢ Err (changed_at p) }
 {
     if options.dry.is_some() {
         return Ok(Prepared::Dry(control));
@@ -163,10 +164,10 @@ fn prepare_known<F: Tree>(
         IsOfNames root.now options.now now (reset_by prepared)) }
     ensures dry { IsSome options.now.dry → IfOk result IsDry }
     ensures reads { Reads F.Tree tree.old tree.new }
-    ensures read_fault { IsErrOf result ResetFault.ReadFault →
+    ensures read_fault { IsErrOf result read_failed →
         Rose (F.failed_reads tree.old) (F.failed_reads tree.new) }
     ensures write_fault { result ≢ Err ResetFault.WriteFault }
-    ensures changed { IsTrue F.tells → (p : PathValue) → result ≢ Err (ResetFault.Changed p) }
+    ensures changed { IsTrue F.tells → (p : PathValue) → result ≢ Err (changed_at p) }
 {
     let wal = match wal_folder(alloc, root) {
         Ok(wal) => wal,
@@ -204,10 +205,10 @@ pub fn prepare<F: Tree>(
         IsOfNames root.now options.now now (reset_by prepared)) }
     ensures dry { IsSome options.now.dry → IfOk result IsDry }
     ensures reads { Reads F.Tree tree.old tree.new }
-    ensures read_fault { IsErrOf result ResetFault.ReadFault →
+    ensures read_fault { IsErrOf result read_failed →
         Rose (F.failed_reads tree.old) (F.failed_reads tree.new) }
     ensures write_fault { result ≢ Err ResetFault.WriteFault }
-    ensures changed { IsTrue F.tells → (p : PathValue) → result ≢ Err (ResetFault.Changed p) }
+    ensures changed { IsTrue F.tells → (p : PathValue) → result ≢ Err (changed_at p) }
 {
     match check_marks(alloc, tree, root) {
         Ok(()) => (),

@@ -8,10 +8,12 @@ ghost use Rattle.cluster_tree.specs.PathValue.{PathValue, is_part};
 ghost use Rattle.cluster_tree.specs.declared.tree.TreeFault.{TreeFault};
 ghost use Rattle.reset_plan.specs.Removals.{Looks, Stand, goes, going, going_one, kinds_refusal, unlisted};
 ghost use Rattle.reset_plan.specs.Reset.{in_folder, kind_refusal, names_at, status_fault};
+ghost use Rattle.reset_plan.specs.ResetFaults.{changed_at, no_memory, read_failed};
 
 use crate::ResetFault;
 use crate::roots::listing_fault;
 use cluster_tree::{Kind, Names, Path, Tree, TreeFault};
+use clusters::ClusterFault;
 use reset_numbers::{is_segment, is_status};
 use std::alloc::Global;
 use std::collections::VecDeque;
@@ -41,17 +43,17 @@ fn file_at<F: Tree>(tree: &mut F, path: Path) -> Result<Path, ResetFault>
     ensures exact { IsTrue F.tells → Looks (kind_refusal (F.contents tree.old) path) result }
     ensures same { IfOk result (λ file. file ≡ path) }
     ensures reads { Reads F.Tree tree.old tree.new }
-    ensures read_fault { IsErrOf result ResetFault.ReadFault →
+    ensures read_fault { IsErrOf result read_failed →
         Rose (F.failed_reads tree.old) (F.failed_reads tree.new) }
     ensures write_fault { result ≢ Err ResetFault.WriteFault }
-    ensures changed { IsTrue F.tells → (p : PathValue) → result ≢ Err (ResetFault.Changed p) }
+    ensures changed { IsTrue F.tells → (p : PathValue) → result ≢ Err (changed_at p) }
 {
     match tree.kind(&path) {
         Ok(Kind::File) => Ok(path),
         Ok(Kind::Folder) => Err(ResetFault::KindsDiffer(path)),
-        Ok(Kind::Absent) => Err(ResetFault::Changed(path)),
+        Ok(Kind::Absent) => Err(ResetFault::Cluster(ClusterFault::Changed(path))),
         Err(TreeFault::Link) => Err(ResetFault::Link(path)),
-        Err(_) => Err(ResetFault::ReadFault),
+        Err(_) => Err(ResetFault::Cluster(ClusterFault::ReadFault)),
     }
 }
 
@@ -61,15 +63,15 @@ fn add_file<F: Tree>(tree: &mut F, gone: &mut VecDeque<Path>, path: Path) -> Res
     ensures exact { IsTrue F.tells → Looks (kind_refusal (F.contents tree.old) path) result }
     ensures added { OnOk result (gone.new.items ≡ gone.old.items ++ path ∷ []) }
     ensures reads { Reads F.Tree tree.old tree.new }
-    ensures read_fault { IsErrOf result ResetFault.ReadFault →
+    ensures read_fault { IsErrOf result read_failed →
         Rose (F.failed_reads tree.old) (F.failed_reads tree.new) }
     ensures write_fault { result ≢ Err ResetFault.WriteFault }
-    ensures changed { IsTrue F.tells → (p : PathValue) → result ≢ Err (ResetFault.Changed p) }
+    ensures changed { IsTrue F.tells → (p : PathValue) → result ≢ Err (changed_at p) }
 {
     let path = file_at(tree, path)?;
     match gone.push_back(path) {
         Ok(()) => Ok(()),
-        Err(_) => Err(ResetFault::OutOfMemory),
+        Err(_) => Err(ResetFault::Cluster(ClusterFault::OutOfMemory)),
     }
 }
 
@@ -79,7 +81,7 @@ fn path_of(alloc: Global, folder: &Path, name: &str) -> Result<Path, ResetFault>
     requires depth { length folder.now.parts ≤ 63 }
     requires part { is_part name.now ≡ true }
     ensures is { IfOk result (λ path. path ≡ in_folder folder.now name.now) }
-    ensures memory { IfErr result (λ e. e ≡ ResetFault.OutOfMemory) }
+    ensures memory { IfErr result (λ e. e ≡ no_memory) }
 {
     Ok(folder.below(alloc, name)?)
 }
@@ -103,10 +105,10 @@ fn add<F: Tree>(
     ensures added { OnOk result (gone.new.items ≡ gone.old.items
         ++ going_one area folder.now name.now) }
     ensures reads { Reads F.Tree tree.old tree.new }
-    ensures read_fault { IsErrOf result ResetFault.ReadFault →
+    ensures read_fault { IsErrOf result read_failed →
         Rose (F.failed_reads tree.old) (F.failed_reads tree.new) }
     ensures write_fault { result ≢ Err ResetFault.WriteFault }
-    ensures changed { IsTrue F.tells → (p : PathValue) → result ≢ Err (ResetFault.Changed p) }
+    ensures changed { IsTrue F.tells → (p : PathValue) → result ≢ Err (changed_at p) }
 {
     if !goes(area, name.as_bytes()) {
         return Ok(());
@@ -136,10 +138,10 @@ pub(crate) fn add_all<F: Tree>(
     ensures added { OnOk result (gone.new.items ≡ gone.old.items
         ++ going area folder.now names.now) }
     ensures reads { Reads F.Tree tree.old tree.new }
-    ensures read_fault { IsErrOf result ResetFault.ReadFault →
+    ensures read_fault { IsErrOf result read_failed →
         Rose (F.failed_reads tree.old) (F.failed_reads tree.new) }
     ensures write_fault { result ≢ Err ResetFault.WriteFault }
-    ensures changed { IsTrue F.tells → (p : PathValue) → result ≢ Err (ResetFault.Changed p) }
+    ensures changed { IsTrue F.tells → (p : PathValue) → result ≢ Err (changed_at p) }
 {
     for at in 0..names.len() {
         let Some(name) = names.get(at) else {
@@ -155,10 +157,10 @@ pub(crate) fn add_all<F: Tree>(
 
 // What is known of `archive_status` where its names can't be listed: none are there where it isn't.
 fn unlisted(alloc: Global, folder: &Path, fault: TreeFault) -> Result<Names, ResetFault>
-    ensures told { Meets (λ e. e ≡ ResetFault.OutOfMemory) (unlisted folder.now fault) result }
-    ensures read { IsErrOf result ResetFault.ReadFault → fault ≡ TreeFault.Failed }
+    ensures told { Meets (λ e. e ≡ no_memory) (unlisted folder.now fault) result }
+    ensures read { IsErrOf result read_failed → fault ≡ TreeFault.Failed }
     ensures write_fault { result ≢ Err ResetFault.WriteFault }
-    ensures changed { (p : PathValue) → result ≢ Err (ResetFault.Changed p) }
+    ensures changed { (p : PathValue) → result ≢ Err (changed_at p) }
     ensures none { IfOk result (λ names. names ≡ []) }
 {
     match fault {
@@ -179,10 +181,10 @@ pub(crate) fn status_names<F: Tree>(
         IfOk result (λ names. names ≡ names_at (F.contents tree.old) folder.now) }
     ensures parts { IfOk result (λ names. list_all is_part names ≡ true) }
     ensures reads { Reads F.Tree tree.old tree.new }
-    ensures read_fault { IsErrOf result ResetFault.ReadFault →
+    ensures read_fault { IsErrOf result read_failed →
         Rose (F.failed_reads tree.old) (F.failed_reads tree.new) }
     ensures write_fault { result ≢ Err ResetFault.WriteFault }
-    ensures changed { (p : PathValue) → result ≢ Err (ResetFault.Changed p) }
+    ensures changed { (p : PathValue) → result ≢ Err (changed_at p) }
 {
     match tree.list(alloc, folder) {
         Ok(names) => Ok(names),

@@ -7,34 +7,13 @@ ghost use Rattle.cluster_tree.specs.declared.tree.TreeFault.{TreeFault};
 ghost use Rattle.control_file.specs.Admission.{IsControl};
 ghost use Rattle.clusters.specs.Marks.{unfinished};
 ghost use Rattle.clusters.specs.RootControl.{control_at};
-ghost use Rattle.reset_plan.specs.ResetFaults.{IsFree, folder_fault, of_cluster, told_by};
+ghost use Rattle.reset_plan.specs.ResetFaults.{IsFree, changed_at, folder_fault, no_memory, read_failed, told_by};
 
 use crate::ResetFault;
 use cluster_tree::{Path, Tree, TreeFault};
 use clusters::ClusterFault;
 use control_file::Control;
 use std::alloc::Global;
-
-// A fault of a cluster as one of a reset, which reads no history.
-fn of_cluster(fault: ClusterFault) -> ResetFault
-    ensures { result ≡ of_cluster fault }
-{
-    match fault {
-        ClusterFault::Unfinished(path) => ResetFault::Unfinished(path),
-        ClusterFault::ControlMissing(root) => ResetFault::ControlMissing(root),
-        ClusterFault::Size(root, size) => ResetFault::Size(root, size),
-        ClusterFault::Crc(root, stored, computed) => ResetFault::Crc(root, stored, computed),
-        ClusterFault::Version(root, version) => ResetFault::Version(root, version),
-        ClusterFault::Catalog(root, catalog) => ResetFault::Catalog(root, catalog),
-        ClusterFault::Shape(root, field, value) => ResetFault::Shape(root, field, value),
-        ClusterFault::HistoryMissing(root, _)
-        | ClusterFault::BadLine(root, _, _)
-        | ClusterFault::NotRising(root, _, _) => ResetFault::ControlMissing(root),
-        ClusterFault::ReadFault => ResetFault::ReadFault,
-        ClusterFault::Changed(path) => ResetFault::Changed(path),
-        ClusterFault::OutOfMemory => ResetFault::OutOfMemory,
-    }
-}
 
 /// Refuses a root at which a mark stands, with the first of them.
 #[tactic(auto, using(crate::proofs::FaultLemmas::fault_steps))]
@@ -45,16 +24,16 @@ pub(crate) fn check_marks<F: Tree>(
 ) -> Result<(), ResetFault>
     requires { length root.now.parts ≤ 61 }
     ensures answer { IsTrue F.tells →
-        Passes IsFree (option_map of_cluster (unfinished (F.contents tree.old) root.now)) result }
+        Passes IsFree (option_map ResetFault.Cluster (unfinished (F.contents tree.old) root.now)) result }
     ensures reads { Reads F.Tree tree.old tree.new }
-    ensures read_fault { IsErrOf result ResetFault.ReadFault →
+    ensures read_fault { IsErrOf result read_failed →
         Rose (F.failed_reads tree.old) (F.failed_reads tree.new) }
     ensures write_fault { result ≢ Err ResetFault.WriteFault }
-    ensures changed { IsTrue F.tells → (p : PathValue) → result ≢ Err (ResetFault.Changed p) }
+    ensures changed { IsTrue F.tells → (p : PathValue) → result ≢ Err (changed_at p) }
 {
     match clusters::check_marks(alloc, tree, root) {
         Ok(()) => Ok(()),
-        Err(fault) => Err(of_cluster(fault)),
+        Err(fault) => Err(ResetFault::Cluster(fault)),
     }
 }
 
@@ -70,14 +49,14 @@ pub(crate) fn control_at<F: Tree>(
         Meets IsFree (told_by (control_at (F.contents tree.old) root.now)) result }
     ensures control { IfOk result IsControl }
     ensures reads { Reads F.Tree tree.old tree.new }
-    ensures read_fault { IsErrOf result ResetFault.ReadFault →
+    ensures read_fault { IsErrOf result read_failed →
         Rose (F.failed_reads tree.old) (F.failed_reads tree.new) }
     ensures write_fault { result ≢ Err ResetFault.WriteFault }
-    ensures changed { IsTrue F.tells → (p : PathValue) → result ≢ Err (ResetFault.Changed p) }
+    ensures changed { IsTrue F.tells → (p : PathValue) → result ≢ Err (changed_at p) }
 {
     match clusters::control_at(alloc, tree, root) {
         Ok(control) => Ok(control),
-        Err(fault) => Err(of_cluster(fault)),
+        Err(fault) => Err(ResetFault::Cluster(fault)),
     }
 }
 
@@ -86,8 +65,8 @@ fn folder_fault(folder: Path, fault: TreeFault) -> ResetFault
     ensures { result ≡ folder_fault folder fault }
 {
     match fault {
-        TreeFault::Failed => ResetFault::ReadFault,
-        TreeFault::OutOfMemory => ResetFault::OutOfMemory,
+        TreeFault::Failed => ResetFault::Cluster(ClusterFault::ReadFault),
+        TreeFault::OutOfMemory => ResetFault::Cluster(ClusterFault::OutOfMemory),
         TreeFault::Link => ResetFault::Link(folder),
         TreeFault::NameNotText => ResetFault::NameNotText(folder),
         _ => ResetFault::NotFolder(folder),
@@ -96,13 +75,13 @@ fn folder_fault(folder: Path, fault: TreeFault) -> ResetFault
 
 /// Why the names of a folder aren't known, or want of memory for its path.
 pub(crate) fn listing_fault(alloc: Global, folder: &Path, fault: TreeFault) -> ResetFault
-    ensures value { (result ≡ folder_fault folder.now fault) ⊎ (result ≡ ResetFault.OutOfMemory) }
-    ensures read { result ≡ ResetFault.ReadFault → fault ≡ TreeFault.Failed }
+    ensures value { (result ≡ folder_fault folder.now fault) ⊎ (result ≡ no_memory) }
+    ensures read { result ≡ read_failed → fault ≡ TreeFault.Failed }
     ensures write_fault { result ≢ ResetFault.WriteFault }
-    ensures changed { (p : PathValue) → result ≢ ResetFault.Changed p }
+    ensures changed { (p : PathValue) → result ≢ changed_at p }
 {
     match folder.copy(alloc) {
         Ok(path) => folder_fault(path, fault),
-        Err(_) => ResetFault::OutOfMemory,
+        Err(_) => ResetFault::Cluster(ClusterFault::OutOfMemory),
     }
 }

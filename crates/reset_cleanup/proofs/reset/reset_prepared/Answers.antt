@@ -3,6 +3,7 @@ use Rattle.marked_runs.specs.Runs.{Runs}
 use Rattle.reset_plan.specs.Prepared.{reset_by}
 use Rattle.reset_plan.specs.declared.plan.Prepared.{Prepared}
 use Rattle.reset_cleanup.proofs.ResetLemmas.{runs-nothing}
+use Rattle.reset_cleanup.proofs.StopLemmas.{dry-left, ready-left}
 use Rattle.reset_cleanup.proofs.reset.reset_prepared.Goals as goal
 
 pub returns-in-Dry-clause-runs : goal.returns-in-Dry-clause-runs
@@ -10,3 +11,9 @@ returns-in-Dry-clause-runs g c told none =
     let k = g.F.Tree.calls c.args.tree.now in
     let d = g.F.Tree.contents c.args.tree.now in
     subst (λ (p : Prepared). Runs (reset_by p).changes k k d d true) (sym c.in-Dry.is) (runs-nothing k d)
+
+pub returns-in-Dry-clause-stops : goal.returns-in-Dry-clause-stops
+returns-in-Dry-clause-stops g c told none off = dry-left g.F.Tree c.args.prepared c.in-Dry.control c.args.tree.now c.in-Dry.is
+
+pub returns-in-Ready-clause-stops : goal.returns-in-Ready-clause-stops
+returns-in-Ready-clause-stops g c told = ready-left g.F.Tree c.args.prepared c.in-Ready.plan _ _ c.in-Ready.is (c.carry_out.ensures.stops told)

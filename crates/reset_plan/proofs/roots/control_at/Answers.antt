@@ -1,7 +1,6 @@
-use Rattle.std.proofs.Common.{◌≡◌, ◌⊎◌, Err, ap, sym, subst}
+use Rattle.std.proofs.Common.{ap}
 use Rattle.clusters.specs.RootControl.{control_at}
-use Rattle.reset_plan.specs.ResetFaults.{IsFree, told_by}
-use Rattle.reset_plan.specs.declared.fault.ResetFault.{ResetFault}
+use Rattle.reset_plan.specs.ResetFaults.{told_by}
 use Rattle.reset_plan.proofs.FaultLemmas.{told-err}
 use Rattle.reset_plan.proofs.roots.control_at.Goals as goal
 
@@ -9,6 +8,4 @@ pub returns-in-Ok-clause-exact : goal.returns-in-Ok-clause-exact
 returns-in-Ok-clause-exact g c told = ap told_by (c.in-Ok.ensures.exact told)
 
 pub returns-in-Err-clause-exact : goal.returns-in-Err-clause-exact
-returns-in-Err-clause-exact g c told =
-    subst (λ (e : ResetFault). IsFree e ⊎ (told_by (control_at (g.F.Tree.contents c.args.tree.now) c.args.root.now) ≡ Err e)) (sym c.of_cluster.ensures)
-    (told-err (control_at (g.F.Tree.contents c.args.tree.now) c.args.root.now) c.in-Err.fault (c.in-Err.ensures.exact told))
+returns-in-Err-clause-exact g c told = told-err (control_at (g.F.Tree.contents c.args.tree.now) c.args.root.now) c.in-Err.fault (c.in-Err.ensures.exact told)
