@@ -1,0 +1,45 @@
+// The calls of storage_databases, and what each answers.
+use crate::files::answers::{ended, whole};
+use crate::logs::{OneRecord, cursor_over, main_body};
+use crate::texts::{bytes_of, cut_at, number};
+use block_refs::split_record;
+use cluster_tree::{Path, Tree};
+use std::alloc::Global;
+use std::test::Fail;
+use storage_databases::{drop_database, make_database, write_relation_map};
+
+// A relation map by the main bytes of its record.
+fn map<F: Tree>(alloc: Global, tree: &mut F, root: &Path, digits: &str) -> Result<String, Fail> {
+    if root.len() > 61 {
+        return Err("too deep".into());
+    }
+    let body = main_body(alloc, &bytes_of(alloc, digits)?)?;
+    let one = OneRecord {
+        xid: 0,
+        manager: 7,
+        info: 0,
+        body: &body,
+    };
+    let cursor = cursor_over(alloc, one)?;
+    let rec = cursor.current().ok_or("no record")?;
+    let parts = split_record(rec)?;
+    whole(alloc, write_relation_map(alloc, tree, root, rec, &parts))
+}
+
+/// What a call on the cluster at a root answers.
+pub(crate) fn answer_folder<F: Tree>(
+    alloc: Global,
+    tree: &mut F,
+    root: &Path,
+    call: &str,
+) -> Result<String, Fail> {
+    if root.len() > 61 {
+        return Err("too deep".into());
+    }
+    let (verb, words) = cut_at(call, " ");
+    match verb {
+        "make" => ended(alloc, make_database(alloc, tree, root, number(words)?)),
+        "drop" => ended(alloc, drop_database(alloc, tree, root, number(words)?)),
+        _ => map(alloc, tree, root, words),
+    }
+}
