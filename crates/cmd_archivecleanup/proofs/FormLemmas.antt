@@ -1,5 +1,5 @@
 -- The forms of what pg_archivecleanup does.
-use Rattle.std.proofs.Common.{◌≡◌, ◌∙◌, ◌==◌, length, ℕ, ◌⊎◌, Bool, true, false, IsTrue, List, [], ◌∷◌, map, Option, None, Some, inl, inr, refl, sym, ap, subst}
+use Rattle.std.proofs.Common.{◌≡◌, ◌∙◌, ◌==◌, length, ℕ, ◌⊎◌, Bool, true, false, List, [], ◌∷◌, map, Option, None, Some, inl, inr, refl, sym, ap, subst}
 use Rattle.std.proofs.lemmas.Bool.{eqb-true}
 use Rattle.std.proofs.lemmas.List.{nil_from_length}
 use Rattle.std.specs.List.{flat_map}

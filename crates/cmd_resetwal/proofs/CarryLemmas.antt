@@ -3,15 +3,20 @@ use Rattle.std.proofs.Common.{◌≡◌, ◌≢◌, ◌∙◌, ◌⊎◌, ℕ, �
 use Rattle.std.specs.Prelude.{if◌then◌else◌}
 use Rattle.cluster_tree.specs.Change.{all_changed, call_of}
 use Rattle.cluster_tree.specs.Contents.{Contents}
+use Rattle.cluster_tree.specs.Frame.{moment_of}
 use Rattle.cluster_tree.specs.PathValue.{PathValue}
+use Rattle.cluster_tree.specs.Stops.{LeavesOnly}
+use Rattle.cluster_tree.specs.declared.tree.Tree.{Ghosts}
 use Rattle.cluster_tree.specs.declared.tree.ChangeCall.{ChangeCall}
+use Rattle.clusters.specs.declared.fault.ClusterFault.{ClusterFault}
+use Rattle.clusters.specs.declared.fault.ClusterFault.TheVariants as cluster
 use Rattle.commands.specs.declared.resetwal.ResetwalWords.{ResetwalWords}
 use Rattle.control_file.specs.Text.{control_text_of}
 use Rattle.control_file.specs.declared.control.Control.{Control}
 use Rattle.marked_runs.specs.Runs.{Runs}
 use Rattle.reset_plan.specs.Prepared.{IsOfNames}
 use Rattle.reset_plan.specs.Reset.{Reset, control_told, reset_of}
-use Rattle.reset_plan.specs.ResetFaults.{IsFree as IsFreeFault}
+use Rattle.reset_plan.specs.ResetFaults.{IsFree as IsFreeFault, changed_at}
 use Rattle.reset_plan.specs.declared.fault.ResetFault.{ResetFault}
 use Rattle.reset_plan.specs.declared.fault.ResetFault.TheVariants as fault
 use Rattle.acts.specs.Acts.{Print, Do, IsAfterChange, Seen, Sunk, seen, Puts, Breaks, Performs}
@@ -24,7 +29,9 @@ use Rattle.run_acts.specs.declared.cause.Cause.TheVariants as cause
 use Rattle.run_acts.proofs.AnswerSteps.{carries_look, carries_refused, last_exact, last_print}
 use Rattle.run_acts.proofs.MadeSteps.{made_all, made_in_part}
 use Rattle.run_acts.proofs.UnseenSteps.{still, unseen_still}
-use Rattle.cmd_resetwal.specs.Resetwal.{IsResetwal, done_line, reset_acts, reset_cause, resetwal_answer, told_answer}
+use Rattle.cluster_causes.specs.Clusters.{cluster_cause}
+use Rattle.cluster_causes.proofs.CauseLemmas.{cluster_looks}
+use Rattle.cmd_resetwal.specs.Resetwal.{IsLeftByReset, IsResetwal, done_line, reset_acts, reset_cause, resetwal_answer, told_answer}
 use Rattle.cmd_resetwal.proofs.FormLemmas.{answer-form, answer-looks}
 
 -- ---- what the faults of a reset say
@@ -55,6 +62,9 @@ module _ (c : Contents) (words : ResetwalWords) {n m : ℤ} where
 
   pub unseen_at : {Seeing Known : Type 0} {o e : Bool} {ended : Cause} {s u : Seen} → n ≡ m → CarriesUnseen Seeing Known (resetwal_answer c words n) (IsResetwal words n) o e ended s u → CarriesUnseen Seeing Known (resetwal_answer c words m) (IsResetwal words m) o e ended s u
   unseen_at {Seeing} {Known} {o} {e} {ended} {s} {u} is p = subst (λ x. CarriesUnseen Seeing Known (resetwal_answer c words x) (IsResetwal words x) o e ended s u) is p
+
+pub left_at : {F : Type 0} (tree : Ghosts F) (words : ResetwalWords) {n m : ℤ} → n ≡ m → (a b : F) → LeavesOnly (IsLeftByReset words n (moment_of tree a)) (tree.stops a) (tree.stops b) → LeavesOnly (IsLeftByReset words m (moment_of tree a)) (tree.stops a) (tree.stops b)
+left_at tree words is a b left = subst (λ n. LeavesOnly (IsLeftByReset words n (moment_of tree a)) (tree.stops a) (tree.stops b)) is left
 
 -- ---- a dry run
 
@@ -91,8 +101,8 @@ meant_acts c d words now reset own meant t = ap (λ x. does (reset_acts x words 
 -- what is known of a fault of a reset
 pub record Faults (tells : Bool) (words : ResetwalWords) (now : ℤ) (c c' : Contents) (k k' : List ChangeCall) (f : ResetFault) : Type 0 where
   pub passes : IsTrue tells → IsFreeFault f ⊎ (control_told (reset_of c words.root words.options now) ≡ Err f)
-  pub never : IsTrue tells → (p : PathValue) → f ≢ fault.Changed p
-  pub still : f ≢ fault.WriteFault → ((p : PathValue) → f ≢ fault.Changed p) → (c' ≡ c) × (k' ≡ k)
+  pub never : IsTrue tells → (p : PathValue) → f ≢ changed_at p
+  pub still : f ≢ fault.WriteFault → ((p : PathValue) → f ≢ changed_at p) → (c' ≡ c) × (k' ≡ k)
   pub form : f ≡ fault.WriteFault → (reset : Reset) × IsOfNames words.root words.options now reset × (IsTrue tells → reset_of c words.root words.options now ≡ Ok reset)
   pub ran : (reset : Reset) → IsTrue tells → reset_of c words.root words.options now ≡ Ok reset → Runs reset.changes k k' c c' false
 
@@ -153,7 +163,7 @@ module _ (tells : Bool) {o e : Bool} (words : ResetwalWords) (now : ℤ) (c c' :
   reset_refused why looks passes ci ki =
       unseen_still ci ki (λ d j. carries_look why (answer-form c words now) (answer-looks c words now) (inr (why, looks, refl)) looks passes refl refl)
 
-  looked : (f : ResetFault) → IsOfLook (reset_cause f) → f ≢ fault.WriteFault → ((p : PathValue) → f ≢ fault.Changed p) → Faults tells words now c c' k k' f
+  looked : (f : ResetFault) → IsOfLook (reset_cause f) → f ≢ fault.WriteFault → ((p : PathValue) → f ≢ changed_at p) → Faults tells words now c c' k k' f
       → CarriesUnseen (IsTrue tells) (IsTrue tells) (resetwal_answer c words now) (IsResetwal words now) o e (reset_cause f) (seen c k out err) (seen c' k' out err)
   looked f looks other none faults = reset_refused (reset_cause f) looks (λ t. refused_so c words now f (faults.passes t)) (faults.still other none).0 (faults.still other none).1
 
@@ -163,22 +173,19 @@ module _ (tells : Bool) {o e : Bool} (words : ResetwalWords) (now : ℤ) (c c' :
       let (reset, made, meant) = faults.form refl in
       reset_begun reset false wet made meant (λ t. faults.ran reset t (meant t))
 
+  -- of a cluster, which changes nothing
+  clustered : (f : ClusterFault) → Faults tells words now c c' k k' (fault.Cluster f)
+      → CarriesUnseen (IsTrue tells) (IsTrue tells) (resetwal_answer c words now) (IsResetwal words now) o e (cluster_cause f) (seen c k out err) (seen c' k' out err)
+  clustered (cluster.Changed path) faults = reset_changed path (λ t. faults.never t path refl)
+  clustered f faults = looked (fault.Cluster f) (cluster_looks f) (λ is. cc) (λ p is. cc) faults
+
   pub reset_faulted : (f : ResetFault) → is_some words.options.dry ≡ false → Faults tells words now c c' k k' f
       → CarriesUnseen (IsTrue tells) (IsTrue tells) (resetwal_answer c words now) (IsResetwal words now) o e (reset_cause f) (seen c k out err) (seen c' k' out err)
-  reset_faulted (fault.Unfinished path) wet faults = looked (fault.Unfinished path) (inr (inr refl)) (λ is. cc) (λ p is. cc) faults
-  reset_faulted (fault.ControlMissing root) wet faults = looked (fault.ControlMissing root) (inr (inr refl)) (λ is. cc) (λ p is. cc) faults
-  reset_faulted (fault.Size root n) wet faults = looked (fault.Size root n) (inr (inr refl)) (λ is. cc) (λ p is. cc) faults
-  reset_faulted (fault.Crc root stored computed) wet faults = looked (fault.Crc root stored computed) (inr (inr refl)) (λ is. cc) (λ p is. cc) faults
-  reset_faulted (fault.Version root n) wet faults = looked (fault.Version root n) (inr (inr refl)) (λ is. cc) (λ p is. cc) faults
-  reset_faulted (fault.Catalog root n) wet faults = looked (fault.Catalog root n) (inr (inr refl)) (λ is. cc) (λ p is. cc) faults
-  reset_faulted (fault.Shape root field n) wet faults = looked (fault.Shape root field n) (inr (inr refl)) (λ is. cc) (λ p is. cc) faults
+  reset_faulted (fault.Cluster f) wet faults = clustered f faults
   reset_faulted (fault.NotFolder path) wet faults = looked (fault.NotFolder path) (inr (inr refl)) (λ is. cc) (λ p is. cc) faults
   reset_faulted (fault.BadSegment path) wet faults = looked (fault.BadSegment path) (inr (inr refl)) (λ is. cc) (λ p is. cc) faults
   reset_faulted (fault.NotClean root n) wet faults = looked (fault.NotClean root n) (inr (inr refl)) (λ is. cc) (λ p is. cc) faults
   reset_faulted (fault.Link path) wet faults = looked (fault.Link path) (inr (inr refl)) (λ is. cc) (λ p is. cc) faults
   reset_faulted (fault.KindsDiffer path) wet faults = looked (fault.KindsDiffer path) (inr (inr refl)) (λ is. cc) (λ p is. cc) faults
   reset_faulted (fault.NameNotText path) wet faults = looked (fault.NameNotText path) (inr (inr refl)) (λ is. cc) (λ p is. cc) faults
-  reset_faulted fault.ReadFault wet faults = looked fault.ReadFault (inl refl) (λ is. cc) (λ p is. cc) faults
   reset_faulted fault.WriteFault wet faults = broken faults wet
-  reset_faulted (fault.Changed path) wet faults = reset_changed path (λ t. faults.never t path refl)
-  reset_faulted fault.OutOfMemory wet faults = looked fault.OutOfMemory (inr (inl refl)) (λ is. cc) (λ p is. cc) faults

@@ -19,10 +19,11 @@ use Rattle.reset_numbers.specs.Behind.{new_segment}
 use Rattle.reset_numbers.specs.declared.options.ResetOptions.{ResetOptions}
 use Rattle.reset_plan.specs.Prepared.{IsOfNames, reset_with}
 use Rattle.reset_plan.specs.Reset.{Reset, changes_of, control_after, entry_refusal, gone_in, gone_of, gone_refusal, kind_refusal, names_at, not_clean, reset_known, reset_of, reset_to, segment_found, status_fault, status_folder, status_refusal, wal_refusal}
-use Rattle.reset_plan.specs.ResetFaults.{folder_fault, of_cluster, told_by}
+use Rattle.reset_plan.specs.ResetFaults.{folder_fault, told_by}
 use Rattle.reset_plan.specs.declared.fault.ResetFault.{ResetFault}
 use Rattle.reset_plan.specs.declared.fault.ResetFault.TheVariants as fault
 use Rattle.run_acts.specs.Causes.{IsOfLook}
+use Rattle.cluster_causes.proofs.CauseLemmas.{cluster_looks}
 use Rattle.cmd_resetwal.specs.Resetwal.{reset_cause}
 
 -- a refusal comes while the command looks
@@ -33,21 +34,6 @@ Looks f = IsOfLook (reset_cause f)
 abbrev MayLook : Option ResetFault → Type 0
 MayLook None = Unit {0}
 MayLook (Some f) = Looks f
-
-of_cluster-looks : (f : ClusterFault) → Looks (of_cluster f)
-of_cluster-looks (cluster.Unfinished path) = inr (inr refl)
-of_cluster-looks (cluster.ControlMissing root) = inr (inr refl)
-of_cluster-looks (cluster.Size root n) = inr (inr refl)
-of_cluster-looks (cluster.Crc root stored computed) = inr (inr refl)
-of_cluster-looks (cluster.Version root n) = inr (inr refl)
-of_cluster-looks (cluster.Catalog root n) = inr (inr refl)
-of_cluster-looks (cluster.Shape root field n) = inr (inr refl)
-of_cluster-looks (cluster.HistoryMissing root tli) = inr (inr refl)
-of_cluster-looks (cluster.BadLine root tli n) = inr (inr refl)
-of_cluster-looks (cluster.NotRising root tli n) = inr (inr refl)
-of_cluster-looks cluster.ReadFault = inl refl
-of_cluster-looks (cluster.Changed path) = inr (inr refl)
-of_cluster-looks cluster.OutOfMemory = inr (inl refl)
 
 folder-looks : (folder : PathValue) (f : TreeFault) → Looks (folder_fault folder f)
 folder-looks folder tree.Link = inr (inr refl)
@@ -65,15 +51,15 @@ folders-look : (folder : PathValue) (o : Option TreeFault) → MayLook (option_m
 folders-look folder None = tt
 folders-look folder (Some f) = folder-looks folder f
 
-mark-looks : (o : Option PathValue) → MayLook (option_map of_cluster (option_map cluster.Unfinished o))
+mark-looks : (o : Option PathValue) → MayLook (option_map fault.Cluster (option_map cluster.Unfinished o))
 mark-looks None = tt
 mark-looks (Some path) = inr (inr refl)
 
-marks-look : (marks : MarkPaths) (o : Option ℕ) → MayLook (option_map of_cluster (with_mark marks o))
+marks-look : (marks : MarkPaths) (o : Option ℕ) → MayLook (option_map fault.Cluster (with_mark marks o))
 marks-look marks None = tt
 marks-look marks (Some number) = mark-looks (mark_at marks number)
 
-unfinished-looks : (c : Contents) (root : PathValue) → MayLook (option_map of_cluster (unfinished c root))
+unfinished-looks : (c : Contents) (root : PathValue) → MayLook (option_map fault.Cluster (unfinished c root))
 unfolding unfinished
 unfinished-looks c root = marks-look (marks_of root) (first_mark c (marks_of root))
 
@@ -166,7 +152,7 @@ module _ (root : PathValue) (options : ResetOptions) (now : ℤ) where
 
   meant-at : (c : Contents) (r : Result Control ClusterFault) → Meant root options now (given (told_by r) (λ old. reset_known c root options now old))
   meant-at c (Ok old) = meant-known c old
-  meant-at c (Err f) = of_cluster-looks f
+  meant-at c (Err f) = cluster_looks f
 
 pub meant : (c : Contents) (root : PathValue) (options : ResetOptions) (now : ℤ) → Meant root options now (reset_of c root options now)
-meant c root options now = meant-unless root options now (option_map of_cluster (unfinished c root)) _ (unfinished-looks c root) (meant-at root options now c (control_at c root))
+meant c root options now = meant-unless root options now (option_map fault.Cluster (unfinished c root)) _ (unfinished-looks c root) (meant-at root options now c (control_at c root))

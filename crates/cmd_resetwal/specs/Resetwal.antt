@@ -2,41 +2,34 @@
 use Rattle.std.specs.Prelude.{◌≡◌, ◌⊎◌, ℕ, ℤ, if◌then◌else◌, is_some, List, [], ◌∷◌, map, codes, Result, Ok, Err}
 use Rattle.cluster_tree.specs.Change.{all_changed, call_of}
 use Rattle.cluster_tree.specs.Contents.{Contents}
+use Rattle.cluster_tree.specs.Run.{Moment}
 use Rattle.control_file.specs.Text.{control_text_of}
 use Rattle.reset_plan.specs.Prepared.{IsOfNames}
 use Rattle.reset_plan.specs.Reset.{Reset, reset_of}
 use Rattle.reset_plan.specs.declared.fault.ResetFault.{ResetFault}
 use Rattle.reset_plan.specs.declared.fault.ResetFault.TheVariants as fault
+use Rattle.reset_cleanup.specs.Stopping.{IsLeft}
 use Rattle.commands.specs.declared.resetwal.ResetwalWords.{ResetwalWords}
 use Rattle.acts.specs.Acts.{Act, Print, Do}
 use Rattle.run_acts.specs.Answers.{Answer, refused, does}
 use Rattle.run_acts.specs.Causes.{IsOfLook}
 use Rattle.run_acts.specs.declared.cause.Cause.{Cause}
 use Rattle.run_acts.specs.declared.cause.Cause.TheVariants as cause
-use Rattle.run_acts.specs.declared.cause.ControlCause.TheVariants as control
 use Rattle.run_acts.specs.declared.cause.LogCause.TheVariants as logs
 use Rattle.run_acts.specs.declared.cause.PathCause.TheVariants as paths
 use Rattle.run_acts.specs.declared.cause.RewindCause.TheVariants as unfit
+use Rattle.cluster_causes.specs.Clusters.{cluster_cause}
 
 -- the cause of a fault
 abbrev pub reset_cause : ResetFault → Cause
-reset_cause (fault.Unfinished path) = cause.Unfinished path
-reset_cause (fault.ControlMissing root) = cause.Control (control.ControlMissing root)
-reset_cause (fault.Size root n) = cause.Control (control.Size root n)
-reset_cause (fault.Crc root stored computed) = cause.Control (control.Crc root stored computed)
-reset_cause (fault.Version root n) = cause.Control (control.Version root n)
-reset_cause (fault.Catalog root n) = cause.Control (control.Catalog root n)
-reset_cause (fault.Shape root field n) = cause.Control (control.Shape root field n)
+reset_cause (fault.Cluster e) = cluster_cause e
 reset_cause (fault.NotFolder path) = cause.Paths (paths.NotFolder path)
 reset_cause (fault.BadSegment path) = cause.Log (logs.BadSegment path)
 reset_cause (fault.NotClean root n) = cause.Rewind (unfit.NotClean root n)
 reset_cause (fault.Link path) = cause.Paths (paths.Link path)
 reset_cause (fault.KindsDiffer path) = cause.Rewind (unfit.KindsDiffer path)
 reset_cause (fault.NameNotText path) = cause.Paths (paths.NameNotText path)
-reset_cause fault.ReadFault = cause.ReadFault
 reset_cause fault.WriteFault = cause.WriteFault
-reset_cause (fault.Changed path) = cause.Changed path
-reset_cause fault.OutOfMemory = cause.OutOfMemory
 
 -- what is told of a reset that was made
 abbrev pub done_line : List ℕ
@@ -66,3 +59,7 @@ pub record IsOfReset (words : ResetwalWords) (now : ℤ) (answer : Answer) : Typ
 -- over every tree: what is done about such a reset, or a refusal while it looks
 abbrev pub IsResetwal : ResetwalWords → ℤ → Answer → Type 0
 IsResetwal words now answer = IsOfReset words now answer ⊎ ((e : Cause) × IsOfLook e × (answer ≡ refused e))
+
+-- what a stop at any moment of it may leave: all untouched, and of a reset that isn't dry and isn't refused the mark, or all that it was to leave
+abbrev pub IsLeftByReset : ResetwalWords → ℤ → Moment → Contents → Type 0
+IsLeftByReset words now first c = IsLeft words.root words.options now first c

@@ -8,7 +8,7 @@ use Rattle.clusters.specs.declared.fault.ClusterFault.TheVariants as cluster
 use Rattle.reset_plan.specs.declared.fault.ResetFault.{ResetFault}
 use Rattle.reset_plan.specs.declared.fault.ResetFault.TheVariants as fault
 
--- what may come at a read, of memory, and where the tree contradicts itself about a path
+-- those of a cluster that a reset answers of its own reads too: one failed, memory is wanting, and the tree contradicted itself about a path
 abbrev pub read_failed : ResetFault
 read_failed = fault.Cluster cluster.ReadFault
 

@@ -23,8 +23,8 @@ pub(crate) fn check_marks<F: Tree>(
     root: &Path,
 ) -> Result<(), ResetFault>
     requires { length root.now.parts ≤ 61 }
-    ensures answer { IsTrue F.tells →
-        Passes IsFree (option_map ResetFault.Cluster (unfinished (F.contents tree.old) root.now)) result }
+    ensures answer { IsTrue F.tells → Passes IsFree
+        (option_map ResetFault.Cluster (unfinished (F.contents tree.old) root.now)) result }
     ensures reads { Reads F.Tree tree.old tree.new }
     ensures read_fault { IsErrOf result read_failed →
         Rose (F.failed_reads tree.old) (F.failed_reads tree.new) }

@@ -13,7 +13,7 @@ use Rattle.commands.specs.declared.archivecleanup.ArchivecleanupWords.{Archivecl
 use Rattle.commands.specs.declared.resetwal.ResetwalWords.{ResetwalWords}
 use Rattle.commands.specs.declared.rewind.RewindWords.{RewindWords}
 use Rattle.commands.specs.declared.walreplay.WalreplayWords.{WalreplayWords}
-use Rattle.cmd_resetwal.specs.Resetwal.{IsLeftByResetwal}
+use Rattle.cmd_resetwal.specs.Resetwal.{IsLeftByReset}
 use Rattle.cmd_rewind.specs.Rewind.{IsLeftByRewind}
 use Rattle.cmd_walreplay.specs.Walreplay.{IsLeftByWalreplay}
 use Rattle.marked_runs.specs.Moments.{IsUntouched}
@@ -52,10 +52,10 @@ left_of_rewind {k} {words} {n} {m} first a b is same left =
     subst P (sym is) (subst (λ x. LeavesOnly (IsLeftByRewind words x first) a b) same left)
 
 -- pg_resetwal was
-pub left_of_reset : {k : Command} {words : ResetwalWords} {n m : ℤ} (first : Moment) (a b : Stops) → k ≡ command.Resetwal words → n ≡ m → LeavesOnly (IsLeftByResetwal words n first) a b → LeavesOnly (IsLeftAsked (Ok k) m first) a b
+pub left_of_reset : {k : Command} {words : ResetwalWords} {n m : ℤ} (first : Moment) (a b : Stops) → k ≡ command.Resetwal words → n ≡ m → LeavesOnly (IsLeftByReset words n first) a b → LeavesOnly (IsLeftAsked (Ok k) m first) a b
 left_of_reset {k} {words} {n} {m} first a b is same left =
     let P : Command → Type 0 = λ x. LeavesOnly (IsLeftAsked (Ok x) m first) a b in
-    subst P (sym is) (subst (λ x. LeavesOnly (IsLeftByResetwal words x first) a b) same left)
+    subst P (sym is) (subst (λ x. LeavesOnly (IsLeftByReset words x first) a b) same left)
 
 -- pg_walreplay was
 pub left_of_replay : {k : Command} {words : WalreplayWords} (now : ℤ) (first : Moment) (a b : Stops) → k ≡ command.Walreplay words → LeavesOnly (IsLeftByWalreplay words first) a b → LeavesOnly (IsLeftAsked (Ok k) now first) a b

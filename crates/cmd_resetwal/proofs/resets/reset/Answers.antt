@@ -1,7 +1,7 @@
 use Rattle.std.proofs.Common.{Err, FitsSigned, ap, refl, rules, w64}
 use Rattle.std.proofs.lemmas.Int.{to_z-of_z}
 use Rattle.run_acts.proofs.UnseenSteps.{unseen_told}
-use Rattle.cmd_resetwal.proofs.CarryLemmas.{reset_faulted, reset_told, unseen_at}
+use Rattle.cmd_resetwal.proofs.CarryLemmas.{left_at, reset_faulted, reset_told, unseen_at}
 use Rattle.cmd_resetwal.proofs.resets.reset.Goals as goal
 
 pub returns-in-Ok-clause-carries : goal.returns-in-Ok-clause-carries
@@ -25,3 +25,13 @@ returns-in-Err-clause-carries g c err_tells err =
       form = c.in-Err.ensures.form;
       ran = λ made t meant. c.in-Err.ensures.writes t made meant;
     })))
+
+pub returns-in-Ok-clause-stops : goal.returns-in-Ok-clause-stops
+returns-in-Ok-clause-stops g c told =
+    let fits : FitsSigned w64 c.args.now = search rules in
+    left_at g.F.Tree c.args.words.now (to_z-of_z w64 c.args.now fits) _ _ (c.reset_log.ensures.stops told)
+
+pub returns-in-Err-clause-stops : goal.returns-in-Err-clause-stops
+returns-in-Err-clause-stops g c told =
+    let fits : FitsSigned w64 c.args.now = search rules in
+    left_at g.F.Tree c.args.words.now (to_z-of_z w64 c.args.now fits) _ _ (c.reset_log.ensures.stops told)
