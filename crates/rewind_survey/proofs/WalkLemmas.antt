@@ -1,6 +1,7 @@
 -- Faults of a walk over a log as faults of a rewind.
 use Rattle.std.proofs.Common.{◌≡◌, ◌⊎◌, inl, inr, Option, Some, Result, Err, option_map, refl, ap}
 use Rattle.cluster_tree.specs.PathValue.{PathValue}
+use Rattle.clusters.specs.declared.fault.ClusterFault.TheVariants as cluster
 use Rattle.log_walk.specs.Faults.{IsFree}
 use Rattle.log_walk.specs.declared.fault.LogWalkFault.{LogWalkFault}
 use Rattle.log_walk.specs.declared.fault.LogWalkFault.TheVariants as walk
@@ -23,7 +24,7 @@ walked-err meant e (inl free) = inl (free_by e free)
 walked-err meant e (inr is) = inr (ap walked is)
 
 -- one fault of a rewind is that of one of a walk
-pub read-walk : (e : LogWalkFault) → of_walk e ≡ fault.ReadFault → e ≡ walk.ReadFault
+pub read-walk : (e : LogWalkFault) → of_walk e ≡ fault.Cluster cluster.ReadFault → e ≡ walk.ReadFault
 read-walk (walk.LogEnds at why) h = absurd (cc h)
 read-walk (walk.BadParts at n) h = absurd (cc h)
 read-walk (walk.Compressed at n) h = absurd (cc h)
@@ -34,7 +35,7 @@ read-walk walk.ReadFault h = refl
 read-walk walk.OutOfMemory h = absurd (cc h)
 
 -- and none is a change
-pub unchanged-walk : (e : LogWalkFault) (p : PathValue) → of_walk e ≡ fault.Changed p → ⊥
+pub unchanged-walk : (e : LogWalkFault) (p : PathValue) → of_walk e ≡ fault.Cluster (cluster.Changed p) → ⊥
 unchanged-walk (walk.LogEnds at why) p h = cc h
 unchanged-walk (walk.BadParts at n) p h = cc h
 unchanged-walk (walk.Compressed at n) p h = cc h

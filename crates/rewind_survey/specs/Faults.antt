@@ -9,28 +9,12 @@ use Rattle.rewind_survey.specs.declared.fault.RewindFault.TheVariants as fault
 
 -- a fault of the device or want of memory, which may come at any point
 abbrev pub IsFree : RewindFault → Type 0
-IsFree e = (e ≡ fault.ReadFault) ⊎ (e ≡ fault.OutOfMemory)
-
--- a fault of a cluster as one of a rewind
-abbrev pub of_cluster : ClusterFault → RewindFault
-of_cluster (cluster.Unfinished path) = fault.Unfinished path
-of_cluster (cluster.ControlMissing root) = fault.ControlMissing root
-of_cluster (cluster.Size root n) = fault.Size root n
-of_cluster (cluster.Crc root stored computed) = fault.Crc root stored computed
-of_cluster (cluster.Version root n) = fault.Version root n
-of_cluster (cluster.Catalog root n) = fault.Catalog root n
-of_cluster (cluster.Shape root field n) = fault.Shape root field n
-of_cluster (cluster.HistoryMissing root tli) = fault.HistoryMissing root tli
-of_cluster (cluster.BadLine root tli n) = fault.BadLine root tli n
-of_cluster (cluster.NotRising root tli n) = fault.NotRising root tli n
-of_cluster cluster.ReadFault = fault.ReadFault
-of_cluster (cluster.Changed path) = fault.Changed path
-of_cluster cluster.OutOfMemory = fault.OutOfMemory
+IsFree e = (e ≡ fault.Cluster cluster.ReadFault) ⊎ (e ≡ fault.Cluster cluster.OutOfMemory)
 
 -- what a cluster says, or why a rewind is refused for it
 abbrev pub told_by : {A : Type 0} → Result A ClusterFault → Result A RewindFault
 told_by (Ok v) = Ok v
-told_by (Err e) = Err (of_cluster e)
+told_by (Err e) = Err (fault.Cluster e)
 
 -- a fault of a walk over the target's log as one of a rewind
 abbrev pub of_walk : LogWalkFault → RewindFault
@@ -40,8 +24,8 @@ of_walk (walk.Compressed at id) = fault.Compressed at id
 of_walk (walk.NoCommonCheckpoint at) = fault.NoCommonCheckpoint at
 of_walk (walk.UnknownSpecial at manager info) = fault.UnknownSpecial at manager info
 of_walk (walk.EndNotRecord end found) = fault.EndNotRecord end found
-of_walk walk.ReadFault = fault.ReadFault
-of_walk walk.OutOfMemory = fault.OutOfMemory
+of_walk walk.ReadFault = fault.Cluster cluster.ReadFault
+of_walk walk.OutOfMemory = fault.Cluster cluster.OutOfMemory
 
 -- what a walk says, or why a rewind is refused for it
 abbrev pub walked : {A : Type 0} → Result A LogWalkFault → Result A RewindFault

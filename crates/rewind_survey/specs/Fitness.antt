@@ -3,6 +3,7 @@ use Rattle.std.specs.Prelude.{◌==◌, ◌||◌, not, if◌then◌else◌, List
 use Rattle.cluster_tree.specs.PathValue.{PathValue}
 use Rattle.control_file.specs.declared.control.Control.{Control}
 use Rattle.control_file.specs.declared.field.Field.TheVariants as field
+use Rattle.clusters.specs.declared.fault.ClusterFault.TheVariants as cluster
 use Rattle.rewind_survey.specs.declared.fault.RewindFault.{RewindFault}
 use Rattle.rewind_survey.specs.declared.fault.RewindFault.TheVariants as fault
 
@@ -10,8 +11,8 @@ use Rattle.rewind_survey.specs.declared.fault.RewindFault.TheVariants as fault
 unfoldable pub other_sizes : PathValue → Control → Control → Option RewindFault
 other_sizes source t s =
     if s.relseg == t.relseg
-    then (if s.walSegSize == t.walSegSize then None else Some (fault.Shape source field.WalSegSize s.walSegSize))
-    else Some (fault.Shape source field.Relseg s.relseg)
+    then (if s.walSegSize == t.walSegSize then None else Some (fault.Cluster (cluster.Shape source field.WalSegSize s.walSegSize)))
+    else Some (fault.Cluster (cluster.Shape source field.Relseg s.relseg))
 
 -- they aren't of one system
 unfoldable pub systems_differ : Control → Control → Option RewindFault

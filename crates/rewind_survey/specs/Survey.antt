@@ -19,6 +19,7 @@ use Rattle.clusters.specs.Marks.{unfinished}
 use Rattle.clusters.specs.RootControl.{control_at}
 use Rattle.clusters.specs.RootHistory.{history_at}
 use Rattle.clusters.specs.RootLog.{log_at}
+use Rattle.clusters.specs.declared.fault.ClusterFault.TheVariants as cluster
 use Rattle.wal_records.specs.Further.{Pages, pages_of}
 use Rattle.wal_records.specs.Log.{log_of}
 use Rattle.wal_records.specs.Reading.{LogRecord}
@@ -26,7 +27,7 @@ use Rattle.log_walk.specs.Back.{common_checkpoint}
 use Rattle.log_walk.specs.First.{end_of_target}
 use Rattle.log_walk.specs.Needed.{needed, read_refusal}
 use Rattle.log_walk.specs.declared.checkpoint.CommonCheckpoint.{CommonCheckpoint}
-use Rattle.rewind_survey.specs.Faults.{IsFree, of_cluster, of_walk, told_by, walked}
+use Rattle.rewind_survey.specs.Faults.{IsFree, of_walk, told_by, walked}
 use Rattle.rewind_survey.specs.Fitness.{pair_points}
 use Rattle.rewind_survey.specs.Marks.{IsTouchedBy}
 use Rattle.rewind_survey.specs.declared.outcome.Parted.{Parted as PartedTold}
@@ -77,7 +78,7 @@ target_log target t spans = option_map (log_at target spans) (size_of_bytes t.wa
 -- in that log; a control file that was read has the size of a segment
 abbrev pub in_log : Contents → PathValue → Control → Divergence → Option LogPath → Result Survey RewindFault
 in_log c target t fork (Some log) = parted (pages_of log c) (bytes_of log.size) t fork
-in_log c target t fork None = Err (fault.Shape target field.WalSegSize t.walSegSize)
+in_log c target t fork None = Err (fault.Cluster (cluster.Shape target field.WalSegSize t.walSegSize))
 
 -- the fork of two histories, if they have one
 abbrev pub fork_in : Ancestor → Result Divergence RewindFault
@@ -101,8 +102,8 @@ from_controls c target source t s =
 -- The first point that refuses decides: first of all the marks of unfinished runs and both control files.
 abbrev pub survey_of : Contents → PathValue → PathValue → Result Survey RewindFault
 survey_of c target source =
-    unless (option_map of_cluster (unfinished c target)) (
-    unless (option_map of_cluster (unfinished c source)) (
+    unless (option_map fault.Cluster (unfinished c target)) (
+    unless (option_map fault.Cluster (unfinished c source)) (
     given (told_by (control_at c target)) (λ t.
     given (told_by (control_at c source)) (λ s.
     from_controls c target source t s))))

@@ -8,6 +8,7 @@ ghost use Rattle.control_file.specs.Admission.{IsControl};
 ghost use Rattle.control_file.specs.Reading.{timeline_of};
 ghost use Rattle.timeline_history.specs.Ancestor.{divergence_of, last_tli};
 ghost use Rattle.rewind_survey.specs.Survey.{Surveys, fork_in, from_controls, from_histories, survey_of};
+ghost use Rattle.clusters.specs.declared.fault.ClusterFault.TheVariants as cluster;
 
 use crate::RewindFault;
 use crate::fitness::check_pair;
@@ -48,9 +49,10 @@ fn survey_apart<F: Tree>(
     ensures exact { IsTrue F.tells → Surveys (from_histories (F.contents tree.old) target.now
         source.now t.now s.now) result }
     ensures reads { Reads F.Tree tree.old tree.new }
-    ensures read_fault { IsErrOf result RewindFault.ReadFault →
+    ensures read_fault { IsErrOf result (RewindFault.Cluster cluster.ReadFault) →
         Rose (F.failed_reads tree.old) (F.failed_reads tree.new) }
-    ensures changed { IsTrue F.tells → (p : PathValue) → result ≢ Err (RewindFault.Changed p) }
+    ensures changed { IsTrue F.tells → (p : PathValue) →
+        result ≢ Err (RewindFault.Cluster (cluster.Changed p)) }
     ensures never_writes { result ≢ Err RewindFault.WriteFault }
 {
     let a = history_at(alloc, tree, target, t.timeline())?;
@@ -76,9 +78,10 @@ fn survey_pair<F: Tree>(
     ensures exact { IsTrue F.tells → Surveys (from_controls (F.contents tree.old) target.now
         source.now t.now s.now) result }
     ensures reads { Reads F.Tree tree.old tree.new }
-    ensures read_fault { IsErrOf result RewindFault.ReadFault →
+    ensures read_fault { IsErrOf result (RewindFault.Cluster cluster.ReadFault) →
         Rose (F.failed_reads tree.old) (F.failed_reads tree.new) }
-    ensures changed { IsTrue F.tells → (p : PathValue) → result ≢ Err (RewindFault.Changed p) }
+    ensures changed { IsTrue F.tells → (p : PathValue) →
+        result ≢ Err (RewindFault.Cluster (cluster.Changed p)) }
     ensures never_writes { result ≢ Err RewindFault.WriteFault }
 {
     check_pair(alloc, target, source, t, s)?;
@@ -91,8 +94,8 @@ fn survey_pair<F: Tree>(
 /// Finds out what the target needs to follow the source's log. It changes nothing.
 ///
 /// Answers that nothing is to be done where both clusters are on one timeline, or where the target's
-/// log ends at their fork or below; else where they parted and what was touched since. Refuses with the first
-/// fault of the order of `RewindFault`: the marks of the target, then of the source; the control file
+/// log ends at their fork or below; else where they parted and what was touched since. Refuses with
+/// the first fault of these: the marks of the target, then of the source; the control file
 /// of the target, then of the source, and what the two must meet; the history of the target's
 /// timeline, then of the source's, and their fork; the end of the target's log; the walk back to the
 /// last common checkpoint; and the records of the target's log from that checkpoint's redo on.
@@ -110,9 +113,10 @@ pub fn survey<F: Tree>(
     ensures exact { IsTrue F.tells → Surveys (survey_of (F.contents tree.old) target.now source.now)
         result }
     ensures reads { Reads F.Tree tree.old tree.new }
-    ensures read_fault { IsErrOf result RewindFault.ReadFault →
+    ensures read_fault { IsErrOf result (RewindFault.Cluster cluster.ReadFault) →
         Rose (F.failed_reads tree.old) (F.failed_reads tree.new) }
-    ensures changed { IsTrue F.tells → (p : PathValue) → result ≢ Err (RewindFault.Changed p) }
+    ensures changed { IsTrue F.tells → (p : PathValue) →
+        result ≢ Err (RewindFault.Cluster (cluster.Changed p)) }
     ensures never_writes { result ≢ Err RewindFault.WriteFault }
 {
     check_marks(alloc, tree, target)?;

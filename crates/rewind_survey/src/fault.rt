@@ -1,35 +1,18 @@
 // Why nothing was rewound.
 use cluster_tree::{OutOfMemory, Path};
-use control_file::Field;
+use clusters::ClusterFault;
 use thiserror::Error;
 use wal_base::Lsn;
 use wal_records::Why;
 
-/// Why nothing was rewound, in the order in which it is looked for. A root is the target's or the
-/// source's.
+/// Why nothing was rewound, but for `Cluster` in the order in which it is looked for. A root is the
+/// target's or the source's.
 #[derive(Debug, Drop, Error)]
 pub enum RewindFault {
-    /// The mark of an unfinished run stands at this path.
-    #[error("an unfinished run left {0}")]
-    Unfinished(Path),
-    /// `global/pg_control` is not a file below this root.
-    #[error("{0} has no control file")]
-    ControlMissing(Path),
-    /// The root, and the number of bytes of its control file, which is not 8192.
-    #[error("the control file of {0} has {1} bytes")]
-    Size(Path, u64),
-    /// The root, the checksum stored in its control file, and the one computed.
-    #[error("the control file of {0} has the checksum {1:08X} and not {2:08X}")]
-    Crc(Path, u32, u32),
-    /// The root, and the version of its control file, which is not 1300.
-    #[error("the control file of {0} has version {1}")]
-    Version(Path, u32),
-    /// The root, and the catalog version in its control file, which is not 202307071.
-    #[error("the control file of {0} has catalog version {1}")]
-    Catalog(Path, u32),
-    /// The root, a field of its control file, and the field's value, which is out of shape.
-    #[error("the control file of {0} has {2} as {1}")]
-    Shape(Path, Field, u64),
+    /// What a root has: a mark, a control file or a history that is refused, with segments or files of
+    /// another size too; or a read failed, the tree contradicted itself, or memory was wanting.
+    #[error("{0}")]
+    Cluster(ClusterFault),
     /// The system identifiers of the target and of the source, which differ.
     #[error("the target is of system {0} and the source of system {1}")]
     SystemsDiffer(u64, u64),
@@ -39,15 +22,6 @@ pub enum RewindFault {
     /// The root of a cluster that was not shut down, and its state.
     #[error("{0} was not shut down cleanly: its state is {1}")]
     NotClean(Path, u32),
-    /// The root, and a timeline whose history is not a file there.
-    #[error("{0} has no history of timeline {1}")]
-    HistoryMissing(Path, u32),
-    /// The root, a timeline, and the number of the line of its history that is no entry.
-    #[error("line {2} of the history of timeline {1} of {0} is no entry")]
-    BadLine(Path, u32, u64),
-    /// The root, a timeline, and the number of the line of its history that doesn't rise.
-    #[error("line {2} of the history of timeline {1} of {0} doesn't rise")]
-    NotRising(Path, u32, u64),
     /// The histories of target and source have nothing in common.
     #[error("the histories of target and source have nothing in common")]
     NoCommonAncestor,
@@ -89,38 +63,42 @@ pub enum RewindFault {
     /// At this path below the roots a file stands on one side and a folder on the other.
     #[error("{0} is a file on one side and a folder on the other")]
     KindsDiffer(Path),
-    /// A read of the device failed.
-    #[error("a read failed")]
-    ReadFault,
     /// A changing call of the device failed.
     #[error("a write failed")]
     WriteFault,
-    /// The tree contradicted, about this path, what it had answered before.
-    #[error("{0} was changed during the run")]
-    Changed(Path),
-    /// Memory is wanting.
-    #[error("out of memory")]
-    OutOfMemory,
+}
+
+impl From<ClusterFault> for RewindFault {
+    ghost use Rattle.std.specs.Prelude.{◌≡◌};
+    ghost use Rattle.rewind_survey.specs.declared.fault.RewindFault.TheVariants as fault;
+
+    ghost from_gives = { λ cause e. e ≡ fault.Cluster cause };
+
+    fn from(cause: ClusterFault) -> RewindFault {
+        RewindFault::Cluster(cause)
+    }
 }
 
 impl From<OutOfMemory> for RewindFault {
     ghost use Rattle.std.specs.Prelude.{◌≡◌};
+    ghost use Rattle.clusters.specs.declared.fault.ClusterFault.TheVariants as cluster;
     ghost use Rattle.rewind_survey.specs.declared.fault.RewindFault.TheVariants as fault;
 
-    ghost from_gives = { λ _ e. e ≡ fault.OutOfMemory };
+    ghost from_gives = { λ _ e. e ≡ fault.Cluster cluster.OutOfMemory };
 
     fn from(_: OutOfMemory) -> RewindFault {
-        RewindFault::OutOfMemory
+        RewindFault::Cluster(ClusterFault::OutOfMemory)
     }
 }
 
 impl From<wal_base::OutOfMemory> for RewindFault {
     ghost use Rattle.std.specs.Prelude.{◌≡◌};
+    ghost use Rattle.clusters.specs.declared.fault.ClusterFault.TheVariants as cluster;
     ghost use Rattle.rewind_survey.specs.declared.fault.RewindFault.TheVariants as fault;
 
-    ghost from_gives = { λ _ e. e ≡ fault.OutOfMemory };
+    ghost from_gives = { λ _ e. e ≡ fault.Cluster cluster.OutOfMemory };
 
     fn from(_: wal_base::OutOfMemory) -> RewindFault {
-        RewindFault::OutOfMemory
+        RewindFault::Cluster(ClusterFault::OutOfMemory)
     }
 }

@@ -4,9 +4,11 @@ ghost use Rattle.cluster_tree.specs.PathValue.{PathValue};
 ghost use Rattle.cluster_tree.specs.Causes.{Passes, first_of};
 ghost use Rattle.rewind_survey.specs.Faults.{IsFree};
 ghost use Rattle.rewind_survey.specs.Fitness.{pair_points, other_sizes, systems_differ, no_hints, not_clean};
+ghost use Rattle.clusters.specs.declared.fault.ClusterFault.TheVariants as cluster;
 
 use crate::RewindFault;
 use cluster_tree::Path;
+use clusters::ClusterFault;
 use control_file::{Control, Field};
 use std::alloc::Global;
 
@@ -21,8 +23,8 @@ pub(crate) fn check_pair(
 ) -> Result<(), RewindFault>
     ensures answer { Passes IsFree (first_of (pair_points target.now source.now t.now s.now))
         result }
-    ensures read_fault { result ≢ Err RewindFault.ReadFault }
-    ensures changed { (p : PathValue) → result ≢ Err (RewindFault.Changed p) }
+    ensures read_fault { result ≢ Err (RewindFault.Cluster cluster.ReadFault) }
+    ensures changed { (p : PathValue) → result ≢ Err (RewindFault.Cluster (cluster.Changed p)) }
     ensures never_writes { result ≢ Err RewindFault.WriteFault }
 {
     check_sizes(alloc, source, t, s)?;
@@ -36,15 +38,17 @@ pub(crate) fn check_pair(
 #[tactic(auto, unfolding(crate::specs::Fitness::other_sizes))]
 fn check_sizes(alloc: Global, source: &Path, t: &Control, s: &Control) -> Result<(), RewindFault>
     ensures answer { Passes IsFree (other_sizes source.now t.now s.now) result }
-    ensures read_fault { result ≢ Err RewindFault.ReadFault }
-    ensures changed { (p : PathValue) → result ≢ Err (RewindFault.Changed p) }
+    ensures read_fault { result ≢ Err (RewindFault.Cluster cluster.ReadFault) }
+    ensures changed { (p : PathValue) → result ≢ Err (RewindFault.Cluster (cluster.Changed p)) }
     ensures never_writes { result ≢ Err RewindFault.WriteFault }
 {
     if s.relseg != t.relseg {
-        return Err(RewindFault::Shape(source.copy(alloc)?, Field::Relseg, s.relseg as u64));
+        let (root, value) = (source.copy(alloc)?, s.relseg as u64);
+        return Err(RewindFault::Cluster(ClusterFault::Shape(root, Field::Relseg, value)));
     }
     if s.walSegSize != t.walSegSize {
-        return Err(RewindFault::Shape(source.copy(alloc)?, Field::WalSegSize, s.walSegSize as u64));
+        let (root, value) = (source.copy(alloc)?, s.walSegSize as u64);
+        return Err(RewindFault::Cluster(ClusterFault::Shape(root, Field::WalSegSize, value)));
     }
     Ok(())
 }
@@ -53,8 +57,8 @@ fn check_sizes(alloc: Global, source: &Path, t: &Control, s: &Control) -> Result
 #[tactic(auto, unfolding(crate::specs::Fitness::systems_differ))]
 fn check_systems(t: &Control, s: &Control) -> Result<(), RewindFault>
     ensures answer { Passes IsFree (systems_differ t.now s.now) result }
-    ensures read_fault { result ≢ Err RewindFault.ReadFault }
-    ensures changed { (p : PathValue) → result ≢ Err (RewindFault.Changed p) }
+    ensures read_fault { result ≢ Err (RewindFault.Cluster cluster.ReadFault) }
+    ensures changed { (p : PathValue) → result ≢ Err (RewindFault.Cluster (cluster.Changed p)) }
     ensures never_writes { result ≢ Err RewindFault.WriteFault }
 {
     if t.sysid != s.sysid {
@@ -67,8 +71,8 @@ fn check_systems(t: &Control, s: &Control) -> Result<(), RewindFault>
 #[tactic(auto, unfolding(crate::specs::Fitness::no_hints))]
 fn check_hints(alloc: Global, root: &Path, t: &Control) -> Result<(), RewindFault>
     ensures answer { Passes IsFree (no_hints root.now t.now) result }
-    ensures read_fault { result ≢ Err RewindFault.ReadFault }
-    ensures changed { (p : PathValue) → result ≢ Err (RewindFault.Changed p) }
+    ensures read_fault { result ≢ Err (RewindFault.Cluster cluster.ReadFault) }
+    ensures changed { (p : PathValue) → result ≢ Err (RewindFault.Cluster (cluster.Changed p)) }
     ensures never_writes { result ≢ Err RewindFault.WriteFault }
 {
     if t.walLogHints == 0 && t.checksumVersion != 1 {
@@ -81,8 +85,8 @@ fn check_hints(alloc: Global, root: &Path, t: &Control) -> Result<(), RewindFaul
 #[tactic(auto, unfolding(crate::specs::Fitness::not_clean))]
 fn check_clean(alloc: Global, root: &Path, c: &Control) -> Result<(), RewindFault>
     ensures answer { Passes IsFree (not_clean root.now c.now) result }
-    ensures read_fault { result ≢ Err RewindFault.ReadFault }
-    ensures changed { (p : PathValue) → result ≢ Err (RewindFault.Changed p) }
+    ensures read_fault { result ≢ Err (RewindFault.Cluster cluster.ReadFault) }
+    ensures changed { (p : PathValue) → result ≢ Err (RewindFault.Cluster (cluster.Changed p)) }
     ensures never_writes { result ≢ Err RewindFault.WriteFault }
 {
     if c.state != 1 {

@@ -7,6 +7,7 @@ ghost use Rattle.wal_base.specs.Segment.{bytes_of};
 ghost use Rattle.wal_records.specs.Cursor.{Knows};
 ghost use Rattle.wal_records.specs.Further.{pages_of};
 ghost use Rattle.rewind_survey.specs.Survey.{Surveys, parted, read_from, walked_back};
+ghost use Rattle.clusters.specs.declared.fault.ClusterFault.TheVariants as cluster;
 
 use crate::RewindFault;
 use crate::outcome::{Parted, Surveyed, Told};
@@ -33,9 +34,9 @@ fn read_from<F: Tree>(
         (pages_of cursor.old.log (F.contents tree.old)) (bytes_of cursor.old.log.size) fork end.0
         found) result }
     ensures reads { Reads F.Tree tree.old tree.new }
-    ensures read_fault { IsErrOf result RewindFault.ReadFault →
+    ensures read_fault { IsErrOf result (RewindFault.Cluster cluster.ReadFault) →
         Rose (F.failed_reads tree.old) (F.failed_reads tree.new) }
-    ensures changed { (p : PathValue) → result ≢ Err (RewindFault.Changed p) }
+    ensures changed { (p : PathValue) → result ≢ Err (RewindFault.Cluster (cluster.Changed p)) }
     ensures never_writes { result ≢ Err RewindFault.WriteFault }
 {
     let redo = Lsn(found.checkpoint.redo);
@@ -66,9 +67,9 @@ fn walk_back<F: Tree>(
     ensures exact { IsTrue F.tells → Surveys (walked_back
         (pages_of cursor.old.log (F.contents tree.old)) (bytes_of size) fork end.0) result }
     ensures reads { Reads F.Tree tree.old tree.new }
-    ensures read_fault { IsErrOf result RewindFault.ReadFault →
+    ensures read_fault { IsErrOf result (RewindFault.Cluster cluster.ReadFault) →
         Rose (F.failed_reads tree.old) (F.failed_reads tree.new) }
-    ensures changed { (p : PathValue) → result ≢ Err (RewindFault.Changed p) }
+    ensures changed { (p : PathValue) → result ≢ Err (RewindFault.Cluster (cluster.Changed p)) }
     ensures never_writes { result ≢ Err RewindFault.WriteFault }
 {
     let found = common_checkpoint(cursor, tree, size, fork.at)?;
@@ -90,9 +91,9 @@ pub(crate) fn survey_parted<F: Tree>(
     ensures exact { IsTrue F.tells → Surveys (parted
         (pages_of cursor.old.log (F.contents tree.old)) (bytes_of size) target.now fork) result }
     ensures reads { Reads F.Tree tree.old tree.new }
-    ensures read_fault { IsErrOf result RewindFault.ReadFault →
+    ensures read_fault { IsErrOf result (RewindFault.Cluster cluster.ReadFault) →
         Rose (F.failed_reads tree.old) (F.failed_reads tree.new) }
-    ensures changed { (p : PathValue) → result ≢ Err (RewindFault.Changed p) }
+    ensures changed { (p : PathValue) → result ≢ Err (RewindFault.Cluster (cluster.Changed p)) }
     ensures never_writes { result ≢ Err RewindFault.WriteFault }
 {
     let end = end_of_target(cursor, tree, target)?;

@@ -10,38 +10,18 @@ ghost use Rattle.clusters.specs.RootControl.{control_at};
 ghost use Rattle.clusters.specs.RootHistory.{history_at};
 ghost use Rattle.timeline_history.specs.Ancestor.{last_tli};
 ghost use Rattle.wal_records.specs.Cursor.{Knows};
-ghost use Rattle.rewind_survey.specs.Faults.{IsFree, of_cluster, told_by};
+ghost use Rattle.rewind_survey.specs.Faults.{IsFree, told_by};
 ghost use Rattle.rewind_survey.specs.Survey.{target_log};
+ghost use Rattle.clusters.specs.declared.fault.ClusterFault.TheVariants as cluster;
 
 use crate::RewindFault;
 use cluster_tree::{Path, Tree};
-use clusters::{ClusterFault, log_path, segment_size};
+use clusters::{log_path, segment_size};
 use control_file::Control;
 use std::alloc::Global;
 use timeline_history::History;
 use wal_base::Lsn;
 use wal_records::RecordCursor;
-
-// A fault of a cluster as one of a rewind.
-fn of_cluster(fault: ClusterFault) -> RewindFault
-    ensures { result ≡ of_cluster fault }
-{
-    match fault {
-        ClusterFault::Unfinished(path) => RewindFault::Unfinished(path),
-        ClusterFault::ControlMissing(root) => RewindFault::ControlMissing(root),
-        ClusterFault::Size(root, size) => RewindFault::Size(root, size),
-        ClusterFault::Crc(root, stored, computed) => RewindFault::Crc(root, stored, computed),
-        ClusterFault::Version(root, version) => RewindFault::Version(root, version),
-        ClusterFault::Catalog(root, catalog) => RewindFault::Catalog(root, catalog),
-        ClusterFault::Shape(root, field, value) => RewindFault::Shape(root, field, value),
-        ClusterFault::HistoryMissing(root, tli) => RewindFault::HistoryMissing(root, tli),
-        ClusterFault::BadLine(root, tli, line) => RewindFault::BadLine(root, tli, line),
-        ClusterFault::NotRising(root, tli, line) => RewindFault::NotRising(root, tli, line),
-        ClusterFault::ReadFault => RewindFault::ReadFault,
-        ClusterFault::Changed(path) => RewindFault::Changed(path),
-        ClusterFault::OutOfMemory => RewindFault::OutOfMemory,
-    }
-}
 
 /// Refuses a root at which a mark stands, with the first of them.
 #[tactic(auto, using(crate::proofs::FaultLemmas::fault_steps))]
@@ -52,16 +32,18 @@ pub(crate) fn check_marks<F: Tree>(
 ) -> Result<(), RewindFault>
     requires { length root.now.parts ≤ 61 }
     ensures answer { IsTrue F.tells →
-        Passes IsFree (option_map of_cluster (unfinished (F.contents tree.old) root.now)) result }
+        Passes IsFree (option_map RewindFault.Cluster (unfinished (F.contents tree.old) root.now))
+        result }
     ensures reads { Reads F.Tree tree.old tree.new }
-    ensures read_fault { IsErrOf result RewindFault.ReadFault →
+    ensures read_fault { IsErrOf result (RewindFault.Cluster cluster.ReadFault) →
         Rose (F.failed_reads tree.old) (F.failed_reads tree.new) }
-    ensures changed { IsTrue F.tells → (p : PathValue) → result ≢ Err (RewindFault.Changed p) }
+    ensures changed { IsTrue F.tells → (p : PathValue) →
+        result ≢ Err (RewindFault.Cluster (cluster.Changed p)) }
     ensures never_writes { result ≢ Err RewindFault.WriteFault }
 {
     match clusters::check_marks(alloc, tree, root) {
         Ok(()) => Ok(()),
-        Err(fault) => Err(of_cluster(fault)),
+        Err(fault) => Err(RewindFault::Cluster(fault)),
     }
 }
 
@@ -76,14 +58,15 @@ pub fn control_at<F: Tree>(alloc: Global, tree: &mut F, root: &Path) -> Result<C
         Meets IsFree (told_by (control_at (F.contents tree.old) root.now)) result }
     ensures control { IfOk result IsControl }
     ensures reads { Reads F.Tree tree.old tree.new }
-    ensures read_fault { IsErrOf result RewindFault.ReadFault →
+    ensures read_fault { IsErrOf result (RewindFault.Cluster cluster.ReadFault) →
         Rose (F.failed_reads tree.old) (F.failed_reads tree.new) }
-    ensures changed { IsTrue F.tells → (p : PathValue) → result ≢ Err (RewindFault.Changed p) }
+    ensures changed { IsTrue F.tells → (p : PathValue) →
+        result ≢ Err (RewindFault.Cluster (cluster.Changed p)) }
     ensures never_writes { result ≢ Err RewindFault.WriteFault }
 {
     match clusters::control_at(alloc, tree, root) {
         Ok(control) => Ok(control),
-        Err(fault) => Err(of_cluster(fault)),
+        Err(fault) => Err(RewindFault::Cluster(fault)),
     }
 }
 
@@ -100,14 +83,15 @@ pub(crate) fn history_at<F: Tree>(
         Meets IsFree (told_by (history_at (F.contents tree.old) root.now tli)) result }
     ensures last { IfOk result (λ history. last_tli history ≡ tli) }
     ensures reads { Reads F.Tree tree.old tree.new }
-    ensures read_fault { IsErrOf result RewindFault.ReadFault →
+    ensures read_fault { IsErrOf result (RewindFault.Cluster cluster.ReadFault) →
         Rose (F.failed_reads tree.old) (F.failed_reads tree.new) }
-    ensures changed { IsTrue F.tells → (p : PathValue) → result ≢ Err (RewindFault.Changed p) }
+    ensures changed { IsTrue F.tells → (p : PathValue) →
+        result ≢ Err (RewindFault.Cluster (cluster.Changed p)) }
     ensures never_writes { result ≢ Err RewindFault.WriteFault }
 {
     match clusters::history_at(alloc, tree, root, tli) {
         Ok(history) => Ok(history),
-        Err(fault) => Err(of_cluster(fault)),
+        Err(fault) => Err(RewindFault::Cluster(fault)),
     }
 }
 
@@ -123,12 +107,9 @@ pub(crate) fn target_log(
     ensures log { IfOk result (λ cursor. target_log target.now t.now history.now
         ≡ Some cursor.log) }
     ensures knows { IfOk result (λ cursor. (contents : Contents) → Knows cursor contents) }
-    ensures memory { IfErr result (λ e. e ≡ RewindFault.OutOfMemory) }
+    ensures memory { IfErr result (λ e. e ≡ RewindFault.Cluster cluster.OutOfMemory) }
 {
     let spans = history.spans().copy(alloc)?;
-    let log = match log_path(alloc, target, spans, segment_size(t)) {
-        Ok(log) => log,
-        Err(fault) => return Err(of_cluster(fault)),
-    };
+    let log = log_path(alloc, target, spans, segment_size(t))?;
     Ok(RecordCursor::at(alloc, log, Lsn(t.checkPoint))?)
 }

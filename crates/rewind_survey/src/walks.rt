@@ -12,9 +12,11 @@ ghost use Rattle.log_walk.specs.First.{end_of_target};
 ghost use Rattle.log_walk.specs.Needed.{needed, read_refusal};
 ghost use Rattle.rewind_survey.specs.Faults.{IsFree, of_walk, walked};
 ghost use Rattle.rewind_survey.specs.Marks.{IsTouchedBy};
+ghost use Rattle.clusters.specs.declared.fault.ClusterFault.TheVariants as cluster;
 
 use crate::RewindFault;
 use cluster_tree::Tree;
+use clusters::ClusterFault;
 use control_file::Control;
 use log_walk::{CommonCheckpoint, LogWalkFault};
 use std::alloc::Global;
@@ -35,8 +37,8 @@ fn of_walk(fault: LogWalkFault) -> RewindFault
             RewindFault::UnknownSpecial(at, manager, info)
         }
         LogWalkFault::EndNotRecord(end, found) => RewindFault::EndNotRecord(end, found),
-        LogWalkFault::ReadFault => RewindFault::ReadFault,
-        LogWalkFault::OutOfMemory => RewindFault::OutOfMemory,
+        LogWalkFault::ReadFault => RewindFault::Cluster(ClusterFault::ReadFault),
+        LogWalkFault::OutOfMemory => RewindFault::Cluster(ClusterFault::OutOfMemory),
     }
 }
 
@@ -54,9 +56,9 @@ pub(crate) fn end_of_target<F: Tree>(
     ensures knows { IsTrue F.tells → Knows cursor.new (F.contents tree.new) }
     ensures log { cursor.new.log ≡ cursor.old.log }
     ensures reads { Reads F.Tree tree.old tree.new }
-    ensures read_fault { IsErrOf result RewindFault.ReadFault →
+    ensures read_fault { IsErrOf result (RewindFault.Cluster cluster.ReadFault) →
         Rose (F.failed_reads tree.old) (F.failed_reads tree.new) }
-    ensures changed { (p : PathValue) → result ≢ Err (RewindFault.Changed p) }
+    ensures changed { (p : PathValue) → result ≢ Err (RewindFault.Cluster (cluster.Changed p)) }
     ensures never_writes { result ≢ Err RewindFault.WriteFault }
 {
     match log_walk::end_of_target(cursor, tree, target) {
@@ -80,9 +82,9 @@ pub(crate) fn common_checkpoint<F: Tree>(
     ensures knows { IsTrue F.tells → Knows cursor.new (F.contents tree.new) }
     ensures log { cursor.new.log ≡ cursor.old.log }
     ensures reads { Reads F.Tree tree.old tree.new }
-    ensures read_fault { IsErrOf result RewindFault.ReadFault →
+    ensures read_fault { IsErrOf result (RewindFault.Cluster cluster.ReadFault) →
         Rose (F.failed_reads tree.old) (F.failed_reads tree.new) }
-    ensures changed { (p : PathValue) → result ≢ Err (RewindFault.Changed p) }
+    ensures changed { (p : PathValue) → result ≢ Err (RewindFault.Cluster (cluster.Changed p)) }
     ensures never_writes { result ≢ Err RewindFault.WriteFault }
 {
     match log_walk::common_checkpoint(cursor, tree, size, fork) {
@@ -107,9 +109,9 @@ pub(crate) fn touch_log<F: Tree>(
     ensures marks { IsTrue F.tells → IfOk result (IsTouchedBy (needed end.0 (log_of
         (pages_of cursor.old.log (F.contents tree.old)) (bytes_of cursor.old.log.size) redo.0))) }
     ensures reads { Reads F.Tree tree.old tree.new }
-    ensures read_fault { IsErrOf result RewindFault.ReadFault →
+    ensures read_fault { IsErrOf result (RewindFault.Cluster cluster.ReadFault) →
         Rose (F.failed_reads tree.old) (F.failed_reads tree.new) }
-    ensures changed { (p : PathValue) → result ≢ Err (RewindFault.Changed p) }
+    ensures changed { (p : PathValue) → result ≢ Err (RewindFault.Cluster (cluster.Changed p)) }
     ensures never_writes { result ≢ Err RewindFault.WriteFault }
 {
     match log_walk::touch_log(alloc, cursor, tree, redo, end) {
