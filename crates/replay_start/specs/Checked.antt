@@ -14,6 +14,7 @@ use Rattle.clusters.specs.Marks.{unfinished}
 use Rattle.clusters.specs.RootControl.{control_at}
 use Rattle.clusters.specs.RootHistory.{history_at}
 use Rattle.clusters.specs.RootLog.{log_at}
+use Rattle.clusters.specs.declared.fault.ClusterFault.TheVariants as cluster
 use Rattle.control_file.specs.Reading.{timeline_of}
 use Rattle.control_file.specs.declared.control.Control.{Control}
 use Rattle.control_file.specs.declared.field.Field.TheVariants as field
@@ -24,7 +25,7 @@ use Rattle.wal_pages.specs.declared.log_path.LogPath.{LogPath}
 use Rattle.wal_records.specs.Further.{pages_of}
 use Rattle.wal_records.specs.Log.{end_after, log_of}
 use Rattle.wal_records.specs.Reading.{LogRecord}
-use Rattle.replay_start.specs.Faults.{IsFree, of_cluster, told_by}
+use Rattle.replay_start.specs.Faults.{IsFree, told_by}
 use Rattle.replay_start.specs.Scanned.{log_refusal}
 use Rattle.replay_start.specs.declared.checked.Checked.{Checked}
 use Rattle.replay_start.specs.declared.fault.ReplayFault.{ReplayFault}
@@ -72,7 +73,7 @@ with_records root control label log records =
 -- a control file that was read has the size of a segment
 abbrev pub in_log : Contents → PathValue → Control → LabelPlaces → Option LogPath → Result Start ReplayFault
 in_log c root control label (Some log) = with_records root control label log (log_of (pages_of log c) (bytes_of log.size) label.start.0).records
-in_log c root control label None = Err (fault.Shape root field.WalSegSize control.walSegSize)
+in_log c root control label None = Err (fault.Cluster (cluster.Shape root field.WalSegSize control.walSegSize))
 
 -- before that, the history of the control file's timeline
 unfoldable pub from_label : Contents → PathValue → Control → LabelPlaces → Result Start ReplayFault
@@ -86,7 +87,7 @@ from_control c root control =
 
 -- The first point that refuses decides: first of all the marks of unfinished runs, and the control file.
 unfoldable pub start_of : Contents → PathValue → Result Start ReplayFault
-start_of c root = unless (option_map of_cluster (unfinished c root)) (given (told_by (control_at c root)) (from_control c root))
+start_of c root = unless (option_map fault.Cluster (unfinished c root)) (given (told_by (control_at c root)) (from_control c root))
 
 -- what was checked is this start
 pub record IsStart (start : Start) (v : Checked) : Type 0 where

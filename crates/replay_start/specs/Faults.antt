@@ -12,28 +12,12 @@ use Rattle.replay_start.specs.declared.fault.ReplayFault.TheVariants as fault
 
 -- a failed read or want of memory, which may come at any point
 abbrev pub IsFree : ReplayFault → Type 0
-IsFree e = (e ≡ fault.ReadFault) ⊎ (e ≡ fault.OutOfMemory)
-
--- a fault of a cluster as one of a replay
-abbrev pub of_cluster : ClusterFault → ReplayFault
-of_cluster (cluster.Unfinished path) = fault.Unfinished path
-of_cluster (cluster.ControlMissing root) = fault.ControlMissing root
-of_cluster (cluster.Size root n) = fault.Size root n
-of_cluster (cluster.Crc root stored computed) = fault.Crc root stored computed
-of_cluster (cluster.Version root n) = fault.Version root n
-of_cluster (cluster.Catalog root n) = fault.Catalog root n
-of_cluster (cluster.Shape root field n) = fault.Shape root field n
-of_cluster (cluster.HistoryMissing root tli) = fault.HistoryMissing root tli
-of_cluster (cluster.BadLine root tli n) = fault.BadLine root tli n
-of_cluster (cluster.NotRising root tli n) = fault.NotRising root tli n
-of_cluster cluster.ReadFault = fault.ReadFault
-of_cluster (cluster.Changed path) = fault.Changed path
-of_cluster cluster.OutOfMemory = fault.OutOfMemory
+IsFree e = (e ≡ fault.Cluster cluster.ReadFault) ⊎ (e ≡ fault.Cluster cluster.OutOfMemory)
 
 -- what a cluster says, or why a replay is refused for it
 abbrev pub told_by : {A : Type 0} → Result A ClusterFault → Result A ReplayFault
 told_by (Ok v) = Ok v
-told_by (Err e) = Err (of_cluster e)
+told_by (Err e) = Err (fault.Cluster e)
 
 -- why a record isn't taken
 abbrev pub of_profile : ProfileFault → ReplayFault
@@ -43,5 +27,5 @@ of_profile (profile.NotInProfile start manager info) = fault.NotInProfile start 
 
 -- why the log isn't read
 abbrev pub of_log : LogFault → ReplayFault
-of_log log.ReadFault = fault.ReadFault
-of_log log.OutOfMemory = fault.OutOfMemory
+of_log log.ReadFault = fault.Cluster cluster.ReadFault
+of_log log.OutOfMemory = fault.Cluster cluster.OutOfMemory

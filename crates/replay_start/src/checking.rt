@@ -13,6 +13,7 @@ ghost use Rattle.wal_records.specs.Log.{end_after, log_of};
 ghost use Rattle.replay_start.specs.Faults.{IsFree};
 ghost use Rattle.replay_start.specs.Checked.{Checks, from_control, from_label, start_of};
 ghost use Rattle.replay_start.specs.Scanned.{ends_too_soon, log_refusal, unlabelled};
+ghost use Rattle.clusters.specs.declared.fault.ClusterFault.TheVariants as cluster;
 
 use crate::checked::Checked;
 use crate::fault::ReplayFault;
@@ -33,8 +34,8 @@ use wal_records::RecordCursor;
 fn check_seen(alloc: Global, root: &Path, control: &Control, seen: Seen) -> Result<(), ReplayFault>
     ensures answer { Passes IsFree (first_of (ends_too_soon control.now.minRecoveryPoint seen.end.0
         ∷ unlabelled root.now seen.found ∷ [])) result }
-    ensures read_fault { result ≢ Err ReplayFault.ReadFault }
-    ensures changed { (p : PathValue) → result ≢ Err (ReplayFault.Changed p) }
+    ensures read_fault { result ≢ Err (ReplayFault.Cluster cluster.ReadFault) }
+    ensures changed { (p : PathValue) → result ≢ Err (ReplayFault.Cluster (cluster.Changed p)) }
     ensures never_writes { result ≢ Err ReplayFault.WriteFault }
 {
     let least = Lsn(control.minRecoveryPoint);
@@ -67,9 +68,9 @@ fn check_log<F: Tree>(
     ensures knows { IsTrue F.tells → Knows cursor.new (F.contents tree.new) }
     ensures log { cursor.new.log ≡ cursor.old.log }
     ensures reads { Reads F.Tree tree.old tree.new }
-    ensures read_fault { IsErrOf result ReplayFault.ReadFault →
+    ensures read_fault { IsErrOf result (ReplayFault.Cluster cluster.ReadFault) →
         Rose (F.failed_reads tree.old) (F.failed_reads tree.new) }
-    ensures changed { (p : PathValue) → result ≢ Err (ReplayFault.Changed p) }
+    ensures changed { (p : PathValue) → result ≢ Err (ReplayFault.Cluster (cluster.Changed p)) }
     ensures never_writes { result ≢ Err ReplayFault.WriteFault }
 {
     cursor.go_to(label.start);
@@ -100,9 +101,10 @@ fn check_label<F: Tree>(
     ensures control { IfOk result (λ checked. checked.control ≡ control) }
     ensures folder { IfOk result (λ checked. checked.cursor.log.folder ≡ wal_folder root.now) }
     ensures reads { Reads F.Tree tree.old tree.new }
-    ensures read_fault { IsErrOf result ReplayFault.ReadFault →
+    ensures read_fault { IsErrOf result (ReplayFault.Cluster cluster.ReadFault) →
         Rose (F.failed_reads tree.old) (F.failed_reads tree.new) }
-    ensures changed { IsTrue F.tells → (p : PathValue) → result ≢ Err (ReplayFault.Changed p) }
+    ensures changed { IsTrue F.tells → (p : PathValue) →
+        result ≢ Err (ReplayFault.Cluster (cluster.Changed p)) }
     ensures never_writes { result ≢ Err ReplayFault.WriteFault }
 {
     let history = history_at(alloc, tree, root, control.timeline())?;
@@ -133,9 +135,10 @@ fn check_from<F: Tree>(
     ensures control { IfOk result (λ checked. checked.control ≡ control) }
     ensures folder { IfOk result (λ checked. checked.cursor.log.folder ≡ wal_folder root.now) }
     ensures reads { Reads F.Tree tree.old tree.new }
-    ensures read_fault { IsErrOf result ReplayFault.ReadFault →
+    ensures read_fault { IsErrOf result (ReplayFault.Cluster cluster.ReadFault) →
         Rose (F.failed_reads tree.old) (F.failed_reads tree.new) }
-    ensures changed { IsTrue F.tells → (p : PathValue) → result ≢ Err (ReplayFault.Changed p) }
+    ensures changed { IsTrue F.tells → (p : PathValue) →
+        result ≢ Err (ReplayFault.Cluster (cluster.Changed p)) }
     ensures never_writes { result ≢ Err ReplayFault.WriteFault }
 {
     check_control(alloc, root, &control)?;
@@ -164,9 +167,10 @@ pub fn check<F: Tree>(alloc: Global, tree: &mut F, root: &Path) -> Result<Checke
     ensures unmarked { IsTrue F.tells →
         IfOk result (λ _. unfinished (F.contents tree.old) root.now ≡ None) }
     ensures reads { Reads F.Tree tree.old tree.new }
-    ensures read_fault { IsErrOf result ReplayFault.ReadFault →
+    ensures read_fault { IsErrOf result (ReplayFault.Cluster cluster.ReadFault) →
         Rose (F.failed_reads tree.old) (F.failed_reads tree.new) }
-    ensures changed { IsTrue F.tells → (p : PathValue) → result ≢ Err (ReplayFault.Changed p) }
+    ensures changed { IsTrue F.tells → (p : PathValue) →
+        result ≢ Err (ReplayFault.Cluster (cluster.Changed p)) }
     ensures never_writes { result ≢ Err ReplayFault.WriteFault }
 {
     check_marks(alloc, tree, root)?;

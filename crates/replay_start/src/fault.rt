@@ -1,39 +1,23 @@
 // Why nothing was replayed, or not all.
 use block_refs::BlockName;
 use cluster_tree::{OutOfMemory, Path};
-use control_file::Field;
+use clusters::ClusterFault;
 use page_layout::RedoWhy;
 use replay_profile::ProfileFault;
 use thiserror::Error;
 use wal_base::Lsn;
 use wal_records::LogFault;
 
-/// Why a replay ended before its end, in the order in which it is looked for. Up to `EndsTooSoon` and
-/// a label's second line nothing was changed; from `RedoFailed` on the cluster has the mark of an
-/// unfinished run, but where the device or memory failed before that.
+/// Why a replay ended before its end, but for `Cluster` in the order in which it is looked for. Up to
+/// `EndsTooSoon` and a label's second line nothing was changed, nor where a mark, the control file or
+/// a history is refused; from `RedoFailed` on the cluster has the mark of an unfinished run, but where
+/// the device or memory failed before that.
 #[derive(Debug, Drop, Error)]
 pub enum ReplayFault {
-    /// The mark of an unfinished run stands at this path.
-    #[error("an unfinished run left {0}")]
-    Unfinished(Path),
-    /// `global/pg_control` is not a file below the root.
-    #[error("{0} has no control file")]
-    ControlMissing(Path),
-    /// The root, and the number of bytes of its control file, which is not 8192.
-    #[error("the control file of {0} has {1} bytes")]
-    Size(Path, u64),
-    /// The root, the checksum stored in its control file, and the one computed.
-    #[error("the control file of {0} has the checksum {1:08X} and not {2:08X}")]
-    Crc(Path, u32, u32),
-    /// The root, and the version of its control file, which is not 1300.
-    #[error("the control file of {0} has version {1}")]
-    Version(Path, u32),
-    /// The root, and the catalog version in its control file, which is not 202307071.
-    #[error("the control file of {0} has catalog version {1}")]
-    Catalog(Path, u32),
-    /// The root, a field of its control file, and the field's value, which is out of shape.
-    #[error("the control file of {0} has {2} as {1}")]
-    Shape(Path, Field, u64),
+    /// What the root has: a mark, a control file or a history that is refused; or a read failed, the
+    /// tree contradicted itself, or memory was wanting.
+    #[error("{0}")]
+    Cluster(ClusterFault),
     /// The root of a cluster whose pages have checksums.
     #[error("the pages of {0} have checksums")]
     ChecksumsOn(Path),
@@ -47,15 +31,6 @@ pub enum ReplayFault {
     /// has no checkpoint.
     #[error("line {1} of the backup_label of {0} is not to be used")]
     BadLabel(Path, u64),
-    /// The root, and a timeline whose history is not a file there.
-    #[error("{0} has no history of timeline {1}")]
-    HistoryMissing(Path, u32),
-    /// The root, a timeline, and the number of the line of its history that is no entry.
-    #[error("line {2} of the history of timeline {1} of {0} is no entry")]
-    BadLine(Path, u32, u64),
-    /// The root, a timeline, and the number of the line of its history that doesn't rise.
-    #[error("line {2} of the history of timeline {1} of {0} doesn't rise")]
-    NotRising(Path, u32, u64),
     /// The start of a record without parts, and the offset in its body at which no rule fits.
     #[error("the record at {0} has no parts from offset {1} on")]
     BadParts(Lsn, u32),
@@ -89,39 +64,43 @@ pub enum ReplayFault {
     /// This folder holds a path of more than 64 parts.
     #[error("{0} holds a path of more than 64 parts")]
     TooDeep(Path),
-    /// A read of the device failed.
-    #[error("a read failed")]
-    ReadFault,
     /// A changing call of the device failed.
     #[error("a write failed")]
     WriteFault,
-    /// The tree contradicted, about this path, what it had answered before.
-    #[error("{0} was changed during the run")]
-    Changed(Path),
-    /// Memory is wanting.
-    #[error("out of memory")]
-    OutOfMemory,
+}
+
+impl From<ClusterFault> for ReplayFault {
+    ghost use Rattle.std.specs.Prelude.{◌≡◌};
+    ghost use Rattle.replay_start.specs.declared.fault.ReplayFault.TheVariants as fault;
+
+    ghost from_gives = { λ cause e. e ≡ fault.Cluster cause };
+
+    fn from(cause: ClusterFault) -> ReplayFault {
+        ReplayFault::Cluster(cause)
+    }
 }
 
 impl From<OutOfMemory> for ReplayFault {
     ghost use Rattle.std.specs.Prelude.{◌≡◌};
+    ghost use Rattle.clusters.specs.declared.fault.ClusterFault.TheVariants as cluster;
     ghost use Rattle.replay_start.specs.declared.fault.ReplayFault.TheVariants as fault;
 
-    ghost from_gives = { λ _ e. e ≡ fault.OutOfMemory };
+    ghost from_gives = { λ _ e. e ≡ fault.Cluster cluster.OutOfMemory };
 
     fn from(_: OutOfMemory) -> ReplayFault {
-        ReplayFault::OutOfMemory
+        ReplayFault::Cluster(ClusterFault::OutOfMemory)
     }
 }
 
 impl From<wal_base::OutOfMemory> for ReplayFault {
     ghost use Rattle.std.specs.Prelude.{◌≡◌};
+    ghost use Rattle.clusters.specs.declared.fault.ClusterFault.TheVariants as cluster;
     ghost use Rattle.replay_start.specs.declared.fault.ReplayFault.TheVariants as fault;
 
-    ghost from_gives = { λ _ e. e ≡ fault.OutOfMemory };
+    ghost from_gives = { λ _ e. e ≡ fault.Cluster cluster.OutOfMemory };
 
     fn from(_: wal_base::OutOfMemory) -> ReplayFault {
-        ReplayFault::OutOfMemory
+        ReplayFault::Cluster(ClusterFault::OutOfMemory)
     }
 }
 
@@ -133,8 +112,8 @@ impl From<LogFault> for ReplayFault {
 
     fn from(fault: LogFault) -> ReplayFault {
         match fault {
-            LogFault::ReadFault => ReplayFault::ReadFault,
-            LogFault::OutOfMemory => ReplayFault::OutOfMemory,
+            LogFault::ReadFault => ReplayFault::Cluster(ClusterFault::ReadFault),
+            LogFault::OutOfMemory => ReplayFault::Cluster(ClusterFault::OutOfMemory),
         }
     }
 }

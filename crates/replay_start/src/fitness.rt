@@ -4,6 +4,7 @@ ghost use Rattle.cluster_tree.specs.PathValue.{PathValue};
 ghost use Rattle.cluster_tree.specs.Causes.{Passes, first_of};
 ghost use Rattle.replay_start.specs.Faults.{IsFree};
 ghost use Rattle.replay_start.specs.Checked.{checksums_on, no_hints};
+ghost use Rattle.clusters.specs.declared.fault.ClusterFault.TheVariants as cluster;
 
 use crate::ReplayFault;
 use cluster_tree::Path;
@@ -19,8 +20,8 @@ pub(crate) fn check_control(
 ) -> Result<(), ReplayFault>
     ensures answer { Passes IsFree (first_of
         (checksums_on root.now control.now ∷ no_hints root.now control.now ∷ [])) result }
-    ensures read_fault { result ≢ Err ReplayFault.ReadFault }
-    ensures changed { (p : PathValue) → result ≢ Err (ReplayFault.Changed p) }
+    ensures read_fault { result ≢ Err (ReplayFault.Cluster cluster.ReadFault) }
+    ensures changed { (p : PathValue) → result ≢ Err (ReplayFault.Cluster (cluster.Changed p)) }
     ensures never_writes { result ≢ Err ReplayFault.WriteFault }
 {
     check_checksums(alloc, root, control)?;
@@ -31,8 +32,8 @@ pub(crate) fn check_control(
 #[tactic(auto, unfolding(crate::specs::Checked::checksums_on))]
 fn check_checksums(alloc: Global, root: &Path, control: &Control) -> Result<(), ReplayFault>
     ensures answer { Passes IsFree (checksums_on root.now control.now) result }
-    ensures read_fault { result ≢ Err ReplayFault.ReadFault }
-    ensures changed { (p : PathValue) → result ≢ Err (ReplayFault.Changed p) }
+    ensures read_fault { result ≢ Err (ReplayFault.Cluster cluster.ReadFault) }
+    ensures changed { (p : PathValue) → result ≢ Err (ReplayFault.Cluster (cluster.Changed p)) }
     ensures never_writes { result ≢ Err ReplayFault.WriteFault }
 {
     if control.checksumVersion != 0 {
@@ -45,8 +46,8 @@ fn check_checksums(alloc: Global, root: &Path, control: &Control) -> Result<(), 
 #[tactic(auto, unfolding(crate::specs::Checked::no_hints))]
 fn check_hints(alloc: Global, root: &Path, control: &Control) -> Result<(), ReplayFault>
     ensures answer { Passes IsFree (no_hints root.now control.now) result }
-    ensures read_fault { result ≢ Err ReplayFault.ReadFault }
-    ensures changed { (p : PathValue) → result ≢ Err (ReplayFault.Changed p) }
+    ensures read_fault { result ≢ Err (ReplayFault.Cluster cluster.ReadFault) }
+    ensures changed { (p : PathValue) → result ≢ Err (ReplayFault.Cluster (cluster.Changed p)) }
     ensures never_writes { result ≢ Err ReplayFault.WriteFault }
 {
     if control.walLogHints == 0 {

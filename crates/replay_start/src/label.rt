@@ -7,9 +7,9 @@ ghost use Rattle.cluster_tree.specs.Frame.{Reads};
 ghost use Rattle.cluster_tree.specs.Tree.{file_of};
 ghost use Rattle.replay_start.specs.Faults.{IsFree};
 ghost use Rattle.replay_start.specs.Checked.{label_at, label_in, with_label};
+ghost use Rattle.clusters.specs.declared.fault.ClusterFault.TheVariants as cluster;
 
 use crate::ReplayFault;
-use crate::roots::of_cluster;
 use backup_label::{LabelFault, LabelPlaces, read_label};
 use cluster_tree::{Path, Tree};
 use clusters::read_all;
@@ -22,8 +22,8 @@ fn with_label(
     read: Result<LabelPlaces, LabelFault>,
 ) -> Result<LabelPlaces, ReplayFault>
     ensures exact { Meets IsFree (with_label root.now read) result }
-    ensures read_fault { result ≢ Err ReplayFault.ReadFault }
-    ensures changed { (p : PathValue) → result ≢ Err (ReplayFault.Changed p) }
+    ensures read_fault { result ≢ Err (ReplayFault.Cluster cluster.ReadFault) }
+    ensures changed { (p : PathValue) → result ≢ Err (ReplayFault.Cluster (cluster.Changed p)) }
     ensures never_writes { result ≢ Err ReplayFault.WriteFault }
 {
     match read {
@@ -44,15 +44,16 @@ fn label_in<F: Tree>(
     ensures exact { IsTrue F.tells → Meets IsFree
         (label_in root.now (file_of (entry_at (F.contents tree.old) path))) result }
     ensures reads { Reads F.Tree tree.old tree.new }
-    ensures read_fault { IsErrOf result ReplayFault.ReadFault →
+    ensures read_fault { IsErrOf result (ReplayFault.Cluster cluster.ReadFault) →
         Rose (F.failed_reads tree.old) (F.failed_reads tree.new) }
-    ensures changed { IsTrue F.tells → (p : PathValue) → result ≢ Err (ReplayFault.Changed p) }
+    ensures changed { IsTrue F.tells → (p : PathValue) →
+        result ≢ Err (ReplayFault.Cluster (cluster.Changed p)) }
     ensures never_writes { result ≢ Err ReplayFault.WriteFault }
 {
     match read_all(alloc, tree, path) {
         Ok(None) => Err(ReplayFault::NoLabel(root.copy(alloc)?)),
         Ok(Some(bytes)) => with_label(alloc, root, read_label(&bytes)),
-        Err(fault) => Err(of_cluster(fault)),
+        Err(fault) => Err(ReplayFault::Cluster(fault)),
     }
 }
 
@@ -67,9 +68,10 @@ pub(crate) fn label_at<F: Tree>(
     ensures exact { IsTrue F.tells →
         Meets IsFree (label_at (F.contents tree.old) root.now) result }
     ensures reads { Reads F.Tree tree.old tree.new }
-    ensures read_fault { IsErrOf result ReplayFault.ReadFault →
+    ensures read_fault { IsErrOf result (ReplayFault.Cluster cluster.ReadFault) →
         Rose (F.failed_reads tree.old) (F.failed_reads tree.new) }
-    ensures changed { IsTrue F.tells → (p : PathValue) → result ≢ Err (ReplayFault.Changed p) }
+    ensures changed { IsTrue F.tells → (p : PathValue) →
+        result ≢ Err (ReplayFault.Cluster (cluster.Changed p)) }
     ensures never_writes { result ≢ Err ReplayFault.WriteFault }
 {
     let path = root.below(alloc, "backup_label")?;

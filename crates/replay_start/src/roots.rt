@@ -11,38 +11,18 @@ ghost use Rattle.clusters.specs.RootHistory.{history_at};
 ghost use Rattle.clusters.specs.Roots.{wal_folder};
 ghost use Rattle.timeline_history.specs.Ancestor.{last_tli};
 ghost use Rattle.wal_records.specs.Cursor.{Knows};
-ghost use Rattle.replay_start.specs.Faults.{IsFree, of_cluster, told_by};
+ghost use Rattle.replay_start.specs.Faults.{IsFree, told_by};
 ghost use Rattle.replay_start.specs.Checked.{log_with};
+ghost use Rattle.clusters.specs.declared.fault.ClusterFault.TheVariants as cluster;
 
 use crate::ReplayFault;
 use cluster_tree::{Path, Tree};
-use clusters::{ClusterFault, log_path, segment_size};
+use clusters::{log_path, segment_size};
 use control_file::Control;
 use std::alloc::Global;
 use timeline_history::History;
 use wal_base::Lsn;
 use wal_records::RecordCursor;
-
-// A fault of a cluster as one of a replay.
-pub(crate) fn of_cluster(fault: ClusterFault) -> ReplayFault
-    ensures { result ≡ of_cluster fault }
-{
-    match fault {
-        ClusterFault::Unfinished(path) => ReplayFault::Unfinished(path),
-        ClusterFault::ControlMissing(root) => ReplayFault::ControlMissing(root),
-        ClusterFault::Size(root, size) => ReplayFault::Size(root, size),
-        ClusterFault::Crc(root, stored, computed) => ReplayFault::Crc(root, stored, computed),
-        ClusterFault::Version(root, version) => ReplayFault::Version(root, version),
-        ClusterFault::Catalog(root, catalog) => ReplayFault::Catalog(root, catalog),
-        ClusterFault::Shape(root, field, value) => ReplayFault::Shape(root, field, value),
-        ClusterFault::HistoryMissing(root, tli) => ReplayFault::HistoryMissing(root, tli),
-        ClusterFault::BadLine(root, tli, line) => ReplayFault::BadLine(root, tli, line),
-        ClusterFault::NotRising(root, tli, line) => ReplayFault::NotRising(root, tli, line),
-        ClusterFault::ReadFault => ReplayFault::ReadFault,
-        ClusterFault::Changed(path) => ReplayFault::Changed(path),
-        ClusterFault::OutOfMemory => ReplayFault::OutOfMemory,
-    }
-}
 
 /// Refuses a root at which a mark stands, with the first of them.
 #[tactic(auto, using(crate::proofs::FaultLemmas::fault_steps))]
@@ -53,16 +33,18 @@ pub(crate) fn check_marks<F: Tree>(
 ) -> Result<(), ReplayFault>
     requires { length root.now.parts ≤ 61 }
     ensures answer { IsTrue F.tells →
-        Passes IsFree (option_map of_cluster (unfinished (F.contents tree.old) root.now)) result }
+        Passes IsFree (option_map ReplayFault.Cluster (unfinished (F.contents tree.old) root.now))
+        result }
     ensures reads { Reads F.Tree tree.old tree.new }
-    ensures read_fault { IsErrOf result ReplayFault.ReadFault →
+    ensures read_fault { IsErrOf result (ReplayFault.Cluster cluster.ReadFault) →
         Rose (F.failed_reads tree.old) (F.failed_reads tree.new) }
-    ensures changed { IsTrue F.tells → (p : PathValue) → result ≢ Err (ReplayFault.Changed p) }
+    ensures changed { IsTrue F.tells → (p : PathValue) →
+        result ≢ Err (ReplayFault.Cluster (cluster.Changed p)) }
     ensures never_writes { result ≢ Err ReplayFault.WriteFault }
 {
     match clusters::check_marks(alloc, tree, root) {
         Ok(()) => Ok(()),
-        Err(fault) => Err(of_cluster(fault)),
+        Err(fault) => Err(ReplayFault::Cluster(fault)),
     }
 }
 
@@ -78,14 +60,15 @@ pub(crate) fn control_at<F: Tree>(
         Meets IsFree (told_by (control_at (F.contents tree.old) root.now)) result }
     ensures control { IfOk result IsControl }
     ensures reads { Reads F.Tree tree.old tree.new }
-    ensures read_fault { IsErrOf result ReplayFault.ReadFault →
+    ensures read_fault { IsErrOf result (ReplayFault.Cluster cluster.ReadFault) →
         Rose (F.failed_reads tree.old) (F.failed_reads tree.new) }
-    ensures changed { IsTrue F.tells → (p : PathValue) → result ≢ Err (ReplayFault.Changed p) }
+    ensures changed { IsTrue F.tells → (p : PathValue) →
+        result ≢ Err (ReplayFault.Cluster (cluster.Changed p)) }
     ensures never_writes { result ≢ Err ReplayFault.WriteFault }
 {
     match clusters::control_at(alloc, tree, root) {
         Ok(control) => Ok(control),
-        Err(fault) => Err(of_cluster(fault)),
+        Err(fault) => Err(ReplayFault::Cluster(fault)),
     }
 }
 
@@ -102,14 +85,15 @@ pub(crate) fn history_at<F: Tree>(
         Meets IsFree (told_by (history_at (F.contents tree.old) root.now tli)) result }
     ensures last { IfOk result (λ history. last_tli history ≡ tli) }
     ensures reads { Reads F.Tree tree.old tree.new }
-    ensures read_fault { IsErrOf result ReplayFault.ReadFault →
+    ensures read_fault { IsErrOf result (ReplayFault.Cluster cluster.ReadFault) →
         Rose (F.failed_reads tree.old) (F.failed_reads tree.new) }
-    ensures changed { IsTrue F.tells → (p : PathValue) → result ≢ Err (ReplayFault.Changed p) }
+    ensures changed { IsTrue F.tells → (p : PathValue) →
+        result ≢ Err (ReplayFault.Cluster (cluster.Changed p)) }
     ensures never_writes { result ≢ Err ReplayFault.WriteFault }
 {
     match clusters::history_at(alloc, tree, root, tli) {
         Ok(history) => Ok(history),
-        Err(fault) => Err(of_cluster(fault)),
+        Err(fault) => Err(ReplayFault::Cluster(fault)),
     }
 }
 
@@ -127,12 +111,9 @@ pub(crate) fn log_cursor(
         ≡ Some cursor.log) }
     ensures folder { IfOk result (λ cursor. cursor.log.folder ≡ wal_folder root.now) }
     ensures knows { IfOk result (λ cursor. (contents : Contents) → Knows cursor contents) }
-    ensures memory { IfErr result (λ e. e ≡ ReplayFault.OutOfMemory) }
+    ensures memory { IfErr result (λ e. e ≡ ReplayFault.Cluster cluster.OutOfMemory) }
 {
     let spans = history.spans().copy(alloc)?;
-    let log = match log_path(alloc, root, spans, segment_size(control)) {
-        Ok(log) => log,
-        Err(fault) => return Err(of_cluster(fault)),
-    };
+    let log = log_path(alloc, root, spans, segment_size(control))?;
     Ok(RecordCursor::at(alloc, log, start)?)
 }

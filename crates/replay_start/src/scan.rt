@@ -9,6 +9,7 @@ ghost use Rattle.replay_profile.specs.Profile.{parts_or_none};
 ghost use Rattle.wal_records.specs.Cursor.{Knows, to_come};
 ghost use Rattle.replay_start.specs.Scanned.{is_labelled};
 ghost use Rattle.replay_start.specs.Steps.{MovesOn, ScansAll, ScansNext, with_record};
+ghost use Rattle.clusters.specs.declared.fault.ClusterFault.TheVariants as cluster;
 
 use crate::ReplayFault;
 use backup_label::LabelPlaces;
@@ -80,9 +81,9 @@ fn scan_next<F: Tree>(
     ensures knows { IsTrue F.tells → Knows cursor.new (F.contents tree.new) }
     ensures log { cursor.new.log ≡ cursor.old.log }
     ensures reads { Reads F.Tree tree.old tree.new }
-    ensures read_fault { IsErrOf result ReplayFault.ReadFault →
+    ensures read_fault { IsErrOf result (ReplayFault.Cluster cluster.ReadFault) →
         Rose (F.failed_reads tree.old) (F.failed_reads tree.new) }
-    ensures changed { (p : PathValue) → result ≢ Err (ReplayFault.Changed p) }
+    ensures changed { (p : PathValue) → result ≢ Err (ReplayFault.Cluster (cluster.Changed p)) }
     ensures never_writes { result ≢ Err ReplayFault.WriteFault }
 {
     match cursor.next_unchanged(tree)? {
@@ -110,9 +111,9 @@ pub(crate) fn scan_all<F: Tree>(
     ensures knows { IsTrue F.tells → Knows cursor.new (F.contents tree.new) }
     ensures log { cursor.new.log ≡ cursor.old.log }
     ensures reads { Reads F.Tree tree.old tree.new }
-    ensures read_fault { IsErrOf result ReplayFault.ReadFault →
+    ensures read_fault { IsErrOf result (ReplayFault.Cluster cluster.ReadFault) →
         Rose (F.failed_reads tree.old) (F.failed_reads tree.new) }
-    ensures changed { (p : PathValue) → result ≢ Err (ReplayFault.Changed p) }
+    ensures changed { (p : PathValue) → result ≢ Err (ReplayFault.Cluster (cluster.Changed p)) }
     ensures never_writes { result ≢ Err ReplayFault.WriteFault }
 {
     'records: loop {
