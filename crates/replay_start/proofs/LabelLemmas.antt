@@ -1,14 +1,10 @@
 -- What a label says, by what was read of it.
-use Rattle.std.proofs.Common.{◌≡◌, ◌⊎◌, ℕ, inl, inr, List, Option, None, Some, Result, Ok, Err, refl, ap, sym, subst}
+use Rattle.std.proofs.Common.{◌≡◌, ℕ, List, None, Some, Result, Ok, Err, refl, ap, sym}
 use Rattle.cluster_tree.specs.PathValue.{PathValue}
 use Rattle.cluster_tree.specs.declared.tree.TreeFault.{TreeFault}
-use Rattle.cluster_tree.specs.Causes.{Meets}
 use Rattle.backup_label.specs.Reading.{label_of}
-use Rattle.backup_label.specs.declared.reading.LabelPlaces.{LabelPlaces}
 use Rattle.clusters.specs.WholeFile.{all_of}
 use Rattle.replay_start.specs.Checked.{label_in, with_label}
-use Rattle.replay_start.specs.Faults.{IsFree}
-use Rattle.replay_start.specs.declared.fault.ReplayFault.{ReplayFault}
 use Rattle.replay_start.specs.declared.fault.ReplayFault.TheVariants as fault
 
 -- no file

@@ -1,5 +1,5 @@
 -- The first reading of a log, step by step.
-use Rattle.std.proofs.Common.{Result, Ok, Err, ◌≡◌, ℕ, ◌⊎◌, ◌||◌, Bool, true, false, List, [], ◌∷◌, Option, Some, None, IsSomeAnd, refl, sym, ap, subst, ◌∙◌, arith, inl, inr, option_map}
+use Rattle.std.proofs.Common.{Ok, Err, ◌≡◌, ◌||◌, Bool, true, false, List, [], ◌∷◌, Option, Some, IsSomeAnd, refl, ap, subst, ◌∙◌, inl, inr, option_map}
 use Rattle.std.specs.List.{list_any}
 use Rattle.backup_label.specs.declared.reading.LabelPlaces.{LabelPlaces}
 use Rattle.block_refs.specs.Parts.{PartsView}
@@ -11,9 +11,9 @@ use Rattle.wal_records.specs.Cursor.{CursorView, GoesOn, Moves, Steps, to_come}
 use Rattle.wal_records.specs.declared.cursor.Step.{Step}
 use Rattle.wal_records.specs.declared.cursor.Step.TheVariants as steps
 use Rattle.wal_records.specs.declared.why.Why.{Why}
-use Rattle.wal_records.specs.Log.{Log, end_after, ended, with_first}
+use Rattle.wal_records.specs.Log.{Log, end_after, with_first}
 use Rattle.wal_records.specs.Reading.{LogRecord}
-use Rattle.replay_start.specs.Faults.{IsFree, of_profile}
+use Rattle.replay_start.specs.Faults.{of_profile}
 use Rattle.replay_start.specs.Scanned.{is_labelled}
 use Rattle.replay_start.specs.Steps.{IsFurther, IsRefused, IsScanned, MovesOn, Scans, ScansNext, with_record}
 use Rattle.replay_start.specs.declared.fault.ReplayFault.{ReplayFault}

@@ -1,5 +1,5 @@
 -- What the first reading of a log answers, by what was seen.
-use Rattle.std.proofs.Common.{◌≡◌, ◌⊎◌, ◌∙◌, inl, inr, List, [], ◌∷◌, None, Ok, Option, Some, option_map, ◌||◌, false, refl, ap, sym, subst}
+use Rattle.std.proofs.Common.{◌≡◌, ◌⊎◌, ◌∙◌, inl, inr, List, [], ◌∷◌, None, Ok, Some, option_map, ◌||◌, false, ap, sym}
 use Rattle.std.specs.List.{list_any}
 use Rattle.backup_label.specs.declared.reading.LabelPlaces.{LabelPlaces}
 use Rattle.cluster_tree.specs.PathValue.{PathValue}

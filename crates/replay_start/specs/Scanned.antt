@@ -10,7 +10,6 @@ use Rattle.block_refs.specs.Outcomes.{record_parts}
 use Rattle.control_file.specs.declared.control.Control.{Control}
 use Rattle.replay_control.specs.Said.{checkpoint_said}
 use Rattle.replay_profile.specs.Profile.{first_outside, parts_or_none}
-use Rattle.wal_base.specs.declared.lsn.Lsn.{Lsn}
 use Rattle.wal_records.specs.Log.{end_after}
 use Rattle.wal_records.specs.Reading.{LogRecord}
 use Rattle.replay_start.specs.Faults.{of_profile}

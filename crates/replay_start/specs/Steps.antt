@@ -1,5 +1,5 @@
 -- What the steps of the reading give.
-use Rattle.std.specs.Prelude.{◌≡◌, ◌⊎◌, ◌||◌, ◌+◌, ◌^◌, ◌<◌, ◌≤◌, ℕ, List, None, Some, Result, Ok, Err, option_map}
+use Rattle.std.specs.Prelude.{◌≡◌, ◌⊎◌, ◌||◌, ◌+◌, ◌^◌, ◌<◌, ◌≤◌, List, None, Some, Result, Ok, Err, option_map}
 use Rattle.std.specs.List.{list_any}
 use Rattle.backup_label.specs.declared.reading.LabelPlaces.{LabelPlaces}
 use Rattle.replay_profile.specs.Profile.{first_outside}

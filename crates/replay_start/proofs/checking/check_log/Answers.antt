@@ -1,11 +1,10 @@
-use Rattle.std.proofs.Common.{◌≡◌, ◌⊎◌, ◌∙◌, false, List, Result, Some, Err, ap, refl, subst, sym}
+use Rattle.std.proofs.Common.{◌≡◌, ◌⊎◌, ◌∙◌, false, Result, Some, Err, ap, refl, subst, sym}
 use Rattle.std.proofs.lemmas.Result.{err_from_is_err_and}
 use Rattle.cluster_tree.specs.Causes.{Passes}
 use Rattle.wal_base.specs.Segment.{bytes_of}
 use Rattle.wal_base.specs.declared.lsn.Lsn.{Lsn}
 use Rattle.wal_records.specs.Further.{pages_of}
 use Rattle.wal_records.specs.Log.{Log, log_of}
-use Rattle.wal_records.specs.Reading.{LogRecord}
 use Rattle.replay_start.specs.Faults.{IsFree}
 use Rattle.replay_start.specs.Scanned.{log_refusal}
 use Rattle.replay_start.specs.Steps.{IsRefused, IsScanned}
