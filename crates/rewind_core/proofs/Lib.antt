@@ -4,3 +4,5 @@ pub mod CheckLemmas
 pub mod PlanLemmas
 pub mod SurveyLemmas
 pub mod PerformLemmas
+pub mod StopLemmas
+pub mod MarkLemmas

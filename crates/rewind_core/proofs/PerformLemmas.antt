@@ -1,16 +1,19 @@
 -- What a plan's changes leave where they ran.
-use Rattle.std.proofs.Common.{◌≡◌, ◌≢◌, ◌⊎◌, inl, inr, Bool, true, List, None, Result, Ok, Err, IfErr, IfOk, OnOk, refl, ap, sym, subst, ◌∙◌}
-use Rattle.cluster_tree.specs.Change.{first_refusal}
+use Rattle.std.proofs.Common.{◌≡◌, ◌≢◌, ◌⊎◌, inl, inr, Bool, false, List, None, Result, Ok, Err, IfErr, IfOk, OnOk, refl, ap, sym, subst, ◌∙◌}
+use Rattle.std.specs.List.{list_any}
+use Rattle.cluster_tree.specs.Change.{all_changed, first_refusal, is_on}
 use Rattle.cluster_tree.specs.Contents.{Contents, entry_at}
 use Rattle.cluster_tree.specs.PathValue.{PathValue, below}
 use Rattle.cluster_tree.specs.declared.tree.ChangeCall.{ChangeCall}
+use Rattle.cluster_tree.proofs.ChangeLemmas.{changed-elsewhere}
 use Rattle.marked_runs.specs.Runs.{Runs, is_done}
 use Rattle.marked_runs.specs.declared.faults.PerformFault.{PerformFault}
 use Rattle.marked_runs.specs.declared.faults.PerformFault.TheVariants as perform
-use Rattle.rewind_writes.specs.Plan.{IsFound, plan_changes}
+use Rattle.rewind_writes.specs.Plan.{IsFound, body_changes, plan_changes}
 use Rattle.rewind_plan.proofs.FinalLemmas.{plan-leaves-all, plan-unrefused}
-use Rattle.rewind_plan.proofs.FoundLemmas.{plan-below, plan-found}
 use Rattle.clusters.specs.declared.fault.ClusterFault.TheVariants as cluster
+use Rattle.rewind_plan.proofs.FoundLemmas.{plan-found}
+use Rattle.rewind_plan.proofs.OffLemmas.{plan-below, plan-unmarked}
 use Rattle.rewind_survey.specs.declared.fault.RewindFault.{RewindFault}
 use Rattle.rewind_survey.specs.declared.fault.RewindFault.TheVariants as fault
 use Rattle.rewind_core.specs.Faults.{of_perform}
@@ -29,16 +32,20 @@ module _ (c : Contents) (n : Needing) (plan : Plan) (is : IsPlanFor c n plan) wh
   pub unrefused : first_refusal c (plan_changes c plan.writes) ≡ None
   unrefused = plan-unrefused c n.aim.between n.pairs n.aim.control n.aim.label plan.writes is.sides is.writes
 
-  left : {k l : List ChangeCall} (c' : Contents) → Runs (plan_changes c plan.writes) k l c c' true → IsRewound c n c'
-  left c' runs = record {
+  pub unmarked : list_any (is_on plan.writes.mark) (body_changes c plan.writes) ≡ false
+  unmarked = plan-unmarked c n.aim.between n.pairs n.aim.control n.aim.label plan.writes is.sides is.writes
+
+  pub left-by : (c' : Contents) → c' ≡ all_changed c (plan_changes c plan.writes) → IsRewound c n c'
+  left-by c' after = record {
     sides = is.sides;
-    inside = λ parts. ap (λ c. entry_at c (below n.aim.between.target parts)) (runs.after refl)
+    inside = λ parts. ap (λ c. entry_at c (below n.aim.between.target parts)) after
         ∙ plan-leaves-all c n.aim.between n.pairs n.aim.control n.aim.label plan.writes is.sides is.writes parts;
-    elsewhere = λ path out. runs.elsewhere path (plan-below c n.aim.between n.pairs n.aim.control n.aim.label plan.writes is.sides is.writes path out);
+    elsewhere = λ path out. ap (λ c. entry_at c path) after
+        ∙ changed-elsewhere c (plan_changes c plan.writes) path (plan-below c n.aim.between n.pairs n.aim.control n.aim.label plan.writes is.sides is.writes path out);
   }
 
   pub rewound-by : {k l : List ChangeCall} {c' : Contents} (r : Result (Unit {0}) PerformFault) → Runs (plan_changes c plan.writes) k l c c' (is_done r) → OnOk r (IsRewound c n c')
-  rewound-by (Ok u) runs = left _ runs
+  rewound-by (Ok u) runs = left-by _ (runs.after refl)
   rewound-by (Err e) runs = tt
 
 -- faults of what is carried out, as those of a rewind

@@ -2,3 +2,5 @@ pub mod Faults
 pub mod Planned
 pub mod Rooted
 pub mod Fits
+pub mod Stops
+pub mod Laws

@@ -2,6 +2,7 @@
 #![tactic(auto)]
 
 mod faults;
+mod laws;
 mod outcome;
 mod pairs;
 mod performing;
@@ -9,6 +10,7 @@ mod planning;
 mod rewinding;
 mod walks;
 
+pub use laws::marks_are_refused;
 pub use marked_runs::PerformFault;
 pub use outcome::{Plan, Planned, RewindDone};
 pub use performing::perform;

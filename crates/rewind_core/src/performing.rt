@@ -1,13 +1,15 @@
 // The public call that carries out.
 ghost use Rattle.std.specs.Prelude.{◌≢◌, IsTrue, Err, IsErrOf, OnOk};
 ghost use Rattle.cluster_tree.specs.Causes.{Rose};
-ghost use Rattle.cluster_tree.specs.Frame.{Came};
+ghost use Rattle.cluster_tree.specs.Frame.{Came, moment_of};
 ghost use Rattle.cluster_tree.specs.PathValue.{PathValue};
+ghost use Rattle.cluster_tree.specs.Stops.{LeavesOnly};
 ghost use Rattle.marked_runs.specs.Runs.{Runs, is_done};
 ghost use Rattle.rewind_writes.specs.Plan.{plan_changes};
 ghost use Rattle.rewind_writes.specs.Steps.{AllAreFit};
 ghost use Rattle.rewind_core.specs.Fits.{IsPlanFor, IsRewound};
 ghost use Rattle.rewind_core.specs.Planned.{Needing};
+ghost use Rattle.rewind_core.specs.Stops.{IsLeftBy};
 
 use crate::outcome::Plan;
 use cluster_tree::Tree;
@@ -29,6 +31,9 @@ pub fn perform<F: Tree>(tree: &mut F, plan: Plan) -> Result<(), PerformFault>
     // then the tree below the target's root is the rewound one
     ensures rewound { IsTrue F.tells → (n : Needing) → IsPlanFor (F.contents tree.old) n plan →
         OnOk result (IsRewound (F.contents tree.old) n (F.contents tree.new)) }
+    // a stop at any moment leaves it untouched, marked or rewound
+    ensures stops { IsTrue F.tells → (n : Needing) → IsPlanFor (F.contents tree.old) n plan →
+        LeavesOnly (IsLeftBy n (moment_of F.Tree tree.old)) (F.stops tree.old) (F.stops tree.new) }
     ensures changed { IsTrue F.tells → (n : Needing) → IsPlanFor (F.contents tree.old) n plan →
         (p : PathValue) → result ≢ Err (PerformFault.Changed p) }
     ensures frame { Came F.Tree tree.old tree.new }

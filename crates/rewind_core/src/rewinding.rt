@@ -2,15 +2,17 @@
 ghost use Rattle.std.specs.Prelude.{◌≡◌, ◌≢◌, ◌⊎◌, ◌≤◌, length, IfErr, IfOk, IsTrue, Err, IsErrOf, OnOk, is_ok};
 ghost use Rattle.cluster_tree.specs.Apart.{AreApart};
 ghost use Rattle.cluster_tree.specs.Causes.{Rose};
-ghost use Rattle.cluster_tree.specs.Frame.{Came};
+ghost use Rattle.cluster_tree.specs.Frame.{Came, moment_of};
 ghost use Rattle.cluster_tree.specs.PathValue.{PathValue};
 ghost use Rattle.cluster_tree.specs.Run.{state_by};
+ghost use Rattle.cluster_tree.specs.Stops.{LeavesOnly};
 ghost use Rattle.marked_runs.specs.Runs.{Runs};
 ghost use Rattle.rewind_writes.specs.Plan.{plan_changes};
 ghost use Rattle.rewind_writes.specs.Steps.{AllAreFit};
 ghost use Rattle.rewind_core.specs.Fits.{IsCause, IsDone, IsPlanFor, IsRewound, Went};
 ghost use Rattle.rewind_core.specs.Planned.{Needing, planned_of};
 ghost use Rattle.clusters.specs.declared.fault.ClusterFault.TheVariants as cluster;
+ghost use Rattle.rewind_core.specs.Stops.{IsLeft, IsLeftBy};
 
 use crate::faults::of_perform;
 use crate::outcome::{Plan, Planned, RewindDone};
@@ -29,6 +31,8 @@ fn carry_out<F: Tree>(tree: &mut F, plan: Plan) -> Result<RewindDone, RewindFaul
         (F.contents tree.old) (F.contents tree.new) (is_ok result) }
     ensures rewound { IsTrue F.tells → (n : Needing) → IsPlanFor (F.contents tree.old) n plan →
         OnOk result (IsRewound (F.contents tree.old) n (F.contents tree.new)) }
+    ensures stops { IsTrue F.tells → (n : Needing) → IsPlanFor (F.contents tree.old) n plan →
+        LeavesOnly (IsLeftBy n (moment_of F.Tree tree.old)) (F.stops tree.old) (F.stops tree.new) }
     ensures only { IfErr result (λ e. (e ≡ RewindFault.Cluster cluster.ReadFault)
         ⊎ (e ≡ RewindFault.WriteFault)
         ⊎ ((p : PathValue) × (e ≡ RewindFault.Cluster (cluster.Changed p)))) }
@@ -66,6 +70,11 @@ pub fn rewind<F: Tree>(
     // nothing was changed, or a plan's changes ran: all where it is rewound, else the first ones
     ensures went { IsTrue F.tells → Went (planned_of (F.contents tree.old) target.now source.now now)
         (state_by F.contents F.calls tree.old) (state_by F.contents F.calls tree.new) (is_ok result) }
+    // a stop at any moment leaves the target untouched, and only where a rewind is needed marked or
+    // rewound
+    ensures stops { IsTrue F.tells → LeavesOnly
+        (IsLeft (planned_of (F.contents tree.old) target.now source.now now) target.now
+        (moment_of F.Tree tree.old)) (F.stops tree.old) (F.stops tree.new) }
     ensures changed { IsTrue F.tells → (p : PathValue) →
         result ≢ Err (RewindFault.Cluster (cluster.Changed p)) }
     ensures frame { Came F.Tree tree.old tree.new }

@@ -1,0 +1,35 @@
+-- A run that isn't finished is refused, for callers. Own: "Mark files".
+use Rattle.std.specs.Prelude.{◌≡◌, ℤ, [], ◌∷◌, None, Some, Err}
+use Rattle.cluster_tree.specs.Causes.{IsAmong}
+use Rattle.cluster_tree.specs.Contents.{Contents}
+use Rattle.cluster_tree.specs.Marks.{MarkPaths, marks_of}
+use Rattle.cluster_tree.specs.PathValue.{PathValue}
+use Rattle.clusters.specs.Marks.{unfinished}
+use Rattle.clusters.specs.declared.fault.ClusterFault.TheVariants as cluster
+use Rattle.marked_runs.specs.Moments.{IsMarked}
+use Rattle.rewind_survey.specs.Faults.{of_cluster}
+use Rattle.rewind_core.specs.Planned.{planned_of}
+
+-- one of these three marks stands there
+abbrev pub IsMarkThere : MarkPaths → Contents → PathValue → Type 0
+IsMarkThere marks c mark = IsAmong (marks.rewind ∷ marks.replay ∷ marks.reset ∷ []) mark × IsMarked mark c
+
+-- where one does, a run is unfinished there, with the path of the first that does
+abbrev pub MarkIsUnfinished : Type 0
+MarkIsUnfinished = (c : Contents) (root mark : PathValue) → IsMarkThere (marks_of root) c mark →
+    (first : PathValue) × IsMarkThere (marks_of root) c first × (unfinished c root ≡ Some (cluster.Unfinished first))
+
+-- and a rewind of such a target is refused for it, whatever else is to be said of both clusters
+abbrev pub MarkedTargetIsRefused : Type 0
+MarkedTargetIsRefused = (c : Contents) (target source mark : PathValue) (now : ℤ) → IsMarkThere (marks_of target) c mark →
+    (first : PathValue) × IsMarkThere (marks_of target) c first × (planned_of c target source now ≡ Err (of_cluster (cluster.Unfinished first)))
+
+-- of a rewind's own mark with its path
+abbrev pub UnfinishedRewindIsRefused : Type 0
+UnfinishedRewindIsRefused = (c : Contents) (target source : PathValue) (now : ℤ) → IsMarked (marks_of target).rewind c →
+    planned_of c target source now ≡ Err (of_cluster (cluster.Unfinished (marks_of target).rewind))
+
+-- and of a source, where no run is unfinished in the target
+abbrev pub MarkedSourceIsRefused : Type 0
+MarkedSourceIsRefused = (c : Contents) (target source mark : PathValue) (now : ℤ) → unfinished c target ≡ None → IsMarkThere (marks_of source) c mark →
+    (first : PathValue) × IsMarkThere (marks_of source) c first × (planned_of c target source now ≡ Err (of_cluster (cluster.Unfinished first)))
