@@ -1,5 +1,5 @@
 // Paths and names. The expected values follow from the rules of paths, worked by hand.
-use crate::rows::{check, first_word};
+use crate::rows::first_word;
 use cluster_tree::{Names, Path};
 use std::alloc::Global;
 use std::test::Fail;
@@ -8,7 +8,7 @@ use std::test::Fail;
 const DEEPEST: &str = "a/b/c/d/e/f/g/h/a/b/c/d/e/f/g/h/a/b/c/d/e/f/g/h/a/b/c/d/e/f/g/h/\
     a/b/c/d/e/f/g/h/a/b/c/d/e/f/g/h/a/b/c/d/e/f/g/h/a/b/c/d/e/f/g/h";
 
-const PATHS: &str = "\
+pub(crate) const PATHS: &str = "\
 path / = true 0 /
 path ./.// = false 0 .
 path a//b/./c = false 3 a/b/c
@@ -19,14 +19,14 @@ path a/b/c/d/e/f/g/h/a/b/c/d/e/f/g/h/a/b/c/d/e/f/g/h/a/b/c/d/e/f/g/h/a/b/c/d/e/f
     h/a/b/c/d/e/f/g/h/a/b/c/d/e/f/g/h/a/b/c/d/e/f/g/h/a/b/c/d/e/f/g/h/a/b/c/d/e/f/g/h";
 
 // What is joined to a path of 64 parts.
-const JOINED: &str = "\
+pub(crate) const JOINED: &str = "\
 join  = Err(Empty)
 join a/../b = Err(DotDot)
 join a = Err(TooDeep)
 join a/.. = Err(DotDot)
 join ./ = Ok(64)";
 
-const PARTS: &str = "\
+pub(crate) const PARTS: &str = "\
 part a. = true
 part ... = true
 part  = false
@@ -34,7 +34,7 @@ part . = false
 part .. = false
 part a/b = false";
 
-const HELD: &str = "\
+pub(crate) const HELD: &str = "\
 holds t t = true
 holds t t/base/1 = true
 holds . t = true
@@ -42,9 +42,13 @@ holds t/base t = false
 holds t t2 = false
 holds t /t = false";
 
-const ORDER: &str = "\
+pub(crate) const ORDER: &str = "\
 nth 2 /t /global//pg_control = Some(\"pg_control\")
 nth 3 /t /global//pg_control = None";
+
+// Two names, of which the second is empty.
+pub(crate) const NAMES: &str = "\
+names b  = 2 Some(\"b\") Some(\"\") None";
 
 /// Whether a path is absolute, how many parts it has, and its text.
 pub(crate) fn described(alloc: Global, text: &str) -> Result<String, Fail> {
@@ -76,39 +80,17 @@ pub(crate) fn nth(alloc: Global, words: &str) -> Result<String, Fail> {
     Ok(format!(in alloc; "{part:?}")?)
 }
 
-#[test]
-fn a_text_is_cut_at_its_slashes(rt: HostRuntime) -> Result<(), Fail> {
-    check(&rt, PATHS)
-}
-
-#[test]
-fn a_text_that_names_no_path_is_refused(rt: HostRuntime) -> Result<(), Fail> {
-    check(&rt, JOINED)
-}
-
-#[test]
-fn a_part_has_no_slash_and_is_no_dots(rt: HostRuntime) -> Result<(), Fail> {
-    check(&rt, PARTS)
-}
-
-#[test]
-fn a_path_holds_itself_and_what_lies_below(rt: HostRuntime) -> Result<(), Fail> {
-    check(&rt, HELD)
-}
-
-#[test]
-fn parts_are_kept_in_order(rt: HostRuntime) -> Result<(), Fail> {
-    check(&rt, ORDER)
-}
-
-#[test]
-fn names_are_kept_in_order(rt: HostRuntime) -> Result<(), Fail> {
-    let mut names = Names::new(rt.alloc());
-    names.push("b")?;
-    names.push("")?;
-    assert_eq!(rt;
-        (names.len(), names.get(0), names.get(2)),
-        (2, Some("b"), None)
-    );
-    Ok(())
+/// How many names there are, each of the first two, and what stands at place 2.
+pub(crate) fn kept(alloc: Global, words: &str) -> Result<String, Fail> {
+    let mut names = Names::new(alloc);
+    for word in words.split(' ') {
+        names.push(word)?;
+    }
+    Ok(format!(in alloc;
+        "{} {:?} {:?} {:?}",
+        names.len(),
+        names.get(0),
+        names.get(1),
+        names.get(2)
+    )?)
 }
