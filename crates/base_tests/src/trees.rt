@@ -86,7 +86,7 @@ pub(crate) fn first_mark(alloc: Global, tree: &mut MemoryTree, name: &str) -> Re
 /// The path of a mark of `t`, by its number.
 pub(crate) fn mark_path(alloc: Global, number: &str) -> Result<String, Fail> {
     let marks = Marks::new(alloc, &Path::parse(alloc, "t")?)?;
-    match marks.path(number.parse::<usize>()?) {
+    match marks.path(number.parse::<u8>()?) {
         Some(path) => Ok(format!(in alloc; "{path}")?),
         None => Err("no path".into()),
     }
