@@ -1,131 +1,127 @@
 // Control files: each field, each refusal, the very bytes that are written, and the text.
 use crate::control_bytes::{
-    DISTINCT, DISTINCT_CRC, DISTINCT_NONCE, EXAMPLE_CRC, distinct_checkpoint, distinct_control,
-    edited, file_of, sealed, spelled,
+    distinct, distinct_checkpoint, distinct_control, example, file_of, modified,
 };
+use crate::rows::first_word;
 use control_file::{
     ControlFault, Field, control_text, read_checkpoint, read_control, write_checkpoint,
     write_control,
 };
 use std::alloc::Global;
-use std::process::Abort;
 use std::test::Fail;
 
-#[test]
-fn the_timeline_is_the_greater_one(rt: HostRuntime) {
+// The timeline is the greater one of minRecoveryPoint's and the checkpoint's.
+pub(crate) const TIMELINES: &str = "\
+control timeline 2147483651 2147483650 = 2147483651
+control timeline 2147483651 2147483652 = 2147483652
+control timeline 0 2147483652 = 2147483652";
+
+fn timeline(alloc: Global, words: &str) -> Result<String, Fail> {
+    let (least, checkpoint) = first_word(words);
     let mut control = distinct_control();
-    for (minimum, checkpoint, timeline) in [
-        (0x8000_0003, 0x8000_0002, 0x8000_0003),
-        (0x8000_0003, 0x8000_0004, 0x8000_0004),
-        (0, 0x8000_0004, 0x8000_0004),
-    ] {
-        control.minRecoveryPointTli = minimum;
-        control.cp.tli = checkpoint;
-        assert_eq!(rt; control.timeline(), timeline);
-    }
+    control.minRecoveryPointTli = least.parse::<u32>()?;
+    control.cp.tli = checkpoint.parse::<u32>()?;
+    Ok(format!(in alloc; "{}", control.timeline())?)
 }
 
-#[test]
-fn refuses_another_length(rt: HostRuntime) {
-    assert_eq!(rt; read_control(&[]), Err(ControlFault::Size(0)));
-    assert_eq!(rt; read_control(&[0; 8191]), Err(ControlFault::Size(8191)));
-    assert_eq!(rt; read_control(&[0; 8193]), Err(ControlFault::Size(8193)));
+// Files of another length.
+pub(crate) const SIZES: &str = "\
+control size 0 = Size(0)
+control size 8191 = Size(8191)
+control size 8193 = Size(8193)";
+
+fn size(alloc: Global, words: &str) -> Result<String, Fail> {
+    let zeros = [0; 8193];
+    let bytes = zeros.get(..words.parse::<usize>()?).ok_or("too long")?;
+    fault_text(alloc, read_control(bytes).err())
+}
+
+fn fault_text(alloc: Global, fault: Option<ControlFault>) -> Result<String, Fail> {
+    match fault {
+        Some(fault) => Ok(format!(in alloc; "{fault:?}")?),
+        None => Err("read".into()),
+    }
 }
 
 // What stands in place of the example's fields (its offset, its width and its value), the CRC, and the
 // first rule that is broken then, in the order of the faults. The CRC is mended where it isn't the one: in
 // the first row a bit of byte 100 is turned.
-const REFUSED: &str = "\
-100 1 1: 4231050781 = Crc(4231050781, 3455709205)
-8 4 1500: 16750871 = Version(1500)
-12 4 202307072: 920438308 = Catalog(202307072)
-8 4 1500, 12 4 202307072: 3390302510 = Version(1500)
-12 4 202307072, 16 4 7: 370013602 = Catalog(202307072)
-252 4 2, 16 4 7: 3145265891 = Shape(State, 7)
-228 4 0, 172 4 3: 2803011754 = Shape(WalLevel, 3)
-16 4 7: 3705767323 = Shape(State, 7)
-56 1 2: 2258140770 = Shape(CpFpw, 2)
-168 1 255: 105397335 = Shape(EndRequired, 255)
-172 4 3: 3508032369 = Shape(WalLevel, 3)
-176 1 2: 2203816525 = Shape(WalLogHints, 2)
-180 4 2147483648: 3163725119 = Shape(MaxConnections, 2147483648)
-184 4 2147483648: 794146041 = Shape(MaxWorkers, 2147483648)
-188 4 2147483648: 3727660403 = Shape(MaxSenders, 2147483648)
-192 4 4294967295: 1379749193 = Shape(MaxPrepared, 4294967295)
-196 4 2147483648: 2631081088 = Shape(MaxLocks, 2147483648)
-200 1 2: 4061866683 = Shape(TrackCommitTs, 2)
-204 4 4: 1865223433 = Shape(MaxAlign, 4)
-208 8 4698053236609777665: 4094351601 = Shape(FloatFormat, 4698053236609777665)
-216 4 4096: 507180623 = Shape(Blcksz, 4096)
-220 4 0: 3440468304 = Shape(Relseg, 0)
-220 4 131073: 3760820774 = Shape(Relseg, 131073)
-224 4 16384: 3219761212 = Shape(WalBlcksz, 16384)
-228 4 524288: 868822867 = Shape(WalSegSize, 524288)
-228 4 1048577: 2307592774 = Shape(WalSegSize, 1048577)
-228 4 2147483648: 3307150138 = Shape(WalSegSize, 2147483648)
-248 1 2: 2677866385 = Shape(Float8ByVal, 2)
-252 4 2: 2611593573 = Shape(ChecksumVersion, 2)";
+pub(crate) const REFUSED: &str = "\
+control fault 100 1 1: 4231050781 = Crc(4231050781, 3455709205)
+control fault 8 4 1500: 16750871 = Version(1500)
+control fault 12 4 202307072: 920438308 = Catalog(202307072)
+control fault 8 4 1500, 12 4 202307072: 3390302510 = Version(1500)
+control fault 12 4 202307072, 16 4 7: 370013602 = Catalog(202307072)
+control fault 252 4 2, 16 4 7: 3145265891 = Shape(State, 7)
+control fault 228 4 0, 172 4 3: 2803011754 = Shape(WalLevel, 3)
+control fault 16 4 7: 3705767323 = Shape(State, 7)
+control fault 56 1 2: 2258140770 = Shape(CpFpw, 2)
+control fault 168 1 255: 105397335 = Shape(EndRequired, 255)
+control fault 172 4 3: 3508032369 = Shape(WalLevel, 3)
+control fault 176 1 2: 2203816525 = Shape(WalLogHints, 2)
+control fault 180 4 2147483648: 3163725119 = Shape(MaxConnections, 2147483648)
+control fault 184 4 2147483648: 794146041 = Shape(MaxWorkers, 2147483648)
+control fault 188 4 2147483648: 3727660403 = Shape(MaxSenders, 2147483648)
+control fault 192 4 4294967295: 1379749193 = Shape(MaxPrepared, 4294967295)
+control fault 196 4 2147483648: 2631081088 = Shape(MaxLocks, 2147483648)
+control fault 200 1 2: 4061866683 = Shape(TrackCommitTs, 2)
+control fault 204 4 4: 1865223433 = Shape(MaxAlign, 4)
+control fault 208 8 4698053236609777665: 4094351601 = Shape(FloatFormat, 4698053236609777665)
+control fault 216 4 4096: 507180623 = Shape(Blcksz, 4096)
+control fault 220 4 0: 3440468304 = Shape(Relseg, 0)
+control fault 220 4 131073: 3760820774 = Shape(Relseg, 131073)
+control fault 224 4 16384: 3219761212 = Shape(WalBlcksz, 16384)
+control fault 228 4 524288: 868822867 = Shape(WalSegSize, 524288)
+control fault 228 4 1048577: 2307592774 = Shape(WalSegSize, 1048577)
+control fault 228 4 2147483648: 3307150138 = Shape(WalSegSize, 2147483648)
+control fault 248 1 2: 2677866385 = Shape(Float8ByVal, 2)
+control fault 252 4 2: 2611593573 = Shape(ChecksumVersion, 2)";
 
-fn fault_of(alloc: Global, row: &str) -> Result<String, Fail> {
-    let file = file_of(alloc, row)?;
-    match read_control(&file) {
-        Ok(_) => Err("read".into()),
-        Err(fault) => Ok(format!(in alloc; "{fault:?}")?),
-    }
+// The years 1 to 9999 have their dates, with a space before a day of one digit. Each row has the
+// seconds and their text.
+pub(crate) const TIMES: &str = "\
+control time -9223372036854775808 = -9223372036854775808
+control time -62135596801 = -62135596801
+control time -62135596800 = Mon Jan  1 00:00:00 1
+control time -1 = Wed Dec 31 23:59:59 1969
+control time 0 = Thu Jan  1 00:00:00 1970
+control time 86399 = Thu Jan  1 23:59:59 1970
+control time 951782400 = Tue Feb 29 00:00:00 2000
+control time 1700000000 = Tue Nov 14 22:13:20 2023
+control time 1709164799 = Wed Feb 28 23:59:59 2024
+control time 4102444800 = Fri Jan  1 00:00:00 2100
+control time 253402300799 = Fri Dec 31 23:59:59 9999
+control time 253402300800 = 253402300800
+control time 9223372036854775807 = 9223372036854775807";
+
+// How a control file shows when it was modified.
+fn time(alloc: Global, seconds: &str) -> Result<String, Fail> {
+    let text = text_of(alloc, &modified(seconds.parse::<i64>()?)?)?;
+    let line = text.as_str().lines().nth(4).unwrap_or("");
+    let time = line.strip_prefix("pg_control last modified:             ");
+    Ok(String::from_str(alloc, time.ok_or("another line")?)?)
 }
 
-#[test]
-fn refuses_by_the_first_broken_rule(rt: HostRuntime) -> Result<(), Fail> {
-    for line in REFUSED.split('\n') {
-        let (row, meant) = line.split_once(" = ").ok_or("no fault")?;
-        assert_eq!(rt; fault_of(rt.alloc(), row)?.as_str(), meant, "{line}");
-    }
-    Ok(())
-}
-
-// What is read of these bytes is written as these bytes, over others, which stay past the file.
-fn is_written_again(rt: &impl Abort, file: &[u8; 8192]) {
+// What is read of these bytes, written over others, which stay past the file.
+fn written_again(file: &[u8; 8192]) -> Result<[u8; 8200], Fail> {
     let mut into = [0xAA; 8200];
-    match read_control(file) {
-        Ok(control) => write_control(&control, &mut into),
-        Err(fault) => assert_eq!(rt; Some(fault), None),
-    }
-    assert_eq!(rt; into.get(..8192), file.get(..));
-    assert!(rt; into.iter().skip(8192).all(|byte| *byte == 0xAA));
+    let control = read_control(file)?;
+    write_control(&control, &mut into);
+    Ok(into)
 }
 
-#[test]
-fn reads_and_writes_every_field(rt: HostRuntime) {
-    let file = spelled(&DISTINCT, DISTINCT_NONCE, DISTINCT_CRC);
-    assert_eq!(rt; read_control(&file), Ok(distinct_control()));
-    is_written_again(&rt, &file);
-    is_written_again(&rt, &edited(&[], EXAMPLE_CRC));
-}
-
-// The main bytes of a checkpoint record are bytes 40 to 127 of a control file.
-#[test]
-fn reads_and_writes_a_checkpoint_of_88_bytes(rt: HostRuntime) {
-    let file = spelled(&DISTINCT, DISTINCT_NONCE, DISTINCT_CRC);
-    for (end, read) in [
-        (127, None),
-        (128, Some(distinct_checkpoint())),
-        (8192, Some(distinct_checkpoint())),
-    ] {
-        assert_eq!(rt;
-            file.get(40..end).and_then(|bytes| read_checkpoint(bytes)),
-            read
-        );
-    }
-    let mut into = [0xAA; 90];
-    write_checkpoint(&distinct_checkpoint(), &mut into);
-    assert_eq!(rt; into.get(..88), file.get(40..128));
-    assert!(rt; into.iter().skip(88).all(|byte| *byte == 0xAA));
+fn is_written_again(file: &[u8; 8192]) -> Result<bool, Fail> {
+    let into = written_again(file)?;
+    Ok(into.get(..8192) == file.get(..) && into.iter().skip(8192).all(|byte| *byte == 0xAA))
 }
 
 // The names of fields are those of the format with a capital letter first and no point.
-#[test]
-fn fields_and_faults_print(rt: HostRuntime) -> Result<(), Fail> {
-    let mut names = String::new(rt.alloc());
+pub(crate) const SHOWN: &str = "\
+control names  = State CheckPoint CpRedo CpNextMultiOffset MinRecoveryPointTli Float8ByVal Crc ;
+control message  = CRC 00000ABC where the bytes have FFFFFFFF";
+
+fn names(alloc: Global) -> Result<String, Fail> {
+    let mut names = String::new(alloc);
     for field in [
         Field::State,
         Field::CheckPoint,
@@ -137,13 +133,65 @@ fn fields_and_faults_print(rt: HostRuntime) -> Result<(), Fail> {
     ] {
         write!(names, "{field} ")?;
     }
-    assert_eq!(rt;
-        names.as_str(),
-        "State CheckPoint CpRedo CpNextMultiOffset MinRecoveryPointTli Float8ByVal Crc "
-    );
+    names.push(';')?;
+    Ok(names)
+}
+
+fn message(alloc: Global) -> Result<String, Fail> {
     let fault = ControlFault::Crc(0xABC, 0xFFFF_FFFF);
-    let text = format!(in rt.alloc(); "{fault}")?;
-    assert_eq!(rt; text.as_str(), "CRC 00000ABC where the bytes have FFFFFFFF");
+    Ok(format!(in alloc; "{fault}")?)
+}
+
+// The text of the control file of these bytes.
+fn text_of(alloc: Global, file: &[u8; 8192]) -> Result<String, Fail> {
+    let control = read_control(file)?;
+    let text = control_text(alloc, &control)?;
+    Ok(String::from_str(alloc, text.as_str())?)
+}
+
+/// `timeline LEAST CHECKPOINT`, `size BYTES`, `fault FIELD, ..: CRC`, `time SECONDS`, `names` or `message`.
+pub(crate) fn of_control(alloc: Global, words: &str) -> Result<String, Fail> {
+    let (call, given) = first_word(words);
+    match call {
+        "timeline" => timeline(alloc, given),
+        "size" => size(alloc, given),
+        "fault" => fault_text(alloc, read_control(&file_of(given)?).err()),
+        "time" => time(alloc, given),
+        "names" => names(alloc),
+        _ => message(alloc),
+    }
+}
+
+#[test]
+fn reads_writes_and_shows_every_field(rt: HostRuntime) -> Result<(), Fail> {
+    let file = distinct()?;
+    assert_eq!(rt; read_control(&file), Ok(distinct_control()));
+    assert!(rt; is_written_again(&file)?);
+    assert!(rt; is_written_again(&example()?)?);
+    assert_eq!(rt; text_of(rt.alloc(), &file)?.as_str(), TEXT);
+    Ok(())
+}
+
+// Whether the bytes from 40 up to an end are read as the checkpoint.
+fn is_checkpoint(file: &[u8; 8192], end: usize) -> bool {
+    file.get(40..end).and_then(|bytes| read_checkpoint(bytes)) == Some(distinct_checkpoint())
+}
+
+// Whether the checkpoint is written as these bytes, over others, which stay past it.
+fn is_checkpoint_written(file: &[u8; 8192]) -> bool {
+    let mut into = [0xAA; 90];
+    write_checkpoint(&distinct_checkpoint(), &mut into);
+    into.get(..88) == file.get(40..128) && into.iter().skip(88).all(|byte| *byte == 0xAA)
+}
+
+// The main bytes of a checkpoint record are bytes 40 to 127 of a control file.
+#[test]
+fn reads_and_writes_a_checkpoint_of_88_bytes(rt: HostRuntime) -> Result<(), Fail> {
+    let file = distinct()?;
+    let short = file.get(40..127).unwrap_or(&[]);
+    assert!(rt; read_checkpoint(short).is_none());
+    assert!(rt; is_checkpoint(&file, 128) && is_checkpoint(&file, 8192));
+    assert!(rt; is_checkpoint_written(&file));
     Ok(())
 }
 
@@ -200,55 +248,3 @@ Float8 argument passing:              by reference
 Data page checksum version:           1
 Mock authentication nonce:            e0e1e2e3e4e5e6e7e8e9eaebecedeeeff0f1f2f3f4f5f6f7f8f9fafbfcfdfeff
 ";
-
-// The text of the control file of these bytes.
-fn text_of(alloc: Global, file: &[u8; 8192]) -> Result<String, Fail> {
-    let control = read_control(file)?;
-    let text = control_text(alloc, &control)?;
-    Ok(String::from_str(alloc, text.as_str())?)
-}
-
-#[test]
-fn shows_every_line(rt: HostRuntime) -> Result<(), Fail> {
-    let text = text_of(
-        rt.alloc(),
-        &spelled(&DISTINCT, DISTINCT_NONCE, DISTINCT_CRC),
-    )?;
-    assert_eq!(rt; text.as_str(), TEXT);
-    Ok(())
-}
-
-// The years 1 to 9999 have their dates, with a space before a day of one digit. Each row has the
-// seconds and their text.
-const TIMES: &str = "\
--9223372036854775808 = -9223372036854775808
--62135596801 = -62135596801
--62135596800 = Mon Jan  1 00:00:00 1
--1 = Wed Dec 31 23:59:59 1969
-0 = Thu Jan  1 00:00:00 1970
-86399 = Thu Jan  1 23:59:59 1970
-951782400 = Tue Feb 29 00:00:00 2000
-1700000000 = Tue Nov 14 22:13:20 2023
-1709164799 = Wed Feb 28 23:59:59 2024
-4102444800 = Fri Jan  1 00:00:00 2100
-253402300799 = Fri Dec 31 23:59:59 9999
-253402300800 = 253402300800
-9223372036854775807 = 9223372036854775807";
-
-// How a control file shows when it was modified.
-fn time_of(alloc: Global, seconds: &str) -> Result<String, Fail> {
-    let seconds = seconds.parse::<i64>()?;
-    let text = text_of(alloc, &sealed(&[(24, 8, seconds.cast_unsigned())]))?;
-    let line = text.as_str().lines().nth(4).unwrap_or("");
-    let time = line.strip_prefix("pg_control last modified:             ");
-    Ok(String::from_str(alloc, time.ok_or("another line")?)?)
-}
-
-#[test]
-fn shows_times(rt: HostRuntime) -> Result<(), Fail> {
-    for row in TIMES.split('\n') {
-        let (seconds, time) = row.split_once(" = ").ok_or("no time")?;
-        assert_eq!(rt; time_of(rt.alloc(), seconds)?.as_str(), time);
-    }
-    Ok(())
-}

@@ -1,180 +1,160 @@
-// Histories of timelines. What is wanted is worked by hand from the form of the files.
+// Histories of timelines. What is wanted is worked by hand from the form of the files, whose bytes are written so in
+// rows: `^` is a tab, `;` the end of a line, `$` a carriage return, `!` the byte 0B and `~` the byte FF.
 ghost use Rattle.std.specs.Prelude.{◌≡◌, IfOk};
 ghost use Rattle.timeline_history.specs.Ancestor.{last_tli};
 
+use crate::rows::first_word;
 use std::alloc::Global;
 use std::test::Fail;
 use timeline_history::{Ancestor, History, HistoryFault, divergence, first_history, read_history};
 
-// Timeline 3, with an empty line and a comment.
-const THIRD: &[u8] = b"1\t0/3000060\n\n# note\n2\t0/5000000";
+// A timeline, its file, and the spans that they tell: each a timeline, its first position, and its end, 0/0 where it
+// isn't ended. The first file has an empty line and a comment. The second is what a server writes: the reason stands
+// behind the second tab, and an empty line before each later entry. The last has blanks at the front, a position as
+// before, digits of either case, and any bytes behind the second tab.
+pub(crate) const SPANS: &str = "\
+history spans 3 1^0/3000060;;# note;2^0/5000000 = 1 0/0 0/3000060; 2 0/3000060 0/5000000; 3 \
+    0/5000000 0/0;
+history spans 3 1^0/3000148^no recovery target specified;;2^0/60001A0^before 2024-05-01 \
+    10:00:00+00; = 1 0/0 0/3000148; 2 0/3000148 0/60001A0; 3 0/60001A0 0/0;
+history spans 1  = 1 0/0 0/0;
+history spans 7  = 7 0/0 0/0;
+history spans 7 ;; = 7 0/0 0/0;
+history spans 7 # none = 7 0/0 0/0;
+history spans 7  ^; ^# none; = 7 0/0 0/0;
+history spans 4294967295  ^1^a/0000bC^~^;4294967294^A/BC; = 1 0/0 A/BC; 4294967294 A/BC A/BC; \
+    4294967295 A/BC 0/0;";
 
-// Timeline 4, which left timeline 2 earlier.
-const FOURTH: &[u8] = b"1\t0/3000060\n2\t0/4800000\n";
+// Lines that are no entry, and files of timeline 3 with the fault of their least line that has one.
+pub(crate) const FAULTS: &str = "\
+history fault 9 1 0/10 = BadLine(1)
+history fault 9 1 = BadLine(1)
+history fault 9 1^ = BadLine(1)
+history fault 9 1^^0/10 = BadLine(1)
+history fault 9 x^0/10 = BadLine(1)
+history fault 9 +1^0/10 = BadLine(1)
+history fault 9 -1^0/10 = BadLine(1)
+history fault 9 01^0/10 = BadLine(1)
+history fault 9 1 ^0/10 = BadLine(1)
+history fault 9 4294967296^0/10 = BadLine(1)
+history fault 9 1^0/G = BadLine(1)
+history fault 9 1^010 = BadLine(1)
+history fault 9 1^0/10  = BadLine(1)
+history fault 9 1^0/10$ = BadLine(1)
+history fault 9 1^0/123456789 = BadLine(1)
+history fault 9 1^~/10 = BadLine(1)
+history fault 9 ~^0/10 = BadLine(1)
+history fault 9 !1^0/10 = BadLine(1)
+history fault 3 2^0/10;1^0/20 = NotRising(2)
+history fault 3 0^0/10 = NotRising(1)
+history fault 3 3^0/10 = NotRising(1)
+history fault 3 4^0/10 = NotRising(1)
+history fault 3 1^0/0 = NotRising(1)
+history fault 3 1^0/20;1^0/30 = NotRising(2)
+history fault 3 1^0/20;;2^0/1F; = NotRising(3)
+history fault 3 1^0/20;1^0/30;x; = NotRising(2)
+history fault 3 # a;;1^0/20;x;1^0/30 = BadLine(4)
+history fault 3 ;x;y = BadLine(2)";
 
-// A sibling of timeline 2, which left timeline 1 at the same position.
-const SIBLING: &[u8] = b"1\t0/3000060\n3\t0/4000000\n";
+// Where the histories of two timelines part. An end that isn't there is the greatest.
+pub(crate) const PARTED: &str = "\
+history parted 3 1^0/3000060;;# note;2^0/5000000 | 4 1^0/3000060;2^0/4800000; = 2 0/4800000
+history parted 4 1^0/3000060;2^0/4800000; | 3 1^0/3000060;;# note;2^0/5000000 = 2 0/4800000
+history parted 1  | 4 1^0/3000060;2^0/4800000; = 1 0/3000060
+history parted 4 1^0/3000060;2^0/4800000; | 1  = 1 0/3000060
+history parted 4 1^0/3000060;2^0/4800000; | 5 1^0/3000060;3^0/4000000; = 1 0/3000060
+history parted 3 1^0/3000060;;# note;2^0/5000000 | 9 2^0/5000000 = none";
 
-// What a server writes: the reason stands behind the second tab, and an empty line before each later
-// entry.
-const FROM_SERVER: &[u8] = b"1\t0/3000148\tno recovery target specified\n\n\
-    2\t0/60001A0\tbefore 2024-05-01 10:00:00+00\n";
+// The line of a fault, one that doesn't rise below zero.
+pub(crate) const MESSAGES: &str = "\
+history message 4 = line 4 is no entry of a history
+history message -2 = line 2 doesn't rise above the one before it
+history message 0 = out of memory";
 
-// Blanks at the front, a position as before, digits of either case, and any bytes behind the second
-// tab.
-const ODD: &[u8] = b" \t1\ta/0000bC\t\xFF\t\n4294967294\tA/BC\n";
+const fn byte_of(letter: u8) -> u8 {
+    match letter {
+        b'^' => b'\t',
+        b';' => b'\n',
+        b'$' => b'\r',
+        b'!' => 0x0B,
+        b'~' => 0xFF,
+        _ => letter,
+    }
+}
 
-// A timeline, the bytes of its file, and the spans that they tell: each a timeline, its first
-// position, and its end, 0/0 where it isn't ended.
-const TOLD: [(u32, &[u8], &str); 8] = [
-    (
-        3,
-        THIRD,
-        "1 0/0 0/3000060; 2 0/3000060 0/5000000; 3 0/5000000 0/0; ",
-    ),
-    (
-        3,
-        FROM_SERVER,
-        "1 0/0 0/3000148; 2 0/3000148 0/60001A0; 3 0/60001A0 0/0; ",
-    ),
-    (1, b"", "1 0/0 0/0; "),
-    (7, b"", "7 0/0 0/0; "),
-    (7, b"\n\n", "7 0/0 0/0; "),
-    (7, b"# none", "7 0/0 0/0; "),
-    (7, b" \t\n \t# none\n", "7 0/0 0/0; "),
-    (
-        u32::MAX,
-        ODD,
-        "1 0/0 A/BC; 4294967294 A/BC A/BC; 4294967295 A/BC 0/0; ",
-    ),
-];
-
-// Lines that are no entry.
-const BAD: [&[u8]; 18] = [
-    b"1 0/10",
-    b"1",
-    b"1\t",
-    b"1\t\t0/10",
-    b"x\t0/10",
-    b"+1\t0/10",
-    b"-1\t0/10",
-    b"01\t0/10",
-    b"1 \t0/10",
-    b"4294967296\t0/10",
-    b"1\t0/G",
-    b"1\t010",
-    b"1\t0/10 ",
-    b"1\t0/10\r",
-    b"1\t0/123456789",
-    b"1\t\xFF/10",
-    b"\xFF\t0/10",
-    b"\x0B1\t0/10",
-];
-
-// Files of timeline 3, and the fault of their least line that has one.
-const FAULTS: [(&[u8], HistoryFault); 10] = [
-    (b"2\t0/10\n1\t0/20", HistoryFault::NotRising(2)),
-    (b"0\t0/10", HistoryFault::NotRising(1)),
-    (b"3\t0/10", HistoryFault::NotRising(1)),
-    (b"4\t0/10", HistoryFault::NotRising(1)),
-    (b"1\t0/0", HistoryFault::NotRising(1)),
-    (b"1\t0/20\n1\t0/30", HistoryFault::NotRising(2)),
-    (b"1\t0/20\n\n2\t0/1F\n", HistoryFault::NotRising(3)),
-    (b"1\t0/20\n1\t0/30\nx\n", HistoryFault::NotRising(2)),
-    (b"# a\n\n1\t0/20\nx\n1\t0/30", HistoryFault::BadLine(4)),
-    (b"\nx\ny", HistoryFault::BadLine(2)),
-];
+fn bytes_of(alloc: Global, text: &str) -> Result<Vec<u8>, Fail> {
+    let mut bytes = Vec::new(alloc);
+    for &letter in text.as_bytes() {
+        bytes.push(byte_of(letter))?;
+    }
+    Ok(bytes)
+}
 
 // The history of a timeline, of which the first has no file.
-fn history(alloc: Global, tli: u32, bytes: &[u8]) -> Result<History, Fail>
+fn history(alloc: Global, tli: u32, text: &str) -> Result<History, Fail>
     ensures { IfOk result (λ history. last_tli history ≡ tli) }
 {
     if tli == 1 {
         return Ok(first_history(alloc)?);
     }
-    Ok(read_history(alloc, tli, bytes)?)
+    let bytes = bytes_of(alloc, text)?;
+    Ok(read_history(alloc, tli, &bytes)?)
 }
 
-fn told(alloc: Global, tli: u32, bytes: &[u8]) -> Result<String, Fail> {
-    let history = history(alloc, tli, bytes)?;
+fn spans(alloc: Global, words: &str) -> Result<String, Fail> {
+    let (tli, text) = first_word(words);
+    let history = history(alloc, tli.parse::<u32>()?, text)?;
     let mut told = String::new(alloc);
     for at in 0..history.spans().len() {
         if let Some(span) = history.spans().get(at) {
-            write!(&mut told, "{} {} {}; ", span.tli, span.begin, span.end)?;
+            let gap = if at == 0 { "" } else { " " };
+            write!(&mut told, "{gap}{} {} {};", span.tli, span.begin, span.end)?;
         }
     }
     Ok(told)
 }
 
-#[test]
-fn files_tell_spans(rt: HostRuntime) -> Result<(), Fail> {
-    for (tli, bytes, wanted) in TOLD {
-        let told = told(rt.alloc(), tli, bytes)?;
-        assert_eq!(rt; told.as_str(), wanted);
+fn fault(alloc: Global, words: &str) -> Result<String, Fail> {
+    let (tli, text) = first_word(words);
+    let bytes = bytes_of(alloc, text)?;
+    match read_history(alloc, tli.parse::<u32>()?, &bytes) {
+        Ok(_) => Err("read".into()),
+        Err(fault) => Ok(format!(in alloc; "{fault:?}")?),
     }
-    Ok(())
 }
 
-fn fault_of(alloc: Global, tli: u32, bytes: &[u8]) -> Option<HistoryFault> {
-    read_history(alloc, tli, bytes).err()
-}
-
-#[test]
-fn the_least_fault_is_answered(rt: HostRuntime) -> Result<(), Fail> {
-    for line in BAD {
-        assert_eq!(rt;
-            fault_of(rt.alloc(), 9, line),
-            Some(HistoryFault::BadLine(1))
-        );
-    }
-    for (bytes, fault) in FAULTS {
-        assert_eq!(rt; fault_of(rt.alloc(), 3, bytes), Some(fault));
-    }
-    Ok(())
-}
-
-// Where the histories of two timelines part.
-fn parted(alloc: Global, one: (u32, &[u8]), other: (u32, &[u8])) -> Result<String, Fail> {
-    if one.0 == other.0 {
+fn parted(alloc: Global, words: &str) -> Result<String, Fail> {
+    let (one, other) = words.split_once(" | ").ok_or("one timeline")?;
+    let (one, one_text) = first_word(one);
+    let (other, other_text) = first_word(other);
+    let (one, other) = (one.parse::<u32>()?, other.parse::<u32>()?);
+    if one == other {
         return Err("one timeline".into());
     }
-    let a = history(alloc, one.0, one.1)?;
-    let b = history(alloc, other.0, other.1)?;
+    let a = history(alloc, one, one_text)?;
+    let b = history(alloc, other, other_text)?;
     Ok(match divergence(&a, &b) {
         Ancestor::Common(fork) => format!(in alloc; "{} {}", fork.tli, fork.at)?,
         Ancestor::NoCommonAncestor => String::from_str(alloc, "none")?,
     })
 }
 
-// An end that isn't there is the greatest.
-#[test]
-fn histories_part_at_the_smaller_end(rt: HostRuntime) -> Result<(), Fail> {
-    let rows: [((u32, &[u8]), (u32, &[u8]), &str); 6] = [
-        ((3, THIRD), (4, FOURTH), "2 0/4800000"),
-        ((4, FOURTH), (3, THIRD), "2 0/4800000"),
-        ((1, b""), (4, FOURTH), "1 0/3000060"),
-        ((4, FOURTH), (1, b""), "1 0/3000060"),
-        ((4, FOURTH), (5, SIBLING), "1 0/3000060"),
-        ((3, THIRD), (9, b"2\t0/5000000"), "none"),
-    ];
-    for (one, other, wanted) in rows {
-        let parted = parted(rt.alloc(), one, other)?;
-        assert_eq!(rt; parted.as_str(), wanted);
-    }
-    Ok(())
+fn message(alloc: Global, line: &str) -> Result<String, Fail> {
+    let fault = match line {
+        "4" => HistoryFault::BadLine(4),
+        "-2" => HistoryFault::NotRising(2),
+        _ => HistoryFault::OutOfMemory,
+    };
+    Ok(fault.to_string(alloc)?)
 }
 
-#[test]
-fn faults_name_their_line(rt: HostRuntime) -> Result<(), Fail> {
-    for (fault, text) in [
-        (HistoryFault::BadLine(4), "line 4 is no entry of a history"),
-        (
-            HistoryFault::NotRising(2),
-            "line 2 doesn't rise above the one before it",
-        ),
-        (HistoryFault::OutOfMemory, "out of memory"),
-    ] {
-        assert_eq!(rt; fault.to_string(rt.alloc())?.as_str(), text);
+/// `spans TIMELINE FILE`, `fault TIMELINE FILE`, `parted TIMELINE FILE | TIMELINE FILE` or `message LINE`.
+pub(crate) fn of_history(alloc: Global, words: &str) -> Result<String, Fail> {
+    let (call, given) = first_word(words);
+    match call {
+        "spans" => spans(alloc, given),
+        "fault" => fault(alloc, given),
+        "parted" => parted(alloc, given),
+        _ => message(alloc, given),
     }
-    Ok(())
 }

@@ -1,4 +1,5 @@
 // Expected values are those of heap_mask, btree_mask and seq_mask, worked out by hand.
+use crate::rows::first_word;
 use page_layout::{Line, Page};
 use page_masks::{PageKind, kind_of, mask, same_page};
 use std::alloc::Global;
@@ -30,19 +31,92 @@ fn special_page(alloc: Global, special: u16, end: [u8; 8]) -> Result<Page, Fail>
     Ok(page)
 }
 
-#[test]
-fn hint_bits_do_not_show(rt: HostRuntime) -> Result<(), Fail> {
-    for (bits, shown) in [(0x0902u16, 0x0002u16), (0x0802, 0x0002), (0x0B02, 0x0302)] {
-        let mut page = heap_page(rt.alloc(), bits, 1)?;
-        mask(&mut page, 0);
-        let bytes = page.bytes();
-        assert_eq!(rt; u16::from_le_bytes([bytes[8188], bytes[8189]]), shown);
-        assert_eq!(rt;
-            [bytes[8175], bytes[8176], bytes[8179], bytes[8180]],
-            [7, 0, 0, 7]
-        );
+// Hint bits don't show: of a tuple's bits those that do, and the bytes around them.
+pub(crate) const HINTS: &str = "\
+mask hints 2306 = 2 7 0 0 7
+mask hints 2050 = 2 7 0 0 7
+mask hints 2818 = 770 7 0 0 7";
+
+fn hints(alloc: Global, bits: &str) -> Result<String, Fail> {
+    let mut page = heap_page(alloc, bits.parse::<u16>()?, 1)?;
+    mask(&mut page, 0);
+    let bytes = page.bytes();
+    let shown = u16::from_le_bytes([bytes[8188], bytes[8189]]);
+    Ok(format!(in alloc;
+        "{shown} {} {} {} {}",
+        bytes[8175],
+        bytes[8176],
+        bytes[8179],
+        bytes[8180]
+    )?)
+}
+
+// The special space of a page and its last eight bytes, and maybe a byte that is changed.
+pub(crate) const KINDS: &str = "\
+mask kind 0 0000000000000000 = Heap
+mask kind 16 0000000000000000 = Btree
+mask kind 16 0000000000007FFF = Btree
+mask kind 16 00000000000080FF = Other
+mask kind 4 1717000000000000 = Sequence
+mask kind 4 1717010000000000 = Other
+mask kind 16 1717000000000000 = Btree
+mask kind 20 1717000000000000 = Other
+mask kind 0 0000000000000000 upper = Other
+mask kind 0 0000000000000000 zero = Zero";
+
+// The page of a row: its special space and its last eight bytes.
+fn page_of(alloc: Global, words: &str) -> Result<Page, Fail> {
+    let (special, behind) = first_word(words);
+    let (digits, change) = first_word(behind);
+    let end = hex::decode(alloc, digits)?;
+    let end = <[u8; 8]>::try_from(end.as_slice())?;
+    let mut page = special_page(alloc, special.parse::<u16>()?, end)?;
+    match change {
+        "upper" => page.bytes_mut()[14] = 1,
+        "zero" => page.bytes_mut().fill(0),
+        _ => {}
     }
-    Ok(())
+    Ok(page)
+}
+
+fn kind(alloc: Global, words: &str) -> Result<String, Fail> {
+    let page = page_of(alloc, words)?;
+    Ok(format!(in alloc; "{:?}", kind_of(&page))?)
+}
+
+// Such a page with a line, all flags and a position: bytes of its position, its flags, its line and its last eight bytes.
+pub(crate) const OTHERS: &str = "\
+mask masked 16 00000000E1FF0304 = 0 0 F8 12 [0, 0, 0, 0, 129, 255, 0, 0]
+mask masked 16 00000000E0FF0304 = 0 0 F8 13 [0, 0, 0, 0, 128, 255, 0, 0]
+mask masked 4 1717000001020304 = 0 0 FF 13 [23, 23, 0, 0, 1, 2, 3, 4]
+mask masked 20 00000000E0FF0304 = 0 0 FF 13 [0, 0, 0, 0, 224, 255, 3, 4]";
+
+fn masked(alloc: Global, words: &str) -> Result<String, Fail> {
+    let mut page = page_of(alloc, words)?;
+    page.add_item(&[5; 9], 1, false)?;
+    page.bytes_mut()[10] = 0xFF;
+    page.bytes_mut()[26] = 0x13;
+    page.set_lsn(Lsn(0x0102_0304_0506_0708));
+    mask(&mut page, 0);
+    let bytes = page.bytes();
+    Ok(format!(in alloc;
+        "{} {} {:02X} {:02X} {:?}",
+        bytes[0],
+        bytes[7],
+        bytes[10],
+        bytes[26],
+        &bytes[8184..8192]
+    )?)
+}
+
+/// `hints BITS`, `kind SPECIAL END` or `masked SPECIAL END`.
+pub(crate) fn of_mask(alloc: Global, words: &str) -> Result<String, Fail> {
+    let (call, given) = first_word(words);
+    match call {
+        "hints" => hints(alloc, given),
+        "kind" => kind(alloc, given),
+        _ => masked(alloc, given),
+    }
 }
 
 #[test]
@@ -91,77 +165,5 @@ fn a_dropped_item_shows_its_hint_bits(rt: HostRuntime) -> Result<(), Fail> {
     a.pack()?;
     b.pack()?;
     assert!(rt; same_page(rt.alloc(), &a, &b, 0)?);
-    Ok(())
-}
-
-#[test]
-fn kinds_are_told_apart(rt: HostRuntime) -> Result<(), Fail> {
-    let sequence = [0x17, 0x17, 0, 0, 0, 0, 0, 0];
-    let garbled = [0x17, 0x17, 1, 0, 0, 0, 0, 0];
-    for (special, end, kind) in [
-        (0u16, [0u8; 8], PageKind::Heap),
-        (16, [0; 8], PageKind::Btree),
-        (16, [0, 0, 0, 0, 0, 0, 0x7F, 0xFF], PageKind::Btree),
-        (16, [0, 0, 0, 0, 0, 0, 0x80, 0xFF], PageKind::Other),
-        (4, sequence, PageKind::Sequence),
-        (4, garbled, PageKind::Other),
-        (16, sequence, PageKind::Btree),
-        (20, sequence, PageKind::Other),
-    ] {
-        let page = special_page(rt.alloc(), special, end)?;
-        assert_eq!(rt; kind_of(&page), kind);
-    }
-    let mut page = special_page(rt.alloc(), 0, [0; 8])?;
-    page.bytes_mut()[14] = 1;
-    assert_eq!(rt; kind_of(&page), PageKind::Other);
-    assert_eq!(rt; kind_of(&Page::zero(rt.alloc())?), PageKind::Zero);
-    Ok(())
-}
-
-#[test]
-fn other_kinds_are_masked(rt: HostRuntime) -> Result<(), Fail> {
-    for (special, end, line, masked, flags) in [
-        (
-            16u16,
-            [0u8, 0, 0, 0, 0xE1, 0xFF, 3, 4],
-            0x12u8,
-            [0u8, 0, 0, 0, 0x81, 0xFF, 0, 0],
-            0xF8u8,
-        ),
-        (
-            16,
-            [0, 0, 0, 0, 0xE0, 0xFF, 3, 4],
-            0x13,
-            [0, 0, 0, 0, 0x80, 0xFF, 0, 0],
-            0xF8,
-        ),
-        (
-            4,
-            [0x17, 0x17, 0, 0, 1, 2, 3, 4],
-            0x13,
-            [0x17, 0x17, 0, 0, 1, 2, 3, 4],
-            0xFF,
-        ),
-        (
-            20,
-            [0, 0, 0, 0, 0xE0, 0xFF, 3, 4],
-            0x13,
-            [0, 0, 0, 0, 0xE0, 0xFF, 3, 4],
-            0xFF,
-        ),
-    ] {
-        let mut page = special_page(rt.alloc(), special, end)?;
-        page.add_item(&[5; 9], 1, false)?;
-        page.bytes_mut()[10] = 0xFF;
-        page.bytes_mut()[26] = 0x13;
-        page.set_lsn(Lsn(0x0102_0304_0506_0708));
-        mask(&mut page, 0);
-        let bytes = page.bytes();
-        assert!(rt; &bytes[8184..8192] == masked.as_slice());
-        assert_eq!(rt;
-            [bytes[0], bytes[7], bytes[10], bytes[26]],
-            [0, 0, flags, line]
-        );
-    }
     Ok(())
 }

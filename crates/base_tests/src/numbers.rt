@@ -1,8 +1,9 @@
 // Numbers, positions and segments as text. Each row is a call, what it is given, and what it
-// answers, between bars.
+// answers.
 ghost use Rattle.std.specs.Prelude.{◌*◌, ◌<◌, ◌^◌};
 ghost use Rattle.wal_base.specs.Segment.{bytes_of};
 
+use crate::rows::first_word;
 use std::alloc::Global;
 use std::str;
 use std::test::Fail;
@@ -15,79 +16,80 @@ use wal_base::{
 // and shows them. A segment is given by the size of segments and a name, or a position on timeline 2
 // that it holds, and answered as its timeline, its number, the position at which it starts
 // (`XLogSegNoOffsetToRecPtr`) and its name. Hexadecimals are those of C's printf.
-const ROWS: &str = "\
-position|0/16B3748|23803720 0/16B3748 0/016B3748
-position|00000000/016b3748|23803720 0/16B3748 0/016B3748
-position|FFFFFFFF/FFFFFFFF|18446744073709551615 FFFFFFFF/FFFFFFFF FFFFFFFF/FFFFFFFF
-position|0/0|0 0/0 0/00000000
-position|1/0|4294967296 1/0 1/00000000
-position||none
-position|/|none
-position|0/|none
-position|/0|none
-position|1/123456789|none
-position|123456789/1|none
-position|g/0|none
-position|0/0/0|none
-position|+1/0|none
-position| 0/0|none
-position|0|none
-segment|16777216 00000002000000050000003A|2 1338 5/3A000000 00000002000000050000003A
-segment|1048576 0000000200000005000003A0|2 21408 5/3A000000 0000000200000005000003A0
-segment|1073741824 000000020000000500000000|2 20 5/0 000000020000000500000000
-segment|1073741824 00000002000000050000003A|none
-segment|1073741824 00000002000000050000000|none
-segment|1073741824 0000000200000005000000000|none
-segment|1073741824 00000002000000050000000a|none
-segment|1073741824 00000002000000050000000g|none
-segment|1073741824 00000002.00000050000000A|none
-segment|0 00000002000000050000003A|no size
-segment|524288 00000002000000050000003A|no size
-segment|1572864 00000002000000050000003A|no size
-segment|2147483648 00000002000000050000003A|no size
-holding|16777216 5/3A000000|2 1338 5/3A000000 00000002000000050000003A
-holding|1048576 5/3A000000|2 21408 5/3A000000 0000000200000005000003A0
-holding|1073741824 5/3A000000|2 20 5/0 000000020000000500000000
-holding|1048576 5/3A012345|2 21408 5/3A000000 0000000200000005000003A0
-long|00000002000000050000003A|true
-long|FFFFFFFFFFFFFFFFFFFFFFFF|true
-long|00000002000000050000003|false
-long|00000002000000050000003A0|false
-long|00000002000000050000003a|false
-long|0000000200000005000000G0|false
-long||false
-u32|0|0
-u32|10|10
-u32|4294967295|4294967295
-u32|4294967296|none
-u32|99999999999999999999999|none
-u32|01|none
-u32|00|none
-u32|+1|none
-u32|-1|none
-u32| 1|none
-u32|1 |none
-u32|1A|none
-u32||none
-u64|18446744073709551615|18446744073709551615
-u64|18446744073709551616|none
-hex|4 31|001F
-hex|4 703710|ABCDE
-hex|0 0|0
-hex|16 18446744073709551615|FFFFFFFFFFFFFFFF
-byte|10|0A
-digit|15|F
-eight|23803720|016B3748
-text|pg_wal|pg_wal
-memory||out of memory
-span|1|2 0/3000000 0/4800000
-span|3|none
-timeline|0|1
-timeline|2|1
-timeline|3|2
-timeline|4|5
-timeline|1099511627776|5
-timeline|18446744073709551615|5";
+pub(crate) const ROWS: &str = "\
+number position 0/16B3748 = 23803720 0/16B3748 0/016B3748
+number position 00000000/016b3748 = 23803720 0/16B3748 0/016B3748
+number position FFFFFFFF/FFFFFFFF = 18446744073709551615 FFFFFFFF/FFFFFFFF FFFFFFFF/FFFFFFFF
+number position 0/0 = 0 0/0 0/00000000
+number position 1/0 = 4294967296 1/0 1/00000000
+number position  = none
+number position / = none
+number position 0/ = none
+number position /0 = none
+number position 1/123456789 = none
+number position 123456789/1 = none
+number position g/0 = none
+number position 0/0/0 = none
+number position +1/0 = none
+number position  0/0 = none
+number position 0 = none
+number segment 16777216 00000002000000050000003A = 2 1338 5/3A000000 00000002000000050000003A
+number segment 1048576 0000000200000005000003A0 = 2 21408 5/3A000000 0000000200000005000003A0
+number segment 1073741824 000000020000000500000000 = 2 20 5/0 000000020000000500000000
+number segment 1073741824 00000002000000050000003A = none
+number segment 1073741824 00000002000000050000000 = none
+number segment 1073741824 0000000200000005000000000 = none
+number segment 1073741824 00000002000000050000000a = none
+number segment 1073741824 00000002000000050000000g = none
+number segment 1073741824 00000002.00000050000000A = none
+number segment 0 00000002000000050000003A = no size
+number segment 524288 00000002000000050000003A = no size
+number segment 1572864 00000002000000050000003A = no size
+number segment 2147483648 00000002000000050000003A = no size
+number holding 16777216 5/3A000000 = 2 1338 5/3A000000 00000002000000050000003A
+number holding 1048576 5/3A000000 = 2 21408 5/3A000000 0000000200000005000003A0
+number holding 1073741824 5/3A000000 = 2 20 5/0 000000020000000500000000
+number holding 1048576 5/3A012345 = 2 21408 5/3A000000 0000000200000005000003A0
+number long 00000002000000050000003A = true
+number long FFFFFFFFFFFFFFFFFFFFFFFF = true
+number long 00000002000000050000003 = false
+number long 00000002000000050000003A0 = false
+number long 00000002000000050000003a = false
+number long 0000000200000005000000G0 = false
+number long  = false
+number u32 0 = 0
+number u32 10 = 10
+number u32 4294967295 = 4294967295
+number u32 4294967296 = none
+number u32 99999999999999999999999 = none
+number u32 01 = none
+number u32 00 = none
+number u32 +1 = none
+number u32 -1 = none
+number u32  1 = none
+number u32 1  = none
+number u32 1A = none
+number u32  = none
+number u64 18446744073709551615 = 18446744073709551615
+number u64 18446744073709551616 = none
+number hex 4 31 = 001F
+number hex 4 703710 = ABCDE
+number hex 0 0 = 0
+number hex 16 18446744073709551615 = FFFFFFFFFFFFFFFF
+number byte 10 = 0A
+number digit 15 = F
+number eight 23803720 = 016B3748
+number text pg_wal = pg_wal
+number memory  = out of memory
+number span 1 = 2 0/3000000 0/4800000
+number span 3 = none
+number timeline 0 = 1
+number timeline 2 = 1
+number timeline 3 = 2
+number timeline 4 = 5
+number timeline 1099511627776 = 5
+number timeline 18446744073709551615 = 5
+number below 4294967295 4294967296 = true";
 
 fn told(alloc: Global, text: &str) -> Result<String, Fail> {
     Ok(String::from_str(alloc, text)?)
@@ -190,8 +192,19 @@ fn digits(alloc: Global, call: &str, number: &str) -> Result<String, Fail> {
     }
 }
 
-fn answer(alloc: Global, call: &str, given: &str) -> Result<String, Fail> {
+// Whether a position is below another, by their numbers.
+fn below(alloc: Global, given: &str) -> Result<String, Fail> {
+    let (one, other) = first_word(given);
+    let one = decimal_u64(one.as_bytes()).ok_or("no number")?;
+    let other = decimal_u64(other.as_bytes()).ok_or("no number")?;
+    Ok(format!(in alloc; "{}", Lsn(one) < Lsn(other))?)
+}
+
+/// A call, and what it is given.
+pub(crate) fn of_number(alloc: Global, words: &str) -> Result<String, Fail> {
+    let (call, given) = first_word(words);
     match call {
+        "below" => below(alloc, given),
         "position" => position(alloc, given),
         "long" if is_long_name(given.as_bytes()) => told(alloc, "true"),
         "long" => told(alloc, "false"),
@@ -205,20 +218,4 @@ fn answer(alloc: Global, call: &str, given: &str) -> Result<String, Fail> {
         "span" => span(alloc, given),
         _ => sized(alloc, call, given),
     }
-}
-
-#[test]
-fn each_row_is_answered(rt: HostRuntime) -> Result<(), Fail> {
-    for row in ROWS.split('\n') {
-        let (call, behind) = row.split_once('|').ok_or("no call")?;
-        let (given, wanted) = behind.split_once('|').ok_or("no answer")?;
-        let answer = answer(rt.alloc(), call, given)?;
-        assert_eq!(rt; answer.as_str(), wanted, "{row}");
-    }
-    Ok(())
-}
-
-#[test]
-fn positions_compare_as_numbers(rt: HostRuntime) {
-    assert!(rt; Lsn(0xFFFF_FFFF) < Lsn(0x1_0000_0000));
 }

@@ -23,17 +23,22 @@ fn page_of_three(alloc: Global) -> Result<Page, Fail> {
     Ok(page)
 }
 
+// Lays a part over zeros, at its byte.
+fn lay(expected: &mut [u8], at: usize, bytes: &[u8]) -> Result<(), Fail> {
+    if at > expected.len() || bytes.len() > expected.len() - at {
+        return Err("past the page".into());
+    }
+    expected[at..at + bytes.len()].copy_from_slice(bytes);
+    Ok(())
+}
+
 // Whether the page has these parts, each at its byte, over zeros.
 fn has_parts(alloc: Global, page: &Page, parts: &str) -> Result<bool, Fail> {
-    let mut expected = vec![in alloc; 0u8; 8192]?;
+    let mut expected = [0; 8192];
     for part in parts.split(", ") {
         let (at, digits) = cut_at(part, " ");
         let bytes = bytes_of(alloc, digits)?;
-        let at = usize::from(half(at)?);
-        let places = expected.iter_mut().skip(at).take(bytes.len());
-        for (place, byte) in places.zip(bytes.iter()) {
-            *place = *byte;
-        }
+        lay(&mut expected, usize::from(half(at)?), &bytes)?;
     }
     Ok(page.bytes() == expected.as_slice())
 }
@@ -70,17 +75,20 @@ fn each_call_leaves_these_bytes(rt: HostRuntime) -> Result<(), Fail> {
     Ok(())
 }
 
-#[test]
-fn holds_291_items(rt: HostRuntime) -> Result<(), Fail> {
-    let mut page = Page::zero(rt.alloc())?;
-    assert!(rt; page.is_zero());
+// A page of 291 items.
+fn full_page(alloc: Global) -> Result<Page, Fail> {
+    let mut page = Page::zero(alloc)?;
     page.init(0)?;
     page.set_lsn(Lsn(0x1_0000_00E0));
-    page.bytes_mut()[8] = 7;
-    assert!(rt; !page.is_zero());
     for place in 1..292u16 {
         page.add_item(&[7; 24], place, true)?;
     }
+    Ok(page)
+}
+
+#[test]
+fn holds_291_items(rt: HostRuntime) -> Result<(), Fail> {
+    let mut page = full_page(rt.alloc())?;
     assert_eq!(rt; page.count(), Some(291));
     assert_eq!(rt; page.line(291), Some(Line::Normal { at: 1208, len: 24 }));
     assert_eq!(rt; page.add_item(&[7; 24], 1, false), Err(PageRefusal::NoRoom));
@@ -88,29 +96,40 @@ fn holds_291_items(rt: HostRuntime) -> Result<(), Fail> {
     Ok(())
 }
 
-// Calls on a page of zeros, and on one of three items, that are refused.
-const OF_ZEROS: &str = "\
-set 0 unused = BadPage
-add - 0 between = BadPage
-trim = BadPage
-pack = BadPage
-delete 0 = BadPage
-init 8169 = NoRoom";
+#[test]
+fn a_page_of_zeros_is_told(rt: HostRuntime) -> Result<(), Fail> {
+    let mut page = Page::zero(rt.alloc())?;
+    let told = (page.is_zero(), page.count(), page.line(1));
+    assert_eq!(rt; told, (true, None, None));
+    page.init(0)?;
+    page.bytes_mut()[8] = 7;
+    assert!(rt; !page.is_zero());
+    Ok(())
+}
 
-const OF_THREE: &str = "\
-set 0 unused = BadPlace
-set 4 unused = BadPlace
-set 1 redirect 32768 = BadPlace
-set 1 dead 0 40000 = BadPlace
-add 00+8167 0 between = BadPlace
-add 00+8167 5 between = BadPlace
-add 00+8167 5 over = BadPlace
-add 00+8167 1 over = BadPlace
-add 00+8167 1 between = NoRoom
-delete 0 = BadPlace
-delete 4 = BadPlace
-delete 2 1 = BadPlace
-delete 2 2 = BadPlace";
+// Calls on a page of zeros, and on one of three items, that are refused.
+pub(crate) const OF_ZEROS: &str = "\
+page zeros set 0 unused = BadPage
+page zeros add - 0 between = BadPage
+page zeros trim = BadPage
+page zeros pack = BadPage
+page zeros delete 0 = BadPage
+page zeros init 8169 = NoRoom";
+
+pub(crate) const OF_THREE: &str = "\
+page three set 0 unused = BadPlace
+page three set 4 unused = BadPlace
+page three set 1 redirect 32768 = BadPlace
+page three set 1 dead 0 40000 = BadPlace
+page three add 00+8167 0 between = BadPlace
+page three add 00+8167 5 between = BadPlace
+page three add 00+8167 5 over = BadPlace
+page three add 00+8167 1 over = BadPlace
+page three add 00+8167 1 between = NoRoom
+page three delete 0 = BadPlace
+page three delete 4 = BadPlace
+page three delete 2 1 = BadPlace
+page three delete 2 2 = BadPlace";
 
 fn refusal_of(alloc: Global, page: &mut Page, call: &str) -> Result<String, Fail> {
     match make(alloc, page, call)? {
@@ -119,31 +138,19 @@ fn refusal_of(alloc: Global, page: &mut Page, call: &str) -> Result<String, Fail
     }
 }
 
-// Whether each call is refused as its row says.
-fn are_refused(alloc: Global, page: &mut Page, rows: &str) -> Result<bool, Fail> {
-    for row in rows.split('\n') {
-        let (call, meant) = cut_at(row, " = ");
-        if refusal_of(alloc, page, call)?.as_str() != meant {
-            return Ok(false);
-        }
-    }
-    Ok(true)
+/// How a call is refused on a page of `zeros`, or of `three` items.
+pub(crate) fn of_page(alloc: Global, words: &str) -> Result<String, Fail> {
+    let (page, call) = cut_at(words, " ");
+    let mut page = match page {
+        "zeros" => Page::zero(alloc)?,
+        _ => page_of_three(alloc)?,
+    };
+    refusal_of(alloc, &mut page, call)
 }
 
-#[test]
-fn refuses_in_order(rt: HostRuntime) -> Result<(), Fail> {
-    let mut page = Page::zero(rt.alloc())?;
-    assert!(rt; are_refused(rt.alloc(), &mut page, OF_ZEROS)?);
-    assert_eq!(rt; page.count(), None);
-    assert_eq!(rt; page.line(1), None);
-    let mut page = page_of_three(rt.alloc())?;
-    assert!(rt; are_refused(rt.alloc(), &mut page, OF_THREE)?);
-    Ok(())
-}
-
-#[test]
-fn overlapping_items_may_lack_room(rt: HostRuntime) -> Result<(), Fail> {
-    let mut page = Page::zero(rt.alloc())?;
+// A page of three items that lie over one another.
+fn overlapping(alloc: Global) -> Result<Page, Fail> {
+    let mut page = Page::zero(alloc)?;
     page.init(0)?;
     page.add_item(&[1; 4096], 1, false)?;
     for place in 2..4u16 {
@@ -156,6 +163,12 @@ fn overlapping_items_may_lack_room(rt: HostRuntime) -> Result<(), Fail> {
             },
         )?;
     }
+    Ok(page)
+}
+
+#[test]
+fn overlapping_items_may_lack_room(rt: HostRuntime) -> Result<(), Fail> {
+    let mut page = overlapping(rt.alloc())?;
     assert_eq!(rt; page.pack(), Err(PageRefusal::NoRoom));
     assert_eq!(rt; page.delete_items(&[1]), Err(PageRefusal::NoRoom));
     assert_eq!(rt; page.delete_items(&[1, 2]), Ok(()));

@@ -1,19 +1,16 @@
 // A dump whose reads fail, one after the other. Bytes and the line are written out from the format.
-
-use cluster_tree::{FailPlan, FailingTree, MemorySink, MemoryTree, Path, Tree};
+use crate::logs::{FIRST, path_of, tree_of, write};
+use crate::written::{append, writer_of};
+use cluster_tree::{FailPlan, FailingTree, MemorySink, MemoryTree};
 use std::alloc::Global;
 use std::test::*;
-use wal_base::{Lsn, SegSize, Spans};
-use wal_pages::LogPath;
+use wal_base::{Lsn, Spans};
 use wal_records::LogWriter;
 use waldump_core::{DumpFault, Dumped, Selection, dump};
 
-/// Where the segment begins.
-const SEGMENT: Lsn = Lsn(0x10_0000);
-
 /// All that is shown, from the segment's start on.
 const ALL: Selection = Selection {
-    start: SEGMENT,
+    start: Lsn(FIRST),
     stop: None,
     limit: 0,
     details: false,
@@ -30,31 +27,22 @@ const ALL: Selection = Selection {
 const LINE: &str = "rmgr: XLOG        len (rec/tot):     24/    24, tx:          0, \
     lsn: 0/00100028, prev 0/00000000, desc: NOOP \n";
 
-/// A tree whose log has a record on its first page, and one that goes on to the second.
-fn two_pages(alloc: Global) -> Result<MemoryTree, Fail> {
-    let size = SegSize::new(0x10_0000).ok_or("no size")?;
-    let mut writer = LogWriter::new(alloc, SEGMENT, 1, 7, size)?;
-    append(&mut writer, &[])?;
-    // 8200 main bytes
+/// A log with a record on its first page, and one of 8200 main bytes that goes on to the second; both are of the manager
+/// XLOG and say nothing.
+fn two_records(alloc: Global) -> Result<LogWriter, Fail> {
+    let mut writer = writer_of(alloc, (0x20, 0), &[])?;
     let mut body = vec![in alloc; 0; 8205]?;
     body.as_mut_slice()[..5].copy_from_slice(&[254, 0x08, 0x20, 0, 0]);
-    append(&mut writer, &body)?;
-    let mut tree = MemoryTree::new(alloc);
-    tree.make_folder(&Path::parse(alloc, "log")?)?;
-    let file = Path::parse(alloc, "log/000000010000000000000001")?;
-    tree.make_file(&file)?;
-    tree.write_at(&file, 0, writer.bytes())?;
-    Ok(tree)
+    append(&mut writer, 0, (0x20, 0), &body)?;
+    Ok(writer)
 }
 
-/// Appends a record of the manager XLOG that says nothing.
-#[tactic(auto, using(wal_records::proofs::NearLemmas::ends_near))]
-fn append(writer: &mut LogWriter, body: &[u8]) -> Result<(), Fail> {
-    if writer.position().0 > 1 << 62 {
-        return Err("no room".into());
-    }
-    writer.append(0, 0x20, 0, body)?;
-    Ok(())
+/// A tree with that log.
+fn two_pages(alloc: Global) -> Result<MemoryTree, Fail> {
+    let writer = two_records(alloc)?;
+    let mut tree = tree_of(alloc, "file 0/100000 0")?;
+    write(alloc, &mut tree, FIRST, writer.bytes())?;
+    Ok(tree)
 }
 
 /// Dumps the log of a tree.
@@ -63,15 +51,7 @@ fn run(
     tree: &mut FailingTree,
     out: &mut MemorySink,
 ) -> Result<Result<Dumped, DumpFault>, Fail> {
-    let log = LogPath {
-        folder: Path::parse(alloc, "log")?,
-        spans: Spans::one(alloc, 1)?,
-        size: SegSize::new(0x10_0000).ok_or("no size")?,
-        system: None,
-    };
-    if log.folder.len() > 63 {
-        return Err("too deep".into());
-    }
+    let log = path_of(alloc, Spans::one(alloc, 1)?, None)?;
     Ok(dump(alloc, tree, out, log, &ALL))
 }
 

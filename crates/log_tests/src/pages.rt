@@ -76,9 +76,9 @@ fn first_other<'a>(alloc: Global, case: &'a str) -> Result<Option<&'a str>, Fail
     let (system, behind) = cut_at(behind, " | ");
     let (plan, acts) = cut_at(behind, " | ");
     let system = if system == "own" { Some(SYSTEM) } else { None };
-    let mut tree = FailingTree::new(tree_of(alloc, cells)?, plan_of(plan)?);
     let log = path_of(alloc, Spans::one(alloc, 1)?, system)?;
     let mut cursor = PageCursor::new(alloc, log)?;
+    let mut tree = FailingTree::new(tree_of(alloc, cells)?, plan_of(plan)?);
     for act in acts.split("; ") {
         if !is_done(alloc, &mut tree, &mut cursor, act)? {
             return Ok(Some(act));
@@ -121,18 +121,30 @@ fn put_timeline(alloc: Global, tree: &mut MemoryTree, name: &str, tli: u8) -> Re
     Ok(())
 }
 
+/// A file of segment 1 of timeline 2 whose page names a timeline.
+fn tree_naming(alloc: Global, tli: u8) -> Result<MemoryTree, Fail> {
+    let name = "log/000000020000000000000001";
+    let mut tree = tree_of(alloc, "")?;
+    add_file(alloc, &mut tree, name, 16_384)?;
+    put_timeline(alloc, &mut tree, name, tli)?;
+    Ok(tree)
+}
+
+/// Timeline 1 up to 0/180000, and timeline 2.
+fn two_spans(alloc: Global) -> Result<Spans, Fail> {
+    let mut spans = Spans::one(alloc, 1)?;
+    spans.end_and_add(Lsn(0x18_0000), 2)?;
+    Ok(spans)
+}
+
 /// Timeline 1 ends in the middle of segment 1, which is therefore read from the file of timeline 2:
 /// the one of timeline 1 isn't there. Its pages may name either timeline.
 #[test]
 fn a_segment_is_read_from_the_timeline_that_reaches_its_end(rt: HostRuntime) -> Result<(), Fail> {
-    let name = "log/000000020000000000000001";
-    let mut tree = tree_of(rt.alloc(), "")?;
-    add_file(rt.alloc(), &mut tree, name, 16_384)?;
-    let mut spans = Spans::one(rt.alloc(), 1)?;
-    spans.end_and_add(Lsn(0x18_0000), 2)?;
-    let mut cursor = PageCursor::new(rt.alloc(), path_of(rt.alloc(), spans, None)?)?;
+    let log = path_of(rt.alloc(), two_spans(rt.alloc())?, None)?;
+    let mut cursor = PageCursor::new(rt.alloc(), log)?;
     for tli in [1, 2] {
-        put_timeline(rt.alloc(), &mut tree, name, tli)?;
+        let mut tree = tree_naming(rt.alloc(), tli)?;
         let read = cursor.read_page(&mut tree, Lsn(FIRST)).map(|page| page.tli);
         assert_eq!(rt; read, Ok(u32::from(tli)));
     }

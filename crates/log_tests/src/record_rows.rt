@@ -79,6 +79,13 @@ pub const OF_PAGE: &str = "\
 0/102021 16 0/101FF8 = none, 0/101FF8 Manager
 0/102002 16*32 0/101FF8 = none, 0/101FF8 Page";
 
+/// A record that would end at 2^64, and its sum, which is wrong too.
+pub const TO_2_64: &str = "\
+file FFFFFFFF/FFFFE000 1048576, page FFFFFFFF/FFFFE000 0 0, record FFFFFFFF/FFFFFFE0 32 0/100028";
+
+pub const OF_2_64: &str = "\
+FFFFFFFF/FFFFFFF8 01 FFFFFFFF/FFFFFFE0 = none, FFFFFFFF/FFFFFFE0 NoSegment";
+
 /// The link and the page that the body goes on at are wrong.
 pub const OF_BODY: &str = "\
 0/101F08 10*264 0/101F00 = none, 0/101F00 Prev";

@@ -10,7 +10,7 @@ use std::alloc::Global;
 use std::process::Abort;
 use std::test::*;
 use wal_base::{Lsn, SegSize, Spans};
-use wal_records::{LogFault, RecordCursor, Step};
+use wal_records::{LogFault, Record, RecordCursor, Step};
 
 /// A cursor over the log of timeline 1.
 pub fn cursor_at(alloc: Global, start: u64) -> Result<RecordCursor, Fail>
@@ -66,64 +66,77 @@ pub fn is_read(
     Ok(read_all(alloc, tree, start, way)?.as_str() == wanted)
 }
 
-/// Whether a row is read as it says: `AT BYTES START = LAST, PLACE WHY`.
-fn is_row(alloc: Global, log: &str, row: &str, way: Way) -> Result<bool, Fail> {
+/// The log of a row, with its bytes put over it.
+fn put_over(alloc: Global, log: &str, at: &str, bytes: &str) -> Result<MemoryTree, Fail> {
+    let mut tree = tree_of(alloc, log)?;
+    write(alloc, &mut tree, position(at)?, &bytes_of(alloc, bytes)?)?;
+    Ok(tree)
+}
+
+/// Whether a row is read as it says in both ways: `AT BYTES START = LAST, PLACE WHY`.
+fn is_row(alloc: Global, log: &str, row: &str) -> Result<bool, Fail> {
     let (given, wanted) = cut_at(row, " = ");
     let (at, behind) = cut_at(given, " ");
     let (bytes, start) = cut_at(behind, " ");
-    let mut tree = tree_of(alloc, log)?;
-    write(alloc, &mut tree, position(at)?, &bytes_of(alloc, bytes)?)?;
-    is_read(alloc, &mut tree, position(start)?, way, wanted)
+    let start = position(start)?;
+    let mut tree = put_over(alloc, log, at, bytes)?;
+    Ok(is_read(alloc, &mut tree, start, Way::Anew, wanted)?
+        && is_read(alloc, &mut tree, start, Way::Unchanged, wanted)?)
 }
 
 fn check<R: AllocGlobal + Abort>(rt: &R, log: &str, rows: &str) -> Result<(), Fail> {
     for row in rows.split('\n') {
-        for way in [Way::Anew, Way::Unchanged] {
-            assert!(rt; is_row(rt.alloc(), log, row, way)?, "{row}");
-        }
+        assert!(rt; is_row(rt.alloc(), log, row)?, "{row}");
     }
     Ok(())
 }
 
 #[test]
 fn the_first_test_that_fails_is_told(rt: HostRuntime) -> Result<(), Fail> {
-    check(&rt, TWO, OF_FIRST)?;
-    check(&rt, TWO, OF_SECOND)?;
-    check(&rt, OVER, OF_PAGE)?;
-    check(&rt, BODY_OVER, OF_BODY)?;
-    check(&rt, DROPPED, OF_DROPPED)?;
-    check(&rt, TO_THE_END, OF_PAGE_END)
+    for (log, rows) in [
+        (TWO, OF_FIRST),
+        (TWO, OF_SECOND),
+        (OVER, OF_PAGE),
+        (BODY_OVER, OF_BODY),
+        (DROPPED, OF_DROPPED),
+        (TO_THE_END, OF_PAGE_END),
+        (TO_2_64, OF_2_64),
+    ] {
+        check(&rt, log, rows)?;
+    }
+    Ok(())
 }
 
-/// A record that would end at 2^64, whose sum is wrong too.
-#[test]
-fn no_record_ends_where_positions_end(rt: HostRuntime) -> Result<(), Fail> {
-    let cells = "file FFFFFFFF/FFFFE000 1048576, page FFFFFFFF/FFFFE000 0 0, \
-        record FFFFFFFF/FFFFFFE0 32 0/100028, bytes FFFFFFFF/FFFFFFF8 01";
-    let mut tree = tree_of(rt.alloc(), cells)?;
-    let wanted = "none, FFFFFFFF/FFFFFFE0 NoSegment";
-    assert!(rt; is_read(rt.alloc(), &mut tree, u64::MAX - 31, Way::Anew, wanted)?);
-    Ok(())
+/// A log with the stored checkpoint.
+fn stored(alloc: Global) -> Result<MemoryTree, Fail> {
+    let mut tree = tree_of(alloc, "file 0/100000 8192, page 0/100000 2 0")?;
+    write(alloc, &mut tree, 0x10_0028, &CHECKPOINT)?;
+    Ok(tree)
+}
+
+/// Where a record starts and ends, where its bytes end, its length and its sum, and whether its body is the checkpoint's.
+fn shown(alloc: Global, current: &Record) -> Result<String, Fail> {
+    let size = SegSize::new(0x10_0000).ok_or("no size")?;
+    let behind = current.behind(size).ok_or("nothing behind")?;
+    let header = current.header();
+    let same = current.body() == &CHECKPOINT[24..];
+    Ok(format!(in alloc;
+        "{} {} {behind} {} {:08X} {same}",
+        current.start(),
+        current.end(),
+        header.total,
+        header.crc
+    )?)
 }
 
 #[test]
 fn a_stored_checkpoint_is_read(rt: HostRuntime) -> Result<(), Fail> {
-    let cells = "file 0/100000 8192, page 0/100000 2 0";
-    let mut tree = tree_of(rt.alloc(), cells)?;
-    write(rt.alloc(), &mut tree, 0x10_0028, &CHECKPOINT)?;
+    let mut tree = stored(rt.alloc())?;
     let mut cursor = cursor_at(rt.alloc(), FIRST)?;
-    let size = SegSize::new(0x10_0000).ok_or("no size")?;
     assert!(rt; cursor.current().is_none());
     assert_eq!(rt; cursor.next(&mut tree), Ok(Step::Record));
-    let current = cursor.current().ok_or("no record")?;
-    assert_eq!(rt;
-        (current.start(), current.end()),
-        (Lsn(0x10_0028), Lsn(0x10_00A0))
-    );
-    assert_eq!(rt; current.behind(size), Some(Lsn(0x10_009A)));
-    let header = current.header();
-    assert_eq!(rt; (header.total, header.crc), (114, 0xAE66_BC71));
-    assert_eq!(rt; current.body(), &CHECKPOINT[24..]);
+    let shown = shown(rt.alloc(), cursor.current().ok_or("no record")?)?;
+    assert_eq!(rt; shown.as_str(), "0/100028 0/1000A0 0/10009A 114 AE66BC71 true");
     Ok(())
 }
 
@@ -162,7 +175,7 @@ fn is_done(
         "alone" => cursor.read_alone(tree, Lsn(position(at)?)),
         _ => {
             cursor.go_to(Lsn(position(at)?));
-            return Ok(true);
+            return Ok(cursor.current().is_none());
         }
     };
     Ok(told(alloc, cursor, answer)?.as_str() == wanted)
@@ -188,18 +201,7 @@ fn first_other_act<'a>(
 const BY_ITSELF: &str = "\
 alone 0/102018: 0/102018 0/102048; alone 0/101F00: 0/101F00 0/101FF8; alone 0/101FF8: 0/101FF8 \
     Continuation; alone 0/102000: 0/102000 Place; alone 0/102048: 0/102048 ZeroLength; unchanged: \
-    0/101F00 0/101FF8; unchanged: 0/102018 0/102048; go 0/102000; next: 0/102018 0/102048";
-
-#[test]
-fn the_record_at_a_place_is_read_by_itself(rt: HostRuntime) -> Result<(), Fail> {
-    let mut tree = FailingTree::new(tree_of(rt.alloc(), DROPPED)?, FailPlan::Never);
-    let mut cursor = cursor_at(rt.alloc(), 0x10_1F00)?;
-    let other = first_other_act(rt.alloc(), &mut cursor, &mut tree, BY_ITSELF)?;
-    assert_eq!(rt; other, None);
-    cursor.go_to(Lsn(FIRST));
-    assert!(rt; cursor.current().is_none());
-    Ok(())
-}
+    0/101F00 0/101FF8; unchanged: 0/102018 0/102048; go 0/102000; next: 0/102018 0/102048; go 0/100000";
 
 /// Records of these lengths, which reads fail, and what `next_unchanged` gives. Three records stand
 /// on one page, whose second read would fail; the second page of a record can't be read once.
@@ -211,18 +213,33 @@ const FAULTS: &str = "\
 0 10 8144, 0 10 114 | at 1 | unchanged: failed; unchanged: 0/100028 0/101FF8; unchanged: 0/101FF8 \
     0/102088";
 
+/// The first act of a row that comes out otherwise, on a log of records of these lengths.
+fn first_other_of<'a>(alloc: Global, row: &'a str) -> Result<Option<&'a str>, Fail> {
+    let (log, behind) = cut_at(row, " | ");
+    let (plan, acts) = cut_at(behind, " | ");
+    let log = log_tree(alloc, &news_of(alloc, log)?)?;
+    let mut tree = FailingTree::new(log, plan_of(plan)?);
+    let mut cursor = cursor_at(alloc, FIRST)?;
+    first_other_act(alloc, &mut cursor, &mut tree, acts)
+}
+
 #[test]
 fn after_a_fault_the_same_place_is_tried(rt: HostRuntime) -> Result<(), Fail> {
     for row in FAULTS.split('\n') {
-        let (log, behind) = cut_at(row, " | ");
-        let (plan, acts) = cut_at(behind, " | ");
-        let log = log_tree(rt.alloc(), &news_of(rt.alloc(), log)?)?;
-        let mut tree = FailingTree::new(log, plan_of(plan)?);
-        let mut cursor = cursor_at(rt.alloc(), FIRST)?;
-        assert_eq!(rt;
-            first_other_act(rt.alloc(), &mut cursor, &mut tree, acts)?,
-            None
-        );
+        assert_eq!(rt; first_other_of(rt.alloc(), row)?, None, "{row}");
     }
+    Ok(())
+}
+
+/// The first act that comes out otherwise on the log with a record that was dropped.
+fn first_other_by_itself(alloc: Global) -> Result<Option<&'static str>, Fail> {
+    let mut tree = FailingTree::new(tree_of(alloc, DROPPED)?, FailPlan::Never);
+    let mut cursor = cursor_at(alloc, 0x10_1F00)?;
+    first_other_act(alloc, &mut cursor, &mut tree, BY_ITSELF)
+}
+
+#[test]
+fn the_record_at_a_place_is_read_by_itself(rt: HostRuntime) -> Result<(), Fail> {
+    assert_eq!(rt; first_other_by_itself(rt.alloc())?, None);
     Ok(())
 }

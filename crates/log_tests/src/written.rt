@@ -14,12 +14,25 @@ use wal_records::LogWriter;
 pub type New = (u8, u8, u32);
 
 /// Appends a record of a transaction: the operation and its manager, and the bytes of its body.
-fn append(writer: &mut LogWriter, xid: u32, kind: (u8, u8), body: &[u8]) -> Result<u64, Fail> {
+pub fn append(writer: &mut LogWriter, xid: u32, kind: (u8, u8), body: &[u8]) -> Result<u64, Fail> {
     let (info, manager) = kind;
     if manager > 21 || writer.position().0 > 1 << 62 {
         return Err("no such record".into());
     }
     Ok(writer.append(xid, info, manager, body)?.0)
+}
+
+/// A log of timeline 1 in segments of 1 MiB from 0/100000 on.
+fn new_writer(alloc: Global) -> Result<LogWriter, Fail> {
+    let size = SegSize::new(0x10_0000).ok_or("no size")?;
+    Ok(LogWriter::new(alloc, Lsn(FIRST), 1, SYSTEM, size)?)
+}
+
+/// Such a log of one record: the operation and its manager, and the bytes of its body.
+pub fn writer_of(alloc: Global, kind: (u8, u8), body: &[u8]) -> Result<LogWriter, Fail> {
+    let mut writer = new_writer(alloc)?;
+    append(&mut writer, 0, kind, body)?;
+    Ok(writer)
 }
 
 /// Appends a record of a transaction and of this length, whose body is of bytes 5A.
@@ -29,11 +42,9 @@ fn append_new(alloc: Global, writer: &mut LogWriter, xid: u32, new: New) -> Resu
     append(writer, xid, (info, manager), &body)
 }
 
-/// A log of timeline 1 in segments of 1 MiB from 0/100000 on, with records of these lengths, of the
-/// transactions from 700 on, and where each starts.
+/// Such a log with records of these lengths, of the transactions from 700 on, and where each starts.
 pub fn log_of(alloc: Global, records: &[New]) -> Result<(LogWriter, Vec<u64>), Fail> {
-    let size = SegSize::new(0x10_0000).ok_or("no size")?;
-    let mut writer = LogWriter::new(alloc, Lsn(FIRST), 1, SYSTEM, size)?;
+    let mut writer = new_writer(alloc)?;
     let mut starts = Vec::new(alloc);
     for (&new, xid) in records.iter().zip(700..) {
         starts.push(append_new(alloc, &mut writer, xid, new)?)?;
@@ -88,20 +99,24 @@ const ROWS: &str = "\
 0 10 1240, 64 0 24 = 0/100500 0/200000, 0/200028 Page
 64 0 24, 0 10 26 = 0/200028 0/200048, 0/200048 ZeroLength";
 
-/// Whether a log is written, and read again, as its row says.
-fn is_so(alloc: Global, records: &[New], wanted: &str) -> Result<bool, Fail> {
+/// Where the last of some records starts that are written, and where it ends.
+fn written(alloc: Global, records: &[New]) -> Result<String, Fail> {
     let (writer, starts) = log_of(alloc, records)?;
     let start = Lsn(starts.last().copied().unwrap_or(0));
+    Ok(format!(in alloc; "{start} {}", writer.position())?)
+}
+
+/// Whether a log is written, and read again, as its row says.
+fn is_so(alloc: Global, records: &[New], wanted: &str) -> Result<bool, Fail> {
     let (last, end) = cut_at(wanted, ", ");
+    if written(alloc, records)?.as_str() != last {
+        return Ok(false);
+    }
     let read = if records.is_empty() { "none" } else { last };
     let read = format!(in alloc; "{read}, {end}")?;
-    let written = format!(in alloc; "{start} {}", writer.position())?;
-    let mut tree = tree_with(alloc, &writer)?;
-    Ok(
-        written.as_str() == last
-            && is_read(alloc, &mut tree, FIRST, Way::Anew, read.as_str())?
-            && is_read(alloc, &mut tree, FIRST, Way::Unchanged, read.as_str())?,
-    )
+    let mut tree = log_tree(alloc, records)?;
+    Ok(is_read(alloc, &mut tree, FIRST, Way::Anew, read.as_str())?
+        && is_read(alloc, &mut tree, FIRST, Way::Unchanged, read.as_str())?)
 }
 
 #[test]
@@ -122,20 +137,27 @@ fn segment_of(alloc: Global, tree: &mut MemoryTree) -> Result<Vec<u8>, Fail> {
     Ok(bytes)
 }
 
+/// The first segment as it was stored.
+fn stored_segment(alloc: Global) -> Result<Vec<u8>, Fail> {
+    let mut stored = tree_of(alloc, "file 0/100000 1048576, page 0/100000 2 0")?;
+    write(alloc, &mut stored, 0x10_0028, &CHECKPOINT)?;
+    segment_of(alloc, &mut stored)
+}
+
+/// The first segment as a writer's bytes are in it.
+fn written_segment(alloc: Global, writer: &LogWriter) -> Result<Vec<u8>, Fail> {
+    segment_of(alloc, &mut tree_with(alloc, writer)?)
+}
+
 /// A segment with one shutdown checkpoint, whose bytes and sum come from an independent script: all
 /// of it, of which the writer gives the first page.
 #[test]
 fn a_segment_is_written_as_it_was_stored(rt: HostRuntime) -> Result<(), Fail> {
-    let size = SegSize::new(0x10_0000).ok_or("no size")?;
-    let mut writer = LogWriter::new(rt.alloc(), Lsn(FIRST), 1, SYSTEM, size)?;
+    let mut writer = new_writer(rt.alloc())?;
     let start = append(&mut writer, 0, (0, 0), &CHECKPOINT[24..])?;
-    assert_eq!(rt; start, 0x10_0028);
-    assert_eq!(rt; writer.position(), Lsn(0x10_00A0));
-    assert_eq!(rt; writer.bytes().len(), 8192);
-    let mut stored = tree_of(rt.alloc(), "file 0/100000 1048576, page 0/100000 2 0")?;
-    write(rt.alloc(), &mut stored, 0x10_0028, &CHECKPOINT)?;
-    let stored = segment_of(rt.alloc(), &mut stored)?;
-    let written = segment_of(rt.alloc(), &mut tree_with(rt.alloc(), &writer)?)?;
-    assert!(rt; written.as_slice() == stored.as_slice());
+    let told = (start, writer.position(), writer.bytes().len());
+    assert_eq!(rt; told, (0x10_0028, Lsn(0x10_00A0), 8192));
+    let written = written_segment(rt.alloc(), &writer)?;
+    assert!(rt; written.as_slice() == stored_segment(rt.alloc())?.as_slice());
     Ok(())
 }

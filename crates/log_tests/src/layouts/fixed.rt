@@ -1,5 +1,5 @@
 //! Layouts of a fixed size, by their names.
-use crate::shown::shown;
+use crate::layouts::shown::shown;
 use record_layouts::*;
 use std::alloc::Global;
 use std::test::Fail;

@@ -1,5 +1,5 @@
 //! Layouts with lists, by their names.
-use crate::shown::{add_items, none};
+use crate::layouts::shown::{add_items, none};
 use record_layouts::*;
 use std::alloc::Global;
 use std::test::Fail;

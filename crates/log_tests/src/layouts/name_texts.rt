@@ -1,8 +1,6 @@
 // Names of managers and operations, as src/include/access/rmgrlist.h and pg_waldump have them.
-use crate::driver::check;
-use std::test::Fail;
 
-const NAMES: &str = "manager 0 = XLOG
+pub(crate) const NAMES: &str = "manager 0 = XLOG
 manager 1 = Transaction
 manager 2 = Storage
 manager 3 = CLOG
@@ -81,8 +79,3 @@ does 10 144 = Heap(Delete) 10 16 from 8 on
 does 11 245 = Btree(Unlisted(240)) 11 240 from 0 on
 does 21 159 = Other { manager: 21, number: 144 } 21 144 from 0 on
 ";
-
-#[test]
-fn names_are_those_of_the_tables(rt: HostRuntime) -> Result<(), Fail> {
-    check(&rt, NAMES)
-}

@@ -9,6 +9,35 @@ use std::alloc::Global;
 /// The verbs of the calls, one of each kind.
 pub(crate) const VERBS: &str = "kind list size read write_x cut make_file make_folder remove sync";
 
+// How a call that reads ends, by its verb.
+fn read<F: Tree>(alloc: Global, tree: &mut F, verb: &str, path: &Path) -> Result<(), TreeFault> {
+    match verb {
+        "kind" => {
+            tree.kind(path)?;
+        }
+        "list" => {
+            tree.list(alloc, path)?;
+        }
+        "size" => {
+            tree.size(path)?;
+        }
+        _ => tree.read_at(path, 0, &mut [0; 5])?,
+    }
+    Ok(())
+}
+
+// How a call that changes ends, by its verb.
+fn changed<F: Tree>(tree: &mut F, verb: &str, path: &Path) -> Result<(), TreeFault> {
+    match verb {
+        "write_x" => tree.write_at(path, 0, b"x"),
+        "cut" => tree.cut(path, 9),
+        "make_file" => tree.make_file(path),
+        "make_folder" => tree.make_folder(path),
+        "remove" => tree.remove(path),
+        _ => tree.sync(),
+    }
+}
+
 // How a call on a path ends, by its verb.
 pub(crate) fn ended<F: Tree>(
     alloc: Global,
@@ -17,16 +46,8 @@ pub(crate) fn ended<F: Tree>(
     path: &Path,
 ) -> Result<(), TreeFault> {
     match verb {
-        "kind" => tree.kind(path).map(|_| ()),
-        "list" => tree.list(alloc, path).map(|_| ()),
-        "size" => tree.size(path).map(|_| ()),
-        "read" => tree.read_at(path, 0, &mut [0; 5]),
-        "write_x" => tree.write_at(path, 0, b"x"),
-        "cut" => tree.cut(path, 9),
-        "make_file" => tree.make_file(path),
-        "make_folder" => tree.make_folder(path),
-        "remove" => tree.remove(path),
-        _ => tree.sync(),
+        "kind" | "list" | "size" | "read" => read(alloc, tree, verb, path),
+        _ => changed(tree, verb, path),
     }
 }
 

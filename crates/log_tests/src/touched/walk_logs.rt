@@ -3,9 +3,11 @@ ghost use Rattle.std.specs.Prelude.{◌≡◌, IfOk};
 ghost use Rattle.cluster_tree.specs.Contents.{Contents};
 ghost use Rattle.wal_records.specs.Cursor.{Knows};
 
-use crate::bodies::body_of;
+use crate::touched::bodies::body_of;
+use crate::logs;
+use crate::logs::FIRST_NAME;
 use crate::texts::{byte, cut_at, position};
-use crate::walk_rows::HINTED;
+use crate::touched::walk_rows::HINTED;
 use cluster_tree::{MemoryTree, Path, Tree};
 use std::alloc::Global;
 use std::test::Fail;
@@ -105,11 +107,8 @@ fn put(alloc: Global, tree: &mut MemoryTree, file: &Path, cell: &str) -> Result<
 
 /// A tree with a log of two pages in the folder `log`, in which this stands, and zeros.
 pub(crate) fn tree_of(alloc: Global, cells: &str) -> Result<MemoryTree, Fail> {
-    let mut tree = MemoryTree::new(alloc);
-    tree.make_folder(&Path::parse(alloc, "log")?)?;
-    let file = Path::parse(alloc, "log/000000010000000000000001")?;
-    tree.make_file(&file)?;
-    tree.write_at(&file, 0, &vec![in alloc; 0; 16_384]?)?;
+    let mut tree = logs::tree_of(alloc, "file 0/100000 16384")?;
+    let file = Path::parse(alloc, FIRST_NAME)?;
     tree.write_at(&file, 0, &PAGE)?;
     let cells = if cells == "HINTED" { HINTED } else { cells };
     for cell in cells.split(", ") {

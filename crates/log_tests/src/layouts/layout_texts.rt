@@ -1,8 +1,6 @@
 // Layouts of main bytes, each whole and cut by one byte; the values are written out from the format.
-use crate::driver::check;
-use std::test::Fail;
 
-const LAYOUTS: &str = "# The byte at place k is k + 1, so that no two fields look alike.
+pub(crate) const LAYOUTS: &str = "# The byte at place k is k + 1, so that no two fields look alike.
 whole NextOid 01020304 = NextOid { oid: 67305985 }
 whole BackupEnd 0102030405060708 = BackupEnd { start: Lsn(578437695752307201) }
 whole FpwChange 01 = FpwChange { fpw: 1 }
@@ -72,7 +70,7 @@ read SequenceLog 0102030405060708090A0B0C0D0E = rel 67305985/134678021/202050057
 whole SequenceLog 0102030405060708090A0B0C = rel 67305985/134678021/202050057 tuple []
 ";
 
-const ENDS: &str =
+pub(crate) const ENDS: &str =
     "# each part of a commit or an abort alone, and all together; an abort has no messages
 whole Commit 010000000000008001000000050000007F060000 = time -9223372036854775807 xinfo 1 subxacts dropped stats messages in Some(DatabaseName { database: 5, space: 1663 }) from None
 whole Abort 01000000000000800200000002000000BD020000BE020000 = time -9223372036854775807 xinfo 2 subxacts 701 702 dropped stats messages in None from None
@@ -107,13 +105,3 @@ read ParameterPrefix 0102030405060708090A0B0C0D0E0F10111213141516171819 = Parame
 read CheckpointPrefix 0102030405060708090A0B0C0D0E0F1011 = CheckpointPrefix { fpw: Some(17) }
 read CheckpointPrefix 0102030405060708090A0B0C0D0E0F10 = CheckpointPrefix { fpw: None }
 ";
-
-#[test]
-fn layouts_are_read(rt: HostRuntime) -> Result<(), Fail> {
-    check(&rt, LAYOUTS)
-}
-
-#[test]
-fn ends_and_cut_layouts_are_read(rt: HostRuntime) -> Result<(), Fail> {
-    check(&rt, ENDS)
-}

@@ -1,8 +1,6 @@
 // Bytes of blocks and what they say, written out by hand from the layouts.
-use crate::driver::check;
-use std::test::Fail;
 
-const BLOCKS: &str =
+pub(crate) const BLOCKS: &str =
     "block insert 0 0 028002091805A1A2 = TupleHeader { infomask2: 32770, infomask: 2306, hoff: 24 } [5, 161, 162]
 block insert 0 0 0280020918 = TupleHeader { infomask2: 32770, infomask: 2306, hoff: 24 } []
 block insert 0 0 02800209 = none
@@ -55,8 +53,3 @@ block split 0 0 000001000100104001020304050607 = none
 block meta 0 0 04000000030000000100000012010000020000000000010001 = Some(BtreeMeta { version: 4, root: 3, level: 1, fast_root: 274, fast_level: 2, deleted_pages: 65536, all_equal_image: 1 })
 block meta 0 0 040000000300000001000000120100000200000000000100 = None
 ";
-
-#[test]
-fn bytes_of_blocks_are_read(rt: HostRuntime) -> Result<(), Fail> {
-    check(&rt, BLOCKS)
-}

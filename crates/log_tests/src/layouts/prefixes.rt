@@ -1,5 +1,5 @@
 //! What is there of layouts that are not whole.
-use crate::shown::{add_items, shown};
+use crate::layouts::shown::{add_items, shown};
 use record_layouts::*;
 use std::alloc::Global;
 use std::test::Fail;

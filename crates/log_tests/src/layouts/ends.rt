@@ -1,5 +1,5 @@
 //! Commits and aborts.
-use crate::shown::{add_items, none};
+use crate::layouts::shown::{add_items, none};
 use record_layouts::{Outcome, Prepared, TransactionEnd};
 use std::alloc::Global;
 use std::test::Fail;

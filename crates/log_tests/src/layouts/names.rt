@@ -1,5 +1,5 @@
 //! Names of managers and operations, and operations by their numbers.
-use crate::driver::first_word;
+use crate::layouts::first_word;
 use record_layouts::Operation;
 use rmgr_desc::{
     add_manager_name, add_operation_name, manager_name, manager_named, operation_name,

@@ -1,10 +1,8 @@
 // The expected values follow from the plans.
 use crate::callers::{VERBS, ended, rewrite};
-use crate::rows::check;
 use crate::trees::small_tree;
 use cluster_tree::{
-    FailPlan, FailingTree, FileFault, Marks, MemorySink, Path, PathFault, Sink, SinkFailed, Tree,
-    TreeFault,
+    FailPlan, FailingTree, FileFault, MemorySink, Path, PathFault, Sink, SinkFailed, Tree, TreeFault,
 };
 use std::test::Fail;
 
@@ -47,25 +45,12 @@ fn a_sink_fails_by_its_plan(rt: HostRuntime) -> Result<(), Fail> {
     Ok(())
 }
 
-const MARKS: &str = "\
+pub(crate) const MARKS: &str = "\
 mark pg_rewind.finished = None
 mark pg_resetwal.unfinished = Some(2)
 mark pg_walreplay.unfinished = Some(1)
-mark pg_rewind.unfinished = Some(0)";
-
-#[test]
-fn the_first_mark_that_is_there_is_told(rt: HostRuntime) -> Result<(), Fail> {
-    check(&rt, MARKS)
-}
-
-#[test]
-fn a_mark_is_told_by_its_number(rt: HostRuntime) -> Result<(), Fail> {
-    let marks = Marks::new(rt.alloc(), &Path::parse(rt.alloc(), "t")?)?;
-    let replay = marks.path(1).ok_or("no path")?;
-    let text = format!(in rt.alloc(); "{replay}")?;
-    assert_eq!(rt; text.as_str(), "t/pg_walreplay.unfinished");
-    Ok(())
-}
+mark pg_rewind.unfinished = Some(0)
+mark_path 1 = t/pg_walreplay.unfinished";
 
 #[test]
 fn faults_have_messages(rt: HostRuntime) -> Result<(), Fail> {

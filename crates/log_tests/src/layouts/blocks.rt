@@ -1,5 +1,5 @@
 //! Layouts of the bytes of blocks, by their kinds.
-use crate::driver::first_word;
+use crate::layouts::first_word;
 use block_layouts::*;
 use std::alloc::Global;
 use std::test::Fail;

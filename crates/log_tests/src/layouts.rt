@@ -1,10 +1,23 @@
-//! Runs the lines of texts. README.md has their forms.
-use crate::blocks::block;
-use crate::ends::end;
-use crate::fixed::{heap, page, transaction, xlog};
-use crate::lists::list;
-use crate::names::name;
-use crate::prefixes::prefix;
+//! Layouts of records and of the bytes of blocks, and names of operations: rows of texts.
+mod block_names;
+mod block_texts;
+mod blocks;
+mod ends;
+mod fixed;
+mod layout_texts;
+mod lists;
+mod name_texts;
+mod names;
+mod prefixes;
+mod shown;
+
+use block_names::block_name;
+use blocks::block;
+use ends::end;
+use fixed::{heap, page, transaction, xlog};
+use lists::list;
+use names::name;
+use prefixes::prefix;
 use std::alloc::Global;
 use std::process::Abort;
 use std::test::Fail;
@@ -66,17 +79,32 @@ fn told(alloc: Global, line: &str) -> Result<String, Fail> {
         "whole" => whole(alloc, behind),
         "read" => read(alloc, behind),
         "block" => block(alloc, behind),
+        "fork" | "shown" | "rising" => block_name(alloc, verb, behind),
         _ => name(alloc, verb, behind),
     }
 }
 
 /// Each line of a text is read as it says behind its sign of equality.
-pub fn check<R: AllocGlobal + Abort>(rt: &R, text: &str) -> Result<(), Fail> {
+fn check<R: AllocGlobal + Abort>(rt: &R, text: &str) -> Result<(), Fail> {
     for line in text.split('\n') {
         if let Some((line, meant)) = line.split_once(" = ") {
             let told = told(rt.alloc(), line)?;
             assert_eq!(rt; told.as_str(), meant, "{line}");
         }
+    }
+    Ok(())
+}
+
+#[test]
+fn layouts_and_names_are_read_as_they_say(rt: HostRuntime) -> Result<(), Fail> {
+    for text in [
+        layout_texts::LAYOUTS,
+        layout_texts::ENDS,
+        block_texts::BLOCKS,
+        name_texts::NAMES,
+        block_names::NAMES,
+    ] {
+        check(&rt, text)?;
     }
     Ok(())
 }
