@@ -2,3 +2,4 @@ pub mod MeantLemmas
 pub mod BelowLemmas
 pub mod FormLemmas
 pub mod MakeLemmas
+pub mod StopLemmas

@@ -5,12 +5,15 @@ use Rattle.std.specs.List.{concat}
 use Rattle.cluster_tree.specs.Change.{Change, all_changed, call_of}
 use Rattle.cluster_tree.specs.Contents.{Contents}
 use Rattle.cluster_tree.specs.PathValue.{PathValue}
+use Rattle.cluster_tree.specs.Run.{Moment}
+use Rattle.marked_runs.specs.Moments.{IsUntouched}
 use Rattle.wal_base.specs.Lsn.{lsn_text}
 use Rattle.timeline_history.specs.declared.ancestor.Divergence.{Divergence}
 use Rattle.rewind_survey.specs.declared.fault.RewindFault.{RewindFault}
 use Rattle.rewind_survey.specs.declared.outcome.Told.{Told}
 use Rattle.rewind_core.specs.Fits.{IsRewound}
 use Rattle.rewind_core.specs.Planned.{AtFork, Meant, Needing, Needs, OneTimeline, planned_of}
+use Rattle.rewind_core.specs.Stops.{IsUnderway}
 use Rattle.commands.specs.declared.rewind.RewindWords.{RewindWords}
 use Rattle.acts.specs.Acts.{Act, AreBelow, Do, Report}
 use Rattle.run_acts.specs.Answers.{Answer, refused, does}
@@ -91,3 +94,9 @@ IsRewind words answer =
 abbrev pub LeavesRewound : RewindWords → ℤ → Contents → Contents → Type 0
 LeavesRewound words now c c' =
     (n : Needing) → words.dry_run ≡ false → planned_of c words.target words.source now ≡ Ok (Needs n) → IsRewound c n c'
+
+-- a stop at any moment leaves the target untouched, and only where a rewind is needed, and no run is dry, marked or rewound
+abbrev pub IsLeftByRewind : RewindWords → ℤ → Moment → Contents → Type 0
+IsLeftByRewind words now first c =
+    IsUntouched first c
+    ⊎ ((n : Needing) × (words.dry_run ≡ false) × (planned_of first.state.contents words.target words.source now ≡ Ok (Needs n)) × IsUnderway words.target first.state.contents n c)

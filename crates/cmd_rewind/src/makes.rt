@@ -1,11 +1,13 @@
 // A rewind that is made, between its lines.
 ghost use Rattle.std.specs.Prelude.{◌≡◌, ◌≢◌, ◌≤◌, ◌⊎◌, [], ◌∷◌, Bool, Err, IfErr, IsErrOf, IsTrue, OnOk};
 ghost use Rattle.cluster_tree.specs.Causes.{Rose};
-ghost use Rattle.cluster_tree.specs.Frame.{Came};
+ghost use Rattle.cluster_tree.specs.Frame.{Came, moment_of};
 ghost use Rattle.cluster_tree.specs.PathValue.{PathValue};
+ghost use Rattle.cluster_tree.specs.Stops.{LeavesOnly};
 ghost use Rattle.rewind_writes.specs.Steps.{AllAreFit};
 ghost use Rattle.rewind_core.specs.Fits.{IsPlanFor, IsRewound};
 ghost use Rattle.rewind_core.specs.Planned.{Needing};
+ghost use Rattle.rewind_core.specs.Stops.{IsLeftBy};
 ghost use Rattle.acts.specs.Acts.{Report, Sunk, seen, sunk};
 ghost use Rattle.run_acts.specs.Causes.{cause_of};
 ghost use Rattle.run_acts.specs.Unseen.{PerformsUnseen};
@@ -29,6 +31,8 @@ fn make<F: Tree, E: Sink>(tree: &mut F, err: &mut E, plan: Plan) -> Result<(), C
         (sunk (E.written err.new) (E.failed_writes err.new))) }
     ensures rewound { IsTrue F.tells → (n : Needing) → IsPlanFor (F.contents tree.old) n plan →
         OnOk result (IsRewound (F.contents tree.old) n (F.contents tree.new)) }
+    ensures stops { IsTrue F.tells → (n : Needing) → IsPlanFor (F.contents tree.old) n plan →
+        LeavesOnly (IsLeftBy n (moment_of F.Tree tree.old)) (F.stops tree.old) (F.stops tree.new) }
     ensures only { IfErr result IsOfMaking }
     ensures changed { IsTrue F.tells → (p : PathValue) → result ≢ Err (Cause.Changed p) }
     ensures frame { Came F.Tree tree.old tree.new }
@@ -63,6 +67,8 @@ fn make_behind<F: Tree, E: Sink>(
         (sunk (E.written err.new) (E.failed_writes err.new))) }
     ensures rewound { IsTrue F.tells → (n : Needing) → IsPlanFor (F.contents tree.old) n plan →
         OnOk result (IsRewound (F.contents tree.old) n (F.contents tree.new)) }
+    ensures stops { IsTrue F.tells → (n : Needing) → IsPlanFor (F.contents tree.old) n plan →
+        LeavesOnly (IsLeftBy n (moment_of F.Tree tree.old)) (F.stops tree.old) (F.stops tree.new) }
     ensures only { IfErr result IsOfMaking }
     ensures changed { IsTrue F.tells → (p : PathValue) → result ≢ Err (Cause.Changed p) }
     ensures frame { Came F.Tree tree.old tree.new }
@@ -103,6 +109,8 @@ pub(crate) fn make_told<F: Tree, E: Sink>(
         (sunk (E.written err.new) (E.failed_writes err.new))) }
     ensures rewound { IsTrue F.tells → (n : Needing) → IsPlanFor (F.contents tree.old) n plan →
         OnOk result (IsRewound (F.contents tree.old) n (F.contents tree.new)) }
+    ensures stops { IsTrue F.tells → (n : Needing) → IsPlanFor (F.contents tree.old) n plan →
+        LeavesOnly (IsLeftBy n (moment_of F.Tree tree.old)) (F.stops tree.old) (F.stops tree.new) }
     ensures only { IfErr result IsOfMaking }
     ensures changed { IsTrue F.tells → (p : PathValue) → result ≢ Err (Cause.Changed p) }
     ensures frame { Came F.Tree tree.old tree.new }

@@ -1,5 +1,7 @@
 use Rattle.std.proofs.Common.{refl}
 use Rattle.run_acts.proofs.MadeSteps.{unseen_broken, unseen_report}
+use Rattle.cluster_tree.specs.Frame.{moment_of}
+use Rattle.cmd_rewind.proofs.StopLemmas.{still-left}
 use Rattle.cmd_rewind.proofs.makes.make_told.Goals as goal
 
 pub returns-in-Ok-clause-performs : goal.returns-in-Ok-clause-performs
@@ -7,3 +9,6 @@ returns-in-Ok-clause-performs g c out_tells out = unseen_report c.in-Ok.ensures.
 
 pub returns-in-Err-clause-performs : goal.returns-in-Err-clause-performs
 returns-in-Err-clause-performs g c out_tells out = unseen_broken c.in-Err.e c.in-Err.ensures.part refl c.in-Err.ensures.only refl refl
+
+pub returns-in-Err-clause-stops : goal.returns-in-Err-clause-stops
+returns-in-Err-clause-stops g c told n is = still-left (moment_of g.F.Tree c.args.tree.now) n

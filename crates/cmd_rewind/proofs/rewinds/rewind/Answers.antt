@@ -8,6 +8,7 @@ use Rattle.cmd_rewind.specs.Tasks.{reported, task_acts}
 use Rattle.cmd_rewind.specs.declared.tasks.Task.TheVariants as task
 use Rattle.cmd_rewind.proofs.FormLemmas.{answer-form, answer-looks, form_as, known_as, passes_at, task_as, wet_as}
 use Rattle.cmd_rewind.proofs.MakeLemmas.{leaves, lines_as}
+use Rattle.cmd_rewind.proofs.StopLemmas.{looks-left, makes-left}
 use Rattle.cmd_rewind.proofs.rewinds.rewind.Goals as goal
 
 pub returns-in-Err-clause-carries : goal.returns-in-Err-clause-carries
@@ -54,3 +55,18 @@ make_told-requires-clause-planned g c t =
     let found = task_as contents c.args.words.now (to_z-of_z w64 c.args.now fits) c.in-Ok-Rewind.field-0-is (c.in-Ok-Rewind.ensures.planned t) in
     let P : Contents → Type 0 = λ x. IsPlanFor x found.0 c.in-Ok-Rewind.plan in
     (found.0, subst P (sym c.check.ensures.reads.same) found.2)
+
+pub returns-in-Err-clause-stops : goal.returns-in-Err-clause-stops
+returns-in-Err-clause-stops g c told = looks-left g.F.Tree c.args.words.now c.args.now _ _ c.check.ensures.reads
+
+pub returns-in-Ok-Tell-clause-stops : goal.returns-in-Ok-Tell-clause-stops
+returns-in-Ok-Tell-clause-stops g c told = looks-left g.F.Tree c.args.words.now c.args.now _ _ c.check.ensures.reads
+
+pub returns-in-Ok-Rewind-clause-stops : goal.returns-in-Ok-Rewind-clause-stops
+returns-in-Ok-Rewind-clause-stops g c told =
+    let fits : FitsSigned w64 c.args.now = search rules in
+    let contents = g.F.Tree.contents c.args.tree.now in
+    makes-left g.F.Tree c.args.words.now c.args.now c.args.tree.now c.check.new.tree c.check.ensures.reads c.make_told.new.tree c.in-Ok-Rewind.plan
+    (wet_as c.args.words.now.dry_run c.in-Ok-Rewind.field-0-is c.in-Ok-Rewind.ensures.wet)
+    (task_as contents c.args.words.now (to_z-of_z w64 c.args.now fits) c.in-Ok-Rewind.field-0-is (c.in-Ok-Rewind.ensures.planned told))
+    (c.make_told.ensures.stops told)
