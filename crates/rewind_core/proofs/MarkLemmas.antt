@@ -8,8 +8,8 @@ use Rattle.clusters.specs.Marks.{unfinished, with_mark}
 use Rattle.clusters.specs.declared.fault.ClusterFault.{ClusterFault}
 use Rattle.clusters.specs.declared.fault.ClusterFault.TheVariants as cluster
 use Rattle.marked_runs.specs.Moments.{IsMarked}
-use Rattle.rewind_survey.specs.Faults.{of_cluster}
 use Rattle.rewind_survey.specs.declared.fault.RewindFault.{RewindFault}
+use Rattle.rewind_survey.specs.declared.fault.RewindFault.TheVariants as fault
 use Rattle.rewind_core.specs.Laws.{IsMarkThere, MarkIsUnfinished, MarkedSourceIsRefused, MarkedTargetIsRefused, UnfinishedRewindIsRefused}
 use Rattle.rewind_core.specs.Planned.{from_survey, planned_of}
 
@@ -36,19 +36,19 @@ mark-unfinished c root mark there =
     found c (marks_of root) (is_there c (marks_of root).rewind) (is_there c (marks_of root).replay) (is_there c (marks_of root).reset) refl refl refl mark there
 
 -- the first point that refuses, and the second
-refused_first : {A B : Type 0} (o : Option ClusterFault) (rest : Result A RewindFault) (k : A → Result B RewindFault) (e : ClusterFault) → o ≡ Some e → given (unless (option_map of_cluster o) rest) k ≡ Err (of_cluster e)
-refused_first o rest k e is = ap (λ x. given (unless (option_map of_cluster x) rest) k) is
+refused_first : {A B : Type 0} (o : Option ClusterFault) (rest : Result A RewindFault) (k : A → Result B RewindFault) (e : ClusterFault) → o ≡ Some e → given (unless (option_map fault.Cluster o) rest) k ≡ Err (fault.Cluster e)
+refused_first o rest k e is = ap (λ x. given (unless (option_map fault.Cluster x) rest) k) is
 
 refused_next : {A B : Type 0} (o p : Option ClusterFault) (rest : Result A RewindFault) (k : A → Result B RewindFault) (e : ClusterFault) → o ≡ None → p ≡ Some e
-    → given (unless (option_map of_cluster o) (unless (option_map of_cluster p) rest)) k ≡ Err (of_cluster e)
-refused_next o p rest k e none is = ap₂ (λ x y. given (unless (option_map of_cluster x) (unless (option_map of_cluster y) rest)) k) none is
+    → given (unless (option_map fault.Cluster o) (unless (option_map fault.Cluster p) rest)) k ≡ Err (fault.Cluster e)
+refused_next o p rest k e none is = ap₂ (λ x y. given (unless (option_map fault.Cluster x) (unless (option_map fault.Cluster y) rest)) k) none is
 
 -- are the marks of the target, and of the source
-target-unfinished : (c : Contents) (target source first : PathValue) (now : ℤ) → unfinished c target ≡ Some (cluster.Unfinished first) → planned_of c target source now ≡ Err (of_cluster (cluster.Unfinished first))
+target-unfinished : (c : Contents) (target source first : PathValue) (now : ℤ) → unfinished c target ≡ Some (cluster.Unfinished first) → planned_of c target source now ≡ Err (fault.Cluster (cluster.Unfinished first))
 unfolding planned_of
 target-unfinished c target source first now is = refused_first (unfinished c target) _ (from_survey c target source now) (cluster.Unfinished first) is
 
-source-unfinished : (c : Contents) (target source first : PathValue) (now : ℤ) → unfinished c target ≡ None → unfinished c source ≡ Some (cluster.Unfinished first) → planned_of c target source now ≡ Err (of_cluster (cluster.Unfinished first))
+source-unfinished : (c : Contents) (target source first : PathValue) (now : ℤ) → unfinished c target ≡ None → unfinished c source ≡ Some (cluster.Unfinished first) → planned_of c target source now ≡ Err (fault.Cluster (cluster.Unfinished first))
 unfolding planned_of
 source-unfinished c target source first now none is = refused_next (unfinished c target) (unfinished c source) _ (from_survey c target source now) (cluster.Unfinished first) none is
 

@@ -7,7 +7,7 @@ use Rattle.cluster_tree.specs.PathValue.{PathValue}
 use Rattle.clusters.specs.Marks.{unfinished}
 use Rattle.clusters.specs.declared.fault.ClusterFault.TheVariants as cluster
 use Rattle.marked_runs.specs.Moments.{IsMarked}
-use Rattle.rewind_survey.specs.Faults.{of_cluster}
+use Rattle.rewind_survey.specs.declared.fault.RewindFault.TheVariants as fault
 use Rattle.rewind_core.specs.Planned.{planned_of}
 
 -- one of these three marks stands there
@@ -22,14 +22,14 @@ MarkIsUnfinished = (c : Contents) (root mark : PathValue) → IsMarkThere (marks
 -- and a rewind of such a target is refused for it, whatever else is to be said of both clusters
 abbrev pub MarkedTargetIsRefused : Type 0
 MarkedTargetIsRefused = (c : Contents) (target source mark : PathValue) (now : ℤ) → IsMarkThere (marks_of target) c mark →
-    (first : PathValue) × IsMarkThere (marks_of target) c first × (planned_of c target source now ≡ Err (of_cluster (cluster.Unfinished first)))
+    (first : PathValue) × IsMarkThere (marks_of target) c first × (planned_of c target source now ≡ Err (fault.Cluster (cluster.Unfinished first)))
 
 -- of a rewind's own mark with its path
 abbrev pub UnfinishedRewindIsRefused : Type 0
 UnfinishedRewindIsRefused = (c : Contents) (target source : PathValue) (now : ℤ) → IsMarked (marks_of target).rewind c →
-    planned_of c target source now ≡ Err (of_cluster (cluster.Unfinished (marks_of target).rewind))
+    planned_of c target source now ≡ Err (fault.Cluster (cluster.Unfinished (marks_of target).rewind))
 
 -- and of a source, where no run is unfinished in the target
 abbrev pub MarkedSourceIsRefused : Type 0
 MarkedSourceIsRefused = (c : Contents) (target source mark : PathValue) (now : ℤ) → unfinished c target ≡ None → IsMarkThere (marks_of source) c mark →
-    (first : PathValue) × IsMarkThere (marks_of source) c first × (planned_of c target source now ≡ Err (of_cluster (cluster.Unfinished first)))
+    (first : PathValue) × IsMarkThere (marks_of source) c first × (planned_of c target source now ≡ Err (fault.Cluster (cluster.Unfinished first)))
