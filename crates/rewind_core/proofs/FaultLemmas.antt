@@ -7,6 +7,7 @@ use Rattle.file_walk.specs.Faults.{IsRowOf}
 use Rattle.file_walk.specs.declared.fault.WalkFault.{WalkFault}
 use Rattle.file_walk.specs.declared.fault.WalkFault.TheVariants as walk
 use Rattle.rewind_survey.specs.Faults.{IsFree}
+use Rattle.clusters.specs.declared.fault.ClusterFault.TheVariants as cluster
 use Rattle.rewind_survey.specs.declared.fault.RewindFault.TheVariants as fault
 use Rattle.rewind_core.specs.Faults.{of_walk, seen}
 
@@ -20,7 +21,7 @@ seen-err meant e (inl free) = inl (free_by e free)
 seen-err meant e (inr is) = inr (ap seen is)
 
 -- one fault of a rewind is that of one of a walk
-pub read-by : (e : WalkFault) → of_walk e ≡ fault.ReadFault → e ≡ walk.File file.ReadFault
+pub read-by : (e : WalkFault) → of_walk e ≡ fault.Cluster cluster.ReadFault → e ≡ walk.File file.ReadFault
 read-by (walk.Link path) h = absurd (cc h)
 read-by (walk.NameNotText path) h = absurd (cc h)
 read-by (walk.TooDeep path) h = absurd (cc h)
@@ -35,7 +36,7 @@ read-by (walk.File (file.TooDeep path)) h = absurd (cc h)
 read-by (walk.File (file.Changed path)) h = absurd (cc h)
 read-by (walk.File file.OutOfMemory) h = absurd (cc h)
 
-pub changed-by : (root : PathValue) (e : WalkFault) (p : PathValue) → IsRowOf root e → of_walk e ≡ fault.Changed p → e ≡ walk.File (file.Changed p)
+pub changed-by : (root : PathValue) (e : WalkFault) (p : PathValue) → IsRowOf root e → of_walk e ≡ fault.Cluster (cluster.Changed p) → e ≡ walk.File (file.Changed p)
 changed-by root (walk.Link path) p row h = absurd (cc h)
 changed-by root (walk.NameNotText path) p row h = absurd (cc h)
 changed-by root (walk.TooDeep path) p row h = absurd (cc h)

@@ -10,6 +10,7 @@ use Rattle.marked_runs.specs.declared.faults.PerformFault.TheVariants as perform
 use Rattle.rewind_writes.specs.Plan.{IsFound, plan_changes}
 use Rattle.rewind_plan.proofs.FinalLemmas.{plan-leaves-all, plan-unrefused}
 use Rattle.rewind_plan.proofs.FoundLemmas.{plan-below, plan-found}
+use Rattle.clusters.specs.declared.fault.ClusterFault.TheVariants as cluster
 use Rattle.rewind_survey.specs.declared.fault.RewindFault.{RewindFault}
 use Rattle.rewind_survey.specs.declared.fault.RewindFault.TheVariants as fault
 use Rattle.rewind_core.specs.Faults.{of_perform}
@@ -41,7 +42,7 @@ module _ (c : Contents) (n : Needing) (plan : Plan) (is : IsPlanFor c n plan) wh
   rewound-by (Err e) runs = tt
 
 -- faults of what is carried out, as those of a rewind
-pub changed-of : (f : PerformFault) (p : PathValue) → of_perform f ≡ fault.Changed p → f ≡ perform.Changed p
+pub changed-of : (f : PerformFault) (p : PathValue) → of_perform f ≡ fault.Cluster (cluster.Changed p) → f ≡ perform.Changed p
 changed-of perform.ReadFault p h = absurd (cc h)
 changed-of perform.WriteFault p h = absurd (cc h)
 changed-of (perform.Changed path) p h = cc h
@@ -63,13 +64,13 @@ module _ (c : Contents) (meant : Result Meant RewindFault) (n : Needing) (plan :
   done-by c' (Ok d) told left = subst (λ x. IsDone c meant x c') (sym told) (n, found, is.told, left)
   done-by c' (Err e) told left = tt
 
-  cause-in : (e : RewindFault) → (e ≡ fault.ReadFault) ⊎ (e ≡ fault.WriteFault) ⊎ ((p : PathValue) × (e ≡ fault.Changed p)) → ((p : PathValue) → e ≢ fault.Changed p) → IsCause meant e
+  cause-in : (e : RewindFault) → (e ≡ fault.Cluster cluster.ReadFault) ⊎ (e ≡ fault.WriteFault) ⊎ ((p : PathValue) × (e ≡ fault.Cluster (cluster.Changed p))) → ((p : PathValue) → e ≢ fault.Cluster (cluster.Changed p)) → IsCause meant e
   cause-in e (inl read) never = inl (inl read)
   cause-in e (inr (inl write)) never = inr (inl write)
   cause-in e (inr (inr changed)) never = absurd (never changed.0 changed.1)
 
-  pub cause-by : (r : Result RewindDone RewindFault) → IfErr r (λ e. (e ≡ fault.ReadFault) ⊎ (e ≡ fault.WriteFault) ⊎ ((p : PathValue) × (e ≡ fault.Changed p)))
-      → ((p : PathValue) → r ≢ Err (fault.Changed p)) → IfErr r (IsCause meant)
+  pub cause-by : (r : Result RewindDone RewindFault) → IfErr r (λ e. (e ≡ fault.Cluster cluster.ReadFault) ⊎ (e ≡ fault.WriteFault) ⊎ ((p : PathValue) × (e ≡ fault.Cluster (cluster.Changed p))))
+      → ((p : PathValue) → r ≢ Err (fault.Cluster (cluster.Changed p))) → IfErr r (IsCause meant)
   cause-by (Ok d) only never = tt
   cause-by (Err e) only never = cause-in e only (λ p h. never p (ap (λ x. Err x) h))
 
@@ -81,8 +82,8 @@ module _ (c c1 c' : Contents) (meant : Result Meant RewindFault) (n : Needing) (
   pub done-at : (r : Result RewindDone RewindFault) → IfOk r (λ d. d ≡ done.Rewound plan.told) → (IsPlanFor c1 n plan → OnOk r (IsRewound c1 n c')) → IfOk r (λ d. IsDone c meant d c')
   done-at r told left = done-by c meant n plan is found c' r told (subst (λ x. OnOk r (IsRewound x n c')) same (left there))
 
-  pub cause-at : (r : Result RewindDone RewindFault) → IfErr r (λ e. (e ≡ fault.ReadFault) ⊎ (e ≡ fault.WriteFault) ⊎ ((p : PathValue) × (e ≡ fault.Changed p)))
-      → (IsPlanFor c1 n plan → (p : PathValue) → r ≢ Err (fault.Changed p)) → IfErr r (IsCause meant)
+  pub cause-at : (r : Result RewindDone RewindFault) → IfErr r (λ e. (e ≡ fault.Cluster cluster.ReadFault) ⊎ (e ≡ fault.WriteFault) ⊎ ((p : PathValue) × (e ≡ fault.Cluster (cluster.Changed p))))
+      → (IsPlanFor c1 n plan → (p : PathValue) → r ≢ Err (fault.Cluster (cluster.Changed p))) → IfErr r (IsCause meant)
   cause-at r only never = cause-by c meant n plan is found r only (never there)
 
   pub went-at : (k k1 k' : List ChangeCall) (ok : Bool) → k1 ≡ k → (IsPlanFor c1 n plan → Runs (plan_changes c1 plan.writes) k1 k' c1 c' ok)

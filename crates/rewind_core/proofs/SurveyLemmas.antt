@@ -15,11 +15,12 @@ use Rattle.clusters.specs.declared.fault.ClusterFault.{ClusterFault}
 use Rattle.touched_blocks.specs.Set.{TouchedView, has_in}
 use Rattle.touched_blocks.specs.Touched.{touches}
 use Rattle.rewound_tree.specs.RewoundControl.{rewound_control}
-use Rattle.rewind_survey.specs.Faults.{IsFree, of_cluster, told_by}
+use Rattle.rewind_survey.specs.Faults.{IsFree, told_by}
 use Rattle.rewind_survey.specs.Marks.{IsTouchedBy}
 use Rattle.rewind_survey.specs.Survey.{Fits, FitsFound, HoldsParted, Parting, Survey, survey_of}
 use Rattle.rewind_survey.specs.Survey as survey
 use Rattle.rewind_survey.specs.declared.fault.RewindFault.{RewindFault}
+use Rattle.rewind_survey.specs.declared.fault.RewindFault.TheVariants as fault
 use Rattle.rewind_survey.specs.declared.outcome.Parted.{Parted}
 use Rattle.rewind_survey.specs.declared.outcome.Surveyed.{Surveyed}
 use Rattle.rewind_survey.specs.declared.outcome.Surveyed.TheVariants as surveyed
@@ -33,7 +34,7 @@ use Rattle.rewind_core.specs.declared.outcome.Plan.{Plan}
 use Rattle.rewind_core.proofs.PlanLemmas.{given-err, given-ok}
 
 -- no run is unfinished where the marks refused nothing
-finished-by : {A : Type 0} (a b : Option ClusterFault) (rest : Result A RewindFault) (v : A) → unless (option_map of_cluster a) (unless (option_map of_cluster b) rest) ≡ Ok v → (a ≡ None) × (b ≡ None)
+finished-by : {A : Type 0} (a b : Option ClusterFault) (rest : Result A RewindFault) (v : A) → unless (option_map fault.Cluster a) (unless (option_map fault.Cluster b) rest) ≡ Ok v → (a ≡ None) × (b ≡ None)
 finished-by None None rest v h = (refl, refl)
 finished-by None (Some e) rest v h = absurd (cc h)
 finished-by (Some e) b rest v h = absurd (cc h)

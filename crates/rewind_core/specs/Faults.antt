@@ -6,21 +6,22 @@ use Rattle.file_walk.specs.declared.fault.WalkFault.{WalkFault}
 use Rattle.file_walk.specs.declared.fault.WalkFault.TheVariants as walk
 use Rattle.marked_runs.specs.declared.faults.PerformFault.{PerformFault}
 use Rattle.marked_runs.specs.declared.faults.PerformFault.TheVariants as perform
+use Rattle.clusters.specs.declared.fault.ClusterFault.TheVariants as cluster
 use Rattle.rewind_survey.specs.declared.fault.RewindFault.{RewindFault}
 use Rattle.rewind_survey.specs.declared.fault.RewindFault.TheVariants as fault
 
 -- of those a walk answers the ones of the root, of a read and of memory alone; the others keep their names, and a folder in a file's
 -- place is what changed
 abbrev pub of_file : FileFault → RewindFault
-of_file file.ReadFault = fault.ReadFault
+of_file file.ReadFault = fault.Cluster cluster.ReadFault
 of_file file.WriteFault = fault.WriteFault
 of_file (file.Link path) = fault.Link path
 of_file (file.NotFolder path) = fault.NotFolder path
-of_file (file.IsFolder path) = fault.Changed path
+of_file (file.IsFolder path) = fault.Cluster (cluster.Changed path)
 of_file (file.NameNotText path) = fault.NameNotText path
 of_file (file.TooDeep path) = fault.TooDeep path
-of_file (file.Changed path) = fault.Changed path
-of_file file.OutOfMemory = fault.OutOfMemory
+of_file (file.Changed path) = fault.Cluster (cluster.Changed path)
+of_file file.OutOfMemory = fault.Cluster cluster.OutOfMemory
 
 abbrev pub of_walk : WalkFault → RewindFault
 of_walk (walk.Link path) = fault.Link path
@@ -35,6 +36,6 @@ seen (Ok v) = Ok v
 seen (Err e) = Err (of_walk e)
 
 abbrev pub of_perform : PerformFault → RewindFault
-of_perform perform.ReadFault = fault.ReadFault
+of_perform perform.ReadFault = fault.Cluster cluster.ReadFault
 of_perform perform.WriteFault = fault.WriteFault
-of_perform (perform.Changed path) = fault.Changed path
+of_perform (perform.Changed path) = fault.Cluster (cluster.Changed path)

@@ -22,6 +22,7 @@ use Rattle.rewind_plan.specs.Room.{first_lacking}
 use Rattle.rewind_survey.specs.Faults.{told_by}
 use Rattle.rewind_survey.specs.Survey.{Parting, Survey, survey_of}
 use Rattle.rewind_survey.specs.Survey as survey
+use Rattle.clusters.specs.declared.fault.ClusterFault.TheVariants as cluster
 use Rattle.rewind_survey.specs.declared.fault.RewindFault.{RewindFault}
 use Rattle.rewind_survey.specs.declared.fault.RewindFault.TheVariants as fault
 use Rattle.rewind_survey.specs.declared.outcome.Told.{Told}
@@ -80,7 +81,7 @@ from_walks c aim =
 -- a control file that was read has the size of a segment
 abbrev pub from_size : Contents → (target source : PathValue) → Parting → (t s : Control) → Option SegSize → ℤ → Result Meant RewindFault
 from_size c target source part t s (Some size) now = from_walks c (aim_of target source part t s size now)
-from_size c target source part t s None now = Err (fault.Shape target field.WalSegSize t.walSegSize)
+from_size c target source part t s None now = Err (fault.Cluster (cluster.Shape target field.WalSegSize t.walSegSize))
 
 -- before that, what both control files say
 unfoldable pub from_parting : Contents → (target source : PathValue) → ℤ → Parting → Result Meant RewindFault

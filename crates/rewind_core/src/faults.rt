@@ -3,6 +3,7 @@ ghost use Rattle.std.specs.Prelude.{◌≡◌};
 ghost use Rattle.rewind_core.specs.Faults.{of_file, of_perform, of_walk};
 
 use cluster_tree::FileFault;
+use clusters::ClusterFault;
 use file_walk::WalkFault;
 use marked_runs::PerformFault;
 use rewind_survey::RewindFault;
@@ -12,15 +13,15 @@ fn of_file(fault: FileFault) -> RewindFault
     ensures { result ≡ of_file fault }
 {
     match fault {
-        FileFault::ReadFault => RewindFault::ReadFault,
+        FileFault::ReadFault => RewindFault::Cluster(ClusterFault::ReadFault),
         FileFault::WriteFault => RewindFault::WriteFault,
         FileFault::Link(path) => RewindFault::Link(path),
         FileFault::NotFolder(path) => RewindFault::NotFolder(path),
-        FileFault::IsFolder(path) => RewindFault::Changed(path),
+        FileFault::IsFolder(path) => RewindFault::Cluster(ClusterFault::Changed(path)),
         FileFault::NameNotText(path) => RewindFault::NameNotText(path),
         FileFault::TooDeep(path) => RewindFault::TooDeep(path),
-        FileFault::Changed(path) => RewindFault::Changed(path),
-        FileFault::OutOfMemory => RewindFault::OutOfMemory,
+        FileFault::Changed(path) => RewindFault::Cluster(ClusterFault::Changed(path)),
+        FileFault::OutOfMemory => RewindFault::Cluster(ClusterFault::OutOfMemory),
     }
 }
 
@@ -42,8 +43,8 @@ pub(crate) fn of_perform(fault: PerformFault) -> RewindFault
     ensures { result ≡ of_perform fault }
 {
     match fault {
-        PerformFault::ReadFault => RewindFault::ReadFault,
+        PerformFault::ReadFault => RewindFault::Cluster(ClusterFault::ReadFault),
         PerformFault::WriteFault => RewindFault::WriteFault,
-        PerformFault::Changed(path) => RewindFault::Changed(path),
+        PerformFault::Changed(path) => RewindFault::Cluster(ClusterFault::Changed(path)),
     }
 }

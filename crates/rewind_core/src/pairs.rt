@@ -8,6 +8,7 @@ ghost use Rattle.rewind_plan.specs.Between.{between};
 ghost use Rattle.rewind_plan.specs.Room.{AllHaveRoom};
 ghost use Rattle.rewind_survey.specs.Faults.{IsFree};
 ghost use Rattle.rewind_core.specs.Planned.{pairs_refusal};
+ghost use Rattle.clusters.specs.declared.fault.ClusterFault.TheVariants as cluster;
 
 use control_file::Control;
 use file_walk::Pair;
@@ -40,8 +41,8 @@ pub(crate) fn check_pairs(
 ) -> Result<(), RewindFault>
     ensures answer { Passes IsFree (pairs_refusal (between clusters.now) pairs.now) result }
     ensures room { IfOk result (λ _. AllHaveRoom (between clusters.now) pairs.now) }
-    ensures read { result ≢ Err RewindFault.ReadFault }
-    ensures changed { (p : PathValue) → result ≢ Err (RewindFault.Changed p) }
+    ensures read { result ≢ Err (RewindFault.Cluster cluster.ReadFault) }
+    ensures changed { (p : PathValue) → result ≢ Err (RewindFault.Cluster (cluster.Changed p)) }
     ensures never_writes { result ≢ Err RewindFault.WriteFault }
 {
     if let Some(path) = first_lacking(clusters, pairs) {

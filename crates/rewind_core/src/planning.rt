@@ -13,6 +13,7 @@ ghost use Rattle.rewind_survey.specs.Survey.{HoldsParted, Parting};
 ghost use Rattle.rewind_core.specs.Fits.{IsFitPlanned, IsMadeBetween, IsPlanBetween, Plans, PlansNeeded};
 ghost use Rattle.rewind_core.specs.Planned.{from_parting, from_walks, pairs_refusal, planned_of};
 ghost use Rattle.rewind_core.specs.Rooted.{IsRooted, aim};
+ghost use Rattle.clusters.specs.declared.fault.ClusterFault.TheVariants as cluster;
 
 use crate::outcome::{Plan, Planned};
 use crate::pairs::{check_pairs, rewound_control};
@@ -47,8 +48,8 @@ fn plan_pairs(alloc: Global, rewinding: &Rewinding<'_>, pairs: &[Pair]) -> Resul
     ensures made { IfOk result (λ plan. IsPlanOf (aim rewinding.now).between pairs.now
         rewinding.now.control.now rewinding.now.label plan.writes) }
     ensures fit { IfOk result (λ plan. AllAreFit plan.writes.steps.items) }
-    ensures read { result ≢ Err RewindFault.ReadFault }
-    ensures changed { (p : PathValue) → result ≢ Err (RewindFault.Changed p) }
+    ensures read { result ≢ Err (RewindFault.Cluster cluster.ReadFault) }
+    ensures changed { (p : PathValue) → result ≢ Err (RewindFault.Cluster (cluster.Changed p)) }
     ensures never_writes { result ≢ Err RewindFault.WriteFault }
 {
     let Rewinding {
@@ -82,9 +83,10 @@ fn plan_walked<F: Tree>(
         rewinding.now.clusters.source.now) }
     ensures fit { IfOk result (λ plan. AllAreFit plan.writes.steps.items) }
     ensures reads { Reads F.Tree tree.old tree.new }
-    ensures read_fault { IsErrOf result RewindFault.ReadFault →
+    ensures read_fault { IsErrOf result (RewindFault.Cluster cluster.ReadFault) →
         Rose (F.failed_reads tree.old) (F.failed_reads tree.new) }
-    ensures changed { IsTrue F.tells → (p : PathValue) → result ≢ Err (RewindFault.Changed p) }
+    ensures changed { IsTrue F.tells → (p : PathValue) →
+        result ≢ Err (RewindFault.Cluster (cluster.Changed p)) }
     ensures never_writes { result ≢ Err RewindFault.WriteFault }
 {
     let here = walk_below(alloc, tree, rewinding.clusters.target)?;
@@ -113,9 +115,10 @@ fn plan_parted<F: Tree>(
     ensures made { IfOk result (IsPlanBetween target.now source.now) }
     ensures fit { IfOk result (λ plan. AllAreFit plan.writes.steps.items) }
     ensures reads { Reads F.Tree tree.old tree.new }
-    ensures read_fault { IsErrOf result RewindFault.ReadFault →
+    ensures read_fault { IsErrOf result (RewindFault.Cluster cluster.ReadFault) →
         Rose (F.failed_reads tree.old) (F.failed_reads tree.new) }
-    ensures changed { IsTrue F.tells → (p : PathValue) → result ≢ Err (RewindFault.Changed p) }
+    ensures changed { IsTrue F.tells → (p : PathValue) →
+        result ≢ Err (RewindFault.Cluster (cluster.Changed p)) }
     ensures never_writes { result ≢ Err RewindFault.WriteFault }
 {
     let t = control_at(alloc, tree, target)?;
@@ -145,8 +148,8 @@ fn plan_parted<F: Tree>(
 /// have.
 ///
 /// Answers that nothing is to be done where both clusters are on one timeline, or where the target's
-/// log ends at their fork or below. Refuses with the first fault of the order of `RewindFault`: those
-/// of `survey`, then of the walks below the target and below the source, the least path that is made
+/// log ends at their fork or below. Refuses with the first fault of these: those of `survey`, then
+/// of the walks below the target and below the source, the least path that is made
 /// without room below the target's root, and the least with a file on one side and a folder on the
 /// other.
 pub fn plan<F: Tree>(
@@ -167,9 +170,10 @@ pub fn plan<F: Tree>(
     ensures made { IfOk result (IsMadeBetween target.now source.now) }
     ensures fit { IfOk result IsFitPlanned }
     ensures reads { Reads F.Tree tree.old tree.new }
-    ensures read_fault { IsErrOf result RewindFault.ReadFault →
+    ensures read_fault { IsErrOf result (RewindFault.Cluster cluster.ReadFault) →
         Rose (F.failed_reads tree.old) (F.failed_reads tree.new) }
-    ensures changed { IsTrue F.tells → (p : PathValue) → result ≢ Err (RewindFault.Changed p) }
+    ensures changed { IsTrue F.tells → (p : PathValue) →
+        result ≢ Err (RewindFault.Cluster (cluster.Changed p)) }
     ensures never_writes { result ≢ Err RewindFault.WriteFault }
 {
     match survey(alloc, tree, target, source)? {

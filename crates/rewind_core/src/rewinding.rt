@@ -10,6 +10,7 @@ ghost use Rattle.rewind_writes.specs.Plan.{plan_changes};
 ghost use Rattle.rewind_writes.specs.Steps.{AllAreFit};
 ghost use Rattle.rewind_core.specs.Fits.{IsCause, IsDone, IsPlanFor, IsRewound, Went};
 ghost use Rattle.rewind_core.specs.Planned.{Needing, planned_of};
+ghost use Rattle.clusters.specs.declared.fault.ClusterFault.TheVariants as cluster;
 
 use crate::faults::of_perform;
 use crate::outcome::{Plan, Planned, RewindDone};
@@ -28,12 +29,13 @@ fn carry_out<F: Tree>(tree: &mut F, plan: Plan) -> Result<RewindDone, RewindFaul
         (F.contents tree.old) (F.contents tree.new) (is_ok result) }
     ensures rewound { IsTrue F.tells → (n : Needing) → IsPlanFor (F.contents tree.old) n plan →
         OnOk result (IsRewound (F.contents tree.old) n (F.contents tree.new)) }
-    ensures only { IfErr result (λ e. (e ≡ RewindFault.ReadFault) ⊎ (e ≡ RewindFault.WriteFault)
-        ⊎ ((p : PathValue) × (e ≡ RewindFault.Changed p))) }
+    ensures only { IfErr result (λ e. (e ≡ RewindFault.Cluster cluster.ReadFault)
+        ⊎ (e ≡ RewindFault.WriteFault)
+        ⊎ ((p : PathValue) × (e ≡ RewindFault.Cluster (cluster.Changed p)))) }
     ensures changed { IsTrue F.tells → (n : Needing) → IsPlanFor (F.contents tree.old) n plan →
-        (p : PathValue) → result ≢ Err (RewindFault.Changed p) }
+        (p : PathValue) → result ≢ Err (RewindFault.Cluster (cluster.Changed p)) }
     ensures frame { Came F.Tree tree.old tree.new }
-    ensures read_fault { IsErrOf result RewindFault.ReadFault →
+    ensures read_fault { IsErrOf result (RewindFault.Cluster cluster.ReadFault) →
         Rose (F.failed_reads tree.old) (F.failed_reads tree.new) }
     ensures write_fault { IsErrOf result RewindFault.WriteFault →
         Rose (F.failed_changes tree.old) (F.failed_changes tree.new) }
@@ -64,9 +66,10 @@ pub fn rewind<F: Tree>(
     // nothing was changed, or a plan's changes ran: all where it is rewound, else the first ones
     ensures went { IsTrue F.tells → Went (planned_of (F.contents tree.old) target.now source.now now)
         (state_by F.contents F.calls tree.old) (state_by F.contents F.calls tree.new) (is_ok result) }
-    ensures changed { IsTrue F.tells → (p : PathValue) → result ≢ Err (RewindFault.Changed p) }
+    ensures changed { IsTrue F.tells → (p : PathValue) →
+        result ≢ Err (RewindFault.Cluster (cluster.Changed p)) }
     ensures frame { Came F.Tree tree.old tree.new }
-    ensures read_fault { IsErrOf result RewindFault.ReadFault →
+    ensures read_fault { IsErrOf result (RewindFault.Cluster cluster.ReadFault) →
         Rose (F.failed_reads tree.old) (F.failed_reads tree.new) }
     ensures write_fault { IsErrOf result RewindFault.WriteFault →
         Rose (F.failed_changes tree.old) (F.failed_changes tree.new) }

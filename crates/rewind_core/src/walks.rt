@@ -8,6 +8,7 @@ ghost use Rattle.file_walk.specs.Walk.{walk_of};
 ghost use Rattle.file_walk.specs.Walk.{HasParts};
 ghost use Rattle.rewind_survey.specs.Faults.{IsFree};
 ghost use Rattle.rewind_core.specs.Faults.{seen};
+ghost use Rattle.clusters.specs.declared.fault.ClusterFault.TheVariants as cluster;
 
 use crate::faults::of_walk;
 use cluster_tree::{Path, Tree};
@@ -28,9 +29,10 @@ pub(crate) fn walk_below<F: Tree>(
     ensures order { IsTrue F.tells → IfOk result AreInOrder }
     ensures parts { IsTrue F.tells → IfOk result (λ _. HasParts (F.contents tree.old) root.now) }
     ensures reads { Reads F.Tree tree.old tree.new }
-    ensures read_fault { IsErrOf result RewindFault.ReadFault →
+    ensures read_fault { IsErrOf result (RewindFault.Cluster cluster.ReadFault) →
         Rose (F.failed_reads tree.old) (F.failed_reads tree.new) }
-    ensures changed { IsTrue F.tells → (p : PathValue) → result ≢ Err (RewindFault.Changed p) }
+    ensures changed { IsTrue F.tells → (p : PathValue) →
+        result ≢ Err (RewindFault.Cluster (cluster.Changed p)) }
     ensures never_writes { result ≢ Err RewindFault.WriteFault }
 {
     match walk(alloc, tree, root) {
