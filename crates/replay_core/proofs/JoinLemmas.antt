@@ -24,6 +24,7 @@ use Rattle.marked_runs.specs.declared.faults.StepFault.{StepFault}
 use Rattle.marked_runs.specs.declared.faults.StepFault.TheVariants as step
 use Rattle.replay_control.specs.Following.{control_left}
 use Rattle.replay_start.specs.Checked.{Start, start_of}
+use Rattle.clusters.specs.declared.fault.ClusterFault.TheVariants as cluster
 use Rattle.replay_start.specs.declared.fault.ReplayFault.{ReplayFault}
 use Rattle.replay_start.specs.declared.fault.ReplayFault.TheVariants as fault
 use Rattle.replay_world.specs.World.{World}
@@ -38,7 +39,7 @@ use Rattle.replay_core.proofs.StandLemmas.{closing-unrefused}
 
 -- ---- faults
 
-pub changed-of : (f : PerformFault) (p : PathValue) → of_perform f ≡ fault.Changed p → f ≡ perform.Changed p
+pub changed-of : (f : PerformFault) (p : PathValue) → of_perform f ≡ fault.Cluster (cluster.Changed p) → f ≡ perform.Changed p
 changed-of perform.ReadFault p h = absurd (cc h)
 changed-of perform.WriteFault p h = absurd (cc h)
 changed-of (perform.Changed q) p h = cc h

@@ -29,9 +29,10 @@ use Rattle.wal_records.specs.Log.{end_after, log_of}
 use Rattle.wal_records.specs.Reading.{LogRecord}
 use Rattle.wal_records.proofs.FilesLemmas.{same_log}
 use Rattle.replay_start.specs.Checked.{IsStart, Start, checksums_on, from_control, from_label, in_log, label_at, label_in, log_with, no_hints, start_of}
-use Rattle.replay_start.specs.Faults.{of_cluster, of_profile, told_by}
+use Rattle.replay_start.specs.Faults.{of_profile, told_by}
 use Rattle.replay_start.specs.Scanned.{log_refusal}
 use Rattle.replay_start.specs.declared.checked.Checked.{Checked}
+use Rattle.replay_start.specs.declared.fault.ReplayFault.TheVariants as fault
 use Rattle.replay_core.specs.Replayed.{beginning, control_path, label_path, mark_of, mark_text}
 use Rattle.replay_core.specs.Stages.{HasLog, IsChecked, Stand, records_in, start_in}
 use Rattle.replay_core.proofs.PathLemmas.{log-mark}
@@ -132,14 +133,14 @@ of_log c root control label (Some log) s e =
 is_given : (c : Contents) (root : PathValue) (s : Start) → start_of c root ≡ Ok s → IsGiven c root s
 unfolding start_of from_control from_label
 is_given c root s is =
-    let a = unless_ok (option_map of_cluster (unfinished c root)) (given (told_by (control_at c root)) (from_control c root)) s is in
+    let a = unless_ok (option_map fault.Cluster (unfinished c root)) (given (told_by (control_at c root)) (from_control c root)) s is in
     let b = given_ok (told_by (control_at c root)) (from_control c root) s a.1 in
     let d = unless_ok (first_of (checksums_on root b.read ∷ no_hints root b.read ∷ [])) (given (label_at c root) (from_label c root b.read)) s b.next in
     let l = given_ok (label_at c root) (from_label c root b.read) s d.1 in
     let h = given_ok (told_by (history_at c root (timeline_of b.read))) (λ spans. in_log c root b.read l.read (log_with root b.read spans)) s l.next in
     let o = of_log c root b.read l.read (log_with root b.read h.read) s h.next in
     record {
-      mark = unmarked c root (map_none of_cluster (unfinished c root) a.0);
+      mark = unmarked c root (map_none fault.Cluster (unfinished c root) a.0);
       control = control_there c root b.read (told_ok (control_at c root) b.read b.is);
       label = label_there c root l.read l.is;
       records = o.records;

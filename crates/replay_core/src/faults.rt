@@ -3,6 +3,7 @@ ghost use Rattle.std.specs.Prelude.{◌≡◌};
 ghost use Rattle.replay_core.specs.Faults.{of_file, of_perform, of_record};
 
 use cluster_tree::FileFault;
+use clusters::ClusterFault;
 use marked_runs::PerformFault;
 use replay_start::ReplayFault;
 use replay_world::RecordFault;
@@ -12,15 +13,15 @@ fn of_file(fault: FileFault) -> ReplayFault
     ensures { result ≡ of_file fault }
 {
     match fault {
-        FileFault::ReadFault => ReplayFault::ReadFault,
+        FileFault::ReadFault => ReplayFault::Cluster(ClusterFault::ReadFault),
         FileFault::WriteFault => ReplayFault::WriteFault,
         FileFault::Link(path) => ReplayFault::Link(path),
         FileFault::NotFolder(path) => ReplayFault::NotFolder(path),
         FileFault::IsFolder(path) => ReplayFault::KindsDiffer(path),
         FileFault::NameNotText(path) => ReplayFault::NameNotText(path),
         FileFault::TooDeep(path) => ReplayFault::TooDeep(path),
-        FileFault::Changed(path) => ReplayFault::Changed(path),
-        FileFault::OutOfMemory => ReplayFault::OutOfMemory,
+        FileFault::Changed(path) => ReplayFault::Cluster(ClusterFault::Changed(path)),
+        FileFault::OutOfMemory => ReplayFault::Cluster(ClusterFault::OutOfMemory),
     }
 }
 
@@ -39,8 +40,8 @@ pub(crate) fn of_perform(fault: PerformFault) -> ReplayFault
     ensures { result ≡ of_perform fault }
 {
     match fault {
-        PerformFault::ReadFault => ReplayFault::ReadFault,
+        PerformFault::ReadFault => ReplayFault::Cluster(ClusterFault::ReadFault),
         PerformFault::WriteFault => ReplayFault::WriteFault,
-        PerformFault::Changed(path) => ReplayFault::Changed(path),
+        PerformFault::Changed(path) => ReplayFault::Cluster(ClusterFault::Changed(path)),
     }
 }

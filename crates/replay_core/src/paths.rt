@@ -2,9 +2,10 @@
 ghost use Rattle.std.specs.Prelude.{◌≡◌, ◌≤◌, length, IfErr, IfOk};
 ghost use Rattle.replay_core.specs.Replayed.{control_path};
 ghost use Rattle.replay_core.specs.Stages.{ArePaths};
+ghost use Rattle.clusters.specs.declared.fault.ClusterFault.TheVariants as cluster;
 
 use cluster_tree::Path;
-use clusters::path_in;
+use clusters::{ClusterFault, path_in};
 use replay_start::ReplayFault;
 use std::alloc::Global;
 
@@ -22,7 +23,7 @@ impl Paths {
     pub(crate) fn of(alloc: Global, root: &Path) -> Result<Paths, ReplayFault>
         requires { length root.now.parts ≤ 61 }
         ensures paths { IfOk result (ArePaths root.now) }
-        ensures memory { IfErr result (λ e. e ≡ ReplayFault.OutOfMemory) }
+        ensures memory { IfErr result (λ e. e ≡ ReplayFault.Cluster cluster.OutOfMemory) }
     {
         Ok(Paths {
             mark: root.below(alloc, "pg_walreplay.unfinished")?,
@@ -38,10 +39,10 @@ impl Paths {
 fn control_path(alloc: Global, root: &Path) -> Result<Path, ReplayFault>
     requires { length root.now.parts ≤ 61 }
     ensures is { IfOk result (λ path. path ≡ control_path root.now) }
-    ensures memory { IfErr result (λ e. e ≡ ReplayFault.OutOfMemory) }
+    ensures memory { IfErr result (λ e. e ≡ ReplayFault.Cluster cluster.OutOfMemory) }
 {
     match path_in(alloc, root, "global/pg_control") {
         Ok(path) => Ok(path),
-        Err(_) => Err(ReplayFault::OutOfMemory),
+        Err(_) => Err(ReplayFault::Cluster(ClusterFault::OutOfMemory)),
     }
 }

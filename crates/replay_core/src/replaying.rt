@@ -24,6 +24,7 @@ ghost use Rattle.replay_core.specs.Stages.{ArePaths, HasLog, IsChecked, Stand, r
 ghost use Rattle.replay_core.specs.Steps.{IsReplayedLog};
 ghost use Rattle.replay_core.specs.Within.{LeavesMark, LogStays, StaysWithin};
 ghost use Rattle.replay_core.specs.Went.{Answers, IsAfter, IsCause, RanRecords, Went, WentOn};
+ghost use Rattle.clusters.specs.declared.fault.ClusterFault.TheVariants as cluster;
 
 use crate::closing::{begin_mark, close};
 use crate::faults::of_perform;
@@ -32,6 +33,7 @@ use crate::paths::Paths;
 use crate::running::{Count, Room, replay_all};
 use block_refs::Parts;
 use cluster_tree::{Path, Tree};
+use clusters::ClusterFault;
 use control_file::Control;
 use marked_runs::about;
 use page_layout::Page;
@@ -75,11 +77,12 @@ fn replay_log<F: Tree>(
     ensures frame { Came F.Tree tree.old tree.new }
     ensures own { IsTrue F.tells →
         OnOwn F.calls (is_replayed world.old.files.root) tree.old tree.new }
-    ensures read_fault { IsErrOf result ReplayFault.ReadFault →
+    ensures read_fault { IsErrOf result (ReplayFault.Cluster cluster.ReadFault) →
         Rose (F.failed_reads tree.old) (F.failed_reads tree.new) }
     ensures write_fault { IsErrOf result ReplayFault.WriteFault →
         Rose (F.failed_changes tree.old) (F.failed_changes tree.new) }
-    ensures changed { IsTrue F.tells → (p : PathValue) → result ≢ Err (ReplayFault.Changed p) }
+    ensures changed { IsTrue F.tells → (p : PathValue) →
+        result ≢ Err (ReplayFault.Cluster (cluster.Changed p)) }
 {
     let cursor = &mut checked.cursor;
     go_back(cursor, checked.label.start.0);
@@ -89,7 +92,7 @@ fn replay_log<F: Tree>(
     };
     replay_all(alloc, tree, log, cursor, world, room, &mut count)?;
     if count.end.0 != checked.end.0 {
-        return Err(ReplayFault::Changed(log.copy(alloc)?));
+        return Err(ReplayFault::Cluster(ClusterFault::Changed(log.copy(alloc)?)));
     }
     Ok(count)
 }
@@ -113,10 +116,11 @@ fn finish<F: Tree>(
     ensures stands { IsTrue F.tells → IfErr result
         (λ e. IsFree e ⊎ (F.contents tree.new ≡ F.contents tree.old)) }
     ensures frame { Came F.Tree tree.old tree.new }
-    ensures read_fault { result ≢ Err ReplayFault.ReadFault }
+    ensures read_fault { result ≢ Err (ReplayFault.Cluster cluster.ReadFault) }
     ensures write_fault { IsErrOf result ReplayFault.WriteFault →
         Rose (F.failed_changes tree.old) (F.failed_changes tree.new) }
-    ensures changed { IsTrue F.tells → (p : PathValue) → result ≢ Err (ReplayFault.Changed p) }
+    ensures changed { IsTrue F.tells → (p : PathValue) →
+        result ≢ Err (ReplayFault.Cluster (cluster.Changed p)) }
 {
     if let Some(name) = world.skipped.least() {
         return Err(ReplayFault::MissingPage(name));
@@ -152,11 +156,12 @@ fn replay_marked<F: Tree>(
     ensures stands { IsTrue F.tells →
         IfErr result (LeavesMark world.files.root (F.contents tree.new)) }
     ensures frame { Came F.Tree tree.old tree.new }
-    ensures read_fault { IsErrOf result ReplayFault.ReadFault →
+    ensures read_fault { IsErrOf result (ReplayFault.Cluster cluster.ReadFault) →
         Rose (F.failed_reads tree.old) (F.failed_reads tree.new) }
     ensures write_fault { IsErrOf result ReplayFault.WriteFault →
         Rose (F.failed_changes tree.old) (F.failed_changes tree.new) }
-    ensures changed { IsTrue F.tells → (p : PathValue) → result ≢ Err (ReplayFault.Changed p) }
+    ensures changed { IsTrue F.tells → (p : PathValue) →
+        result ≢ Err (ReplayFault.Cluster (cluster.Changed p)) }
 {
     let tli = checked.control.timeline();
     let count = replay_log(alloc, tree, &paths.log, &mut checked, &mut world, &mut room)?;
@@ -172,7 +177,7 @@ fn world_at(alloc: Global, root: &Path, control: Control) -> Result<Replaying, R
     ensures fit { IfOk result (λ world. AreFit world.files) }
     ensures control { IfOk result (λ world. world.control ≡ control) }
     ensures skipped { IfOk result (λ world. world.skipped ≡ []) }
-    ensures memory { IfErr result (λ e. e ≡ ReplayFault.OutOfMemory) }
+    ensures memory { IfErr result (λ e. e ≡ ReplayFault.Cluster cluster.OutOfMemory) }
 {
     Ok(Replaying {
         files: Files {
@@ -186,7 +191,7 @@ fn world_at(alloc: Global, root: &Path, control: Control) -> Result<Replaying, R
 
 // Room for one record.
 fn room(alloc: Global) -> Result<Room, ReplayFault>
-    ensures memory { IfErr result (λ e. e ≡ ReplayFault.OutOfMemory) }
+    ensures memory { IfErr result (λ e. e ≡ ReplayFault.Cluster cluster.OutOfMemory) }
 {
     Ok(Room {
         parts: Parts::new(),
@@ -213,11 +218,12 @@ fn replay_checked<F: Tree>(
         (state_by F.contents F.calls tree.new) (is_ok result) }
     ensures stands { IsTrue F.tells → IfErr result (LeavesMark root.now (F.contents tree.new)) }
     ensures frame { Came F.Tree tree.old tree.new }
-    ensures read_fault { IsErrOf result ReplayFault.ReadFault →
+    ensures read_fault { IsErrOf result (ReplayFault.Cluster cluster.ReadFault) →
         Rose (F.failed_reads tree.old) (F.failed_reads tree.new) }
     ensures write_fault { IsErrOf result ReplayFault.WriteFault →
         Rose (F.failed_changes tree.old) (F.failed_changes tree.new) }
-    ensures changed { IsTrue F.tells → (p : PathValue) → result ≢ Err (ReplayFault.Changed p) }
+    ensures changed { IsTrue F.tells → (p : PathValue) →
+        result ≢ Err (ReplayFault.Cluster (cluster.Changed p)) }
 {
     let paths = Paths::of(alloc, root)?;
     let world = world_at(alloc, root, checked.control)?;
@@ -232,7 +238,7 @@ fn replay_checked<F: Tree>(
 /// `pg_walreplay.unfinished` stands from before the first other change until after the last; then the
 /// cluster is one that was shut down in recovery.
 ///
-/// Answers, in the order of `ReplayFault`: what `check` refuses, before any change; at the record that
+/// Answers, in this order: what `check` refuses, before any change; at the record that
 /// meets it `RedoFailed`, or `Link`, `NotFolder`, `KindsDiffer`, `NameNotText` and `TooDeep` for an
 /// entry that the record needs; and behind the last record `MissingPage` of the least block that was
 /// changed and wasn't there. From its first change on the mark stays, whatever the answer, but for a
@@ -262,11 +268,12 @@ pub fn replay<F: Tree>(alloc: Global, tree: &mut F, root: &Path) -> Result<Repla
     ensures stands { IsTrue F.tells → (s : Start) → start_of (F.contents tree.old) root.now ≡ Ok s →
         IfErr result (LeavesMark root.now (F.contents tree.new)) }
     ensures frame { Came F.Tree tree.old tree.new }
-    ensures read_fault { IsErrOf result ReplayFault.ReadFault →
+    ensures read_fault { IsErrOf result (ReplayFault.Cluster cluster.ReadFault) →
         Rose (F.failed_reads tree.old) (F.failed_reads tree.new) }
     ensures write_fault { IsErrOf result ReplayFault.WriteFault →
         Rose (F.failed_changes tree.old) (F.failed_changes tree.new) }
-    ensures changed { IsTrue F.tells → (p : PathValue) → result ≢ Err (ReplayFault.Changed p) }
+    ensures changed { IsTrue F.tells → (p : PathValue) →
+        result ≢ Err (ReplayFault.Cluster (cluster.Changed p)) }
 {
     let checked = check(alloc, tree, root)?;
     replay_checked(alloc, tree, root, checked)

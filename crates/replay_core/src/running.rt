@@ -14,10 +14,12 @@ ghost use Rattle.storage_replay.specs.Files.{AreFit};
 ghost use Rattle.wal_records.specs.Cursor.{Knows, to_come};
 ghost use Rattle.replay_world.specs.World.{world_of};
 ghost use Rattle.replay_core.specs.Steps.{MovesOn, ReplaysAll, ReplaysNext};
+ghost use Rattle.clusters.specs.declared.fault.ClusterFault.TheVariants as cluster;
 
 use crate::faults::of_record;
 use block_refs::Parts;
 use cluster_tree::{Path, Tree};
+use clusters::ClusterFault;
 use page_layout::Page;
 use replay_profile::judge;
 use replay_start::ReplayFault;
@@ -58,14 +60,14 @@ fn judge_again(
 ) -> Result<(), ReplayFault>
     ensures parts { IfOk result (λ _. judged rec.now ≡ Ok parts.new) }
     ensures of { IfOk result (λ _. ArePartsOf rec.now parts.new) }
-    ensures refused { IfErr result (λ e. (e ≡ ReplayFault.OutOfMemory)
+    ensures refused { IfErr result (λ e. (e ≡ ReplayFault.Cluster cluster.OutOfMemory)
         ⊎ ((fault : ProfileFault) × (judged rec.now ≡ Err fault))) }
-    ensures read_fault { result ≢ Err ReplayFault.ReadFault }
+    ensures read_fault { result ≢ Err (ReplayFault.Cluster cluster.ReadFault) }
     ensures write_fault { result ≢ Err ReplayFault.WriteFault }
 {
     match judge(rec, parts) {
         Ok(()) => Ok(()),
-        Err(_) => Err(ReplayFault::Changed(log.copy(alloc)?)),
+        Err(_) => Err(ReplayFault::Cluster(ClusterFault::Changed(log.copy(alloc)?))),
     }
 }
 
@@ -111,11 +113,12 @@ fn replay_next<F: Tree>(
     ensures frame { Came F.Tree tree.old tree.new }
     ensures own { IsTrue F.tells →
         OnOwn F.calls (is_replayed world.old.files.root) tree.old tree.new }
-    ensures read_fault { IsErrOf result ReplayFault.ReadFault →
+    ensures read_fault { IsErrOf result (ReplayFault.Cluster cluster.ReadFault) →
         Rose (F.failed_reads tree.old) (F.failed_reads tree.new) }
     ensures write_fault { IsErrOf result ReplayFault.WriteFault →
         Rose (F.failed_changes tree.old) (F.failed_changes tree.new) }
-    ensures changed { IsTrue F.tells → (p : PathValue) → result ≢ Err (ReplayFault.Changed p) }
+    ensures changed { IsTrue F.tells → (p : PathValue) →
+        result ≢ Err (ReplayFault.Cluster (cluster.Changed p)) }
 {
     match cursor.next_unchanged(tree)? {
         Step::Record => {}
@@ -158,11 +161,12 @@ pub(crate) fn replay_all<F: Tree>(
     ensures frame { Came F.Tree tree.old tree.new }
     ensures own { IsTrue F.tells →
         OnOwn F.calls (is_replayed world.old.files.root) tree.old tree.new }
-    ensures read_fault { IsErrOf result ReplayFault.ReadFault →
+    ensures read_fault { IsErrOf result (ReplayFault.Cluster cluster.ReadFault) →
         Rose (F.failed_reads tree.old) (F.failed_reads tree.new) }
     ensures write_fault { IsErrOf result ReplayFault.WriteFault →
         Rose (F.failed_changes tree.old) (F.failed_changes tree.new) }
-    ensures changed { IsTrue F.tells → (p : PathValue) → result ≢ Err (ReplayFault.Changed p) }
+    ensures changed { IsTrue F.tells → (p : PathValue) →
+        result ≢ Err (ReplayFault.Cluster (cluster.Changed p)) }
 {
     'records: loop {
         match replay_next(alloc, tree, log, cursor, world, room, count) {

@@ -1,6 +1,7 @@
 use Rattle.std.proofs.Common.{◌≡◌, ◌∙◌, ap, inl, refl, sym, subst, Err}
 use Rattle.cluster_tree.specs.Run.{state_by}
 use Rattle.replay_control.specs.Following.{control_left}
+use Rattle.clusters.specs.declared.fault.ClusterFault.TheVariants as cluster
 use Rattle.replay_start.specs.declared.fault.ReplayFault.TheVariants as fault
 use Rattle.replay_world.specs.World.{world_of}
 use Rattle.replay_core.specs.Faults.{IsFree}
@@ -40,7 +41,7 @@ pub returns-clause-changed : goal.returns-clause-changed
 returns-clause-changed g c told p h =
     let left = control_left c.args.tli c.args.count.end.0 c.args.world.control in
     let ran = closing-ran g.F.Tree c.args.world.files.root c.args.paths left c.control_left.result _ _ _ c.requires.paths c.control_left.ensures.value told (c.requires.stand told) c.in-Err.ensures.performs in
-    let e : c.of_perform.result ≡ fault.Changed p = cc h in
+    let e : c.of_perform.result ≡ fault.Cluster (cluster.Changed p) = cc h in
     ran.agreed p (ap Err (changed-of c.in-Err.fault p (sym c.of_perform.ensures ∙ e)))
 
 pub returns-clause-stands : goal.returns-clause-stands

@@ -2,6 +2,7 @@ use Rattle.std.proofs.Common.{◌≡◌, ◌∙◌, IfErr, ap, inl, refl, subst,
 use Rattle.std.proofs.lemmas.Result.{err_from_is_err_and}
 use Rattle.std.specs.Prelude.{is_ok}
 use Rattle.cluster_tree.specs.Run.{state_by}
+use Rattle.clusters.specs.declared.fault.ClusterFault.TheVariants as cluster
 use Rattle.replay_start.specs.declared.fault.ReplayFault.TheVariants as fault
 use Rattle.replay_world.specs.World.{world_of}
 use Rattle.replay_core.specs.Faults.{IsFree}
@@ -86,7 +87,7 @@ returns-in-Err-clause-changed g c told p h =
     let before = g.F.Tree.contents c.args.tree.now in
     let none = mark-unrefused before c.args.root.now c.args.checked (g.met.F.Tree.is_tree told c.args.tree.now) (c.requires.checked told) in
     let ran = begun-ran g.F.Tree c.args.root.now c.in_ok-paths.paths.mark _ _ _ c.in_ok-paths.ensures.paths.mark told none c.in-Err.ensures.carries in
-    let e : c.of_perform.result ≡ fault.Changed p = cc h in
+    let e : c.of_perform.result ≡ fault.Cluster (cluster.Changed p) = cc h in
     ran.agreed (ap Err (about-changed c.in-Err.fault c.in_ok-paths.paths.mark p (sym c.about.ensures ∙ changed-of c.about.result p (sym c.of_perform.ensures ∙ e))))
 
 pub returns-in-Ok-clause-stands : goal.returns-in-Ok-clause-stands
