@@ -4,3 +4,4 @@ pub mod Steps
 pub mod Stages
 pub mod Went
 pub mod Within
+pub mod Stops

@@ -3,11 +3,13 @@
 
 mod closing;
 mod faults;
+mod laws;
 mod outcome;
 mod paths;
 mod replaying;
 mod running;
 
+pub use laws::mark_laws;
 pub use outcome::Replayed;
 pub use replay_start::ReplayFault;
 pub use replaying::replay;

@@ -1,14 +1,16 @@
 // The public call that replays.
-ghost use Rattle.std.specs.Prelude.{◌≡◌, ◌≢◌, ◌⊎◌, ◌≤◌, ◌<◌, ◌^◌, [], length, Err, Ok, IfErr, IfOk, IsErrOf, IsTrue, is_ok};
+ghost use Rattle.std.specs.Prelude.{◌≡◌, ◌≢◌, ◌⊎◌, ◌≤◌, ◌<◌, ◌^◌, [], length, Err, Ok, IfErr, IfOk, IsErrOf, IsTrue, OnOk, is_ok};
 ghost use Rattle.cluster_tree.specs.Causes.{Rose};
 ghost use Rattle.cluster_tree.specs.Contents.{Contents};
-ghost use Rattle.cluster_tree.specs.Frame.{Came};
+ghost use Rattle.cluster_tree.specs.Frame.{Came, moment_of};
 ghost use Rattle.cluster_tree.specs.PathValue.{PathValue};
 ghost use Rattle.cluster_tree.specs.Run.{State, state_by};
+ghost use Rattle.cluster_tree.specs.Stops.{LeavesOnly};
 ghost use Rattle.clusters.specs.Roots.{wal_folder};
 ghost use Rattle.control_file.specs.Admission.{IsControl};
 ghost use Rattle.file_edits.specs.Own.{OnOwn};
 ghost use Rattle.file_effects.specs.Own.{is_replayed};
+ghost use Rattle.marked_runs.specs.Moments.{StandsMarked};
 ghost use Rattle.storage_replay.specs.Files.{AreFit};
 ghost use Rattle.wal_base.specs.Segment.{bytes_of};
 ghost use Rattle.wal_records.specs.Cursor.{Knows, going_on_at, to_come};
@@ -19,9 +21,10 @@ ghost use Rattle.replay_start.specs.Checked.{Start, start_of};
 ghost use Rattle.replay_start.specs.declared.fault.ReplayFault.{ReplayFault};
 ghost use Rattle.replay_world.specs.World.{world_of};
 ghost use Rattle.replay_core.specs.Faults.{IsFree};
-ghost use Rattle.replay_core.specs.Replayed.{after_replay, closed_or, first_world, replayed_into};
+ghost use Rattle.replay_core.specs.Replayed.{after_replay, closed_or, first_world, mark_of, replayed_into};
 ghost use Rattle.replay_core.specs.Stages.{ArePaths, HasLog, IsChecked, Stand, records_in, start_in};
 ghost use Rattle.replay_core.specs.Steps.{IsReplayedLog};
+ghost use Rattle.replay_core.specs.Stops.{IsDurable, IsLeft, IsLeftByReplay, IsMarkedOrDone};
 ghost use Rattle.replay_core.specs.Within.{LeavesMark, LogStays, StaysWithin};
 ghost use Rattle.replay_core.specs.Went.{Answers, IsAfter, IsCause, RanRecords, Went, WentOn};
 
@@ -112,6 +115,11 @@ fn finish<F: Tree>(
         WentOn world.files.root marked (state_by F.contents F.calls tree.new) (is_ok result) }
     ensures stands { IsTrue F.tells → IfErr result
         (λ e. IsFree e ⊎ (F.contents tree.new ≡ F.contents tree.old)) }
+    ensures any_moment { IsTrue F.tells →
+        StandsMarked (mark_of world.files.root) (moment_of F.Tree tree.old) → LeavesOnly
+        (IsMarkedOrDone world.files.root (closed_or world.files.root tli count.records count.end.0
+        (world_of (F.contents tree.old) world))) (F.stops tree.old) (F.stops tree.new) }
+    ensures synced { IsTrue F.tells → OnOk result (IsDurable (moment_of F.Tree tree.new)) }
     ensures frame { Came F.Tree tree.old tree.new }
     ensures read_fault { result ≢ Err ReplayFault.ReadFault }
     ensures write_fault { IsErrOf result ReplayFault.WriteFault →
@@ -151,6 +159,12 @@ fn replay_marked<F: Tree>(
         (state_by F.contents F.calls tree.old) (state_by F.contents F.calls tree.new) (is_ok result) }
     ensures stands { IsTrue F.tells →
         IfErr result (LeavesMark world.files.root (F.contents tree.new)) }
+    ensures any_moment { IsTrue F.tells →
+        StandsMarked (mark_of world.files.root) (moment_of F.Tree tree.old) → LeavesOnly
+        (IsMarkedOrDone world.files.root (replayed_into world.files.root
+        (start_in checked (F.contents tree.old)) (world_of (F.contents tree.old) world)))
+        (F.stops tree.old) (F.stops tree.new) }
+    ensures synced { IsTrue F.tells → OnOk result (IsDurable (moment_of F.Tree tree.new)) }
     ensures frame { Came F.Tree tree.old tree.new }
     ensures read_fault { IsErrOf result ReplayFault.ReadFault →
         Rose (F.failed_reads tree.old) (F.failed_reads tree.new) }
@@ -212,6 +226,12 @@ fn replay_checked<F: Tree>(
     ensures went { IsTrue F.tells → Went root.now (state_by F.contents F.calls tree.old)
         (state_by F.contents F.calls tree.new) (is_ok result) }
     ensures stands { IsTrue F.tells → IfErr result (LeavesMark root.now (F.contents tree.new)) }
+    ensures any_moment { IsTrue F.tells → LeavesOnly
+        (IsLeft root.now (moment_of F.Tree tree.old) (replayed_into root.now
+        (start_in checked (F.contents tree.old))
+        (first_world (F.contents tree.old) root.now (start_in checked (F.contents tree.old)))))
+        (F.stops tree.old) (F.stops tree.new) }
+    ensures synced { IsTrue F.tells → OnOk result (IsDurable (moment_of F.Tree tree.new)) }
     ensures frame { Came F.Tree tree.old tree.new }
     ensures read_fault { IsErrOf result ReplayFault.ReadFault →
         Rose (F.failed_reads tree.old) (F.failed_reads tree.new) }
@@ -256,11 +276,16 @@ pub fn replay<F: Tree>(alloc: Global, tree: &mut F, root: &Path) -> Result<Repla
     ensures log { IsTrue F.tells → LogStays root.now (F.contents tree.old) (F.contents tree.new) }
     ensures checked { IsTrue F.tells → (e : ReplayFault) →
         start_of (F.contents tree.old) root.now ≡ Err e →
-        state_by F.contents F.calls tree.new ≡ state_by F.contents F.calls tree.old }
+        moment_of F.Tree tree.new ≡ moment_of F.Tree tree.old }
     ensures unwritten { IsTrue F.tells → (e : ReplayFault) →
         start_of (F.contents tree.old) root.now ≡ Err e → result ≢ Err ReplayFault.WriteFault }
     ensures stands { IsTrue F.tells → (s : Start) → start_of (F.contents tree.old) root.now ≡ Ok s →
         IfErr result (LeavesMark root.now (F.contents tree.new)) }
+    // a stop at any moment leaves the cluster untouched, marked, or as it is meant to be left; once the
+    // replay is done, it leaves what stands
+    ensures any_moment { IsTrue F.tells → LeavesOnly
+        (IsLeftByReplay root.now (moment_of F.Tree tree.old)) (F.stops tree.old) (F.stops tree.new) }
+    ensures synced { IsTrue F.tells → OnOk result (IsDurable (moment_of F.Tree tree.new)) }
     ensures frame { Came F.Tree tree.old tree.new }
     ensures read_fault { IsErrOf result ReplayFault.ReadFault →
         Rose (F.failed_reads tree.old) (F.failed_reads tree.new) }

@@ -1,4 +1,5 @@
 use Rattle.std.proofs.Common.{◌≡◌, ◌∙◌, ap, inl, refl, sym, subst, Err}
+use Rattle.cluster_tree.specs.Frame.{moment_of}
 use Rattle.cluster_tree.specs.Run.{state_by}
 use Rattle.replay_control.specs.Following.{control_left}
 use Rattle.replay_start.specs.declared.fault.ReplayFault.TheVariants as fault
@@ -6,6 +7,7 @@ use Rattle.replay_world.specs.World.{world_of}
 use Rattle.replay_core.specs.Faults.{IsFree}
 use Rattle.replay_core.specs.Went.{Closing, Replaying}
 use Rattle.replay_core.proofs.JoinLemmas.{changed-of, closed-ok, closing-ran, free-of, none-least}
+use Rattle.replay_core.proofs.StopLemmas.{closed-left, still-left}
 use Rattle.replay_core.proofs.replaying.finish.Goals as goal
 
 pub returns-in-Some-clause-went : goal.returns-in-Some-clause-went
@@ -48,3 +50,18 @@ returns-clause-stands g c told =
     let left = control_left c.args.tli c.args.count.end.0 c.args.world.control in
     let ran = closing-ran g.F.Tree c.args.world.files.root c.args.paths left c.control_left.result _ _ _ c.requires.paths c.control_left.ensures.value told (c.requires.stand told) c.in-Err.ensures.performs in
     inl (subst IsFree (sym c.of_perform.ensures) (free-of c.in-Err.fault (λ h. c.in-Err.ensures.read_fault (ap Err h)) (λ p h. ran.agreed p (ap Err h))))
+
+pub returns-in-Some-clause-any_moment : goal.returns-in-Some-clause-any_moment
+returns-in-Some-clause-any_moment g c told marked = still-left c.args.world.files.root (moment_of g.F.Tree c.args.tree.now) _ marked
+
+pub returns-in-Ok-clause-any_moment : goal.returns-in-Ok-clause-any_moment
+returns-in-Ok-clause-any_moment g c told marked =
+    closed-left c.args.world.files.root c.args.tli c.args.count.records c.args.count.end.0 (world_of (g.F.Tree.contents c.args.tree.now) c.args.world) c.control_left.result _ _
+    (sym c.least.ensures ∙ none-least c.least.result c.in_default.not-Some) c.control_left.ensures.value
+    (c.in-Ok.ensures.any_moment told c.args.world.files.root c.requires.paths (c.requires.stand told) marked)
+
+pub returns-clause-any_moment : goal.returns-clause-any_moment
+returns-clause-any_moment g c told marked =
+    closed-left c.args.world.files.root c.args.tli c.args.count.records c.args.count.end.0 (world_of (g.F.Tree.contents c.args.tree.now) c.args.world) c.control_left.result _ _
+    (sym c.least.ensures ∙ none-least c.least.result c.in_default.not-Some) c.control_left.ensures.value
+    (c.in-Err.ensures.any_moment told c.args.world.files.root c.requires.paths (c.requires.stand told) marked)

@@ -1,12 +1,20 @@
-use Rattle.std.proofs.Common.{ap, subst, sym}
+use Rattle.std.proofs.Common.{◌≡◌, Ok, ap, subst, sym}
 use Rattle.std.proofs.lemmas.Result.{err_from_is_err_and}
 use Rattle.std.specs.Prelude.{is_ok}
+use Rattle.cluster_tree.specs.Frame.{moment_of}
 use Rattle.cluster_tree.specs.Run.{state_by}
+use Rattle.cluster_tree.specs.Stops.{LeavesOnly}
+use Rattle.marked_runs.specs.Moments.{StandsMarked}
+use Rattle.replay_world.specs.Records.{records_after}
+use Rattle.replay_world.specs.World.{world_of}
 use Rattle.storage_replay.specs.declared.files.Files.{Files}
-use Rattle.replay_core.specs.Stages.{Stand}
+use Rattle.replay_core.specs.Replayed.{closed_or, mark_of}
+use Rattle.replay_core.specs.Stages.{Stand, records_in, start_in}
+use Rattle.replay_core.specs.Stops.{IsMarkedOrDone}
 use Rattle.replay_core.specs.Went.{RanRecords, Replaying, WentOn}
 use Rattle.replay_core.proofs.JoinLemmas.{ran-records, still-stand, went-broken}
 use Rattle.replay_core.proofs.WithinLemmas.{mark-left, mark-on}
+use Rattle.replay_core.proofs.StopLemmas.{records-left, records-stand, records-then, replayed-meant}
 use Rattle.replay_core.proofs.replaying.replay_marked.Goals as goal
 
 pub returns-in_err-count-clause-went : goal.returns-in_err-count-clause-went
@@ -46,3 +54,26 @@ returns-clause-stands g c told =
     let ran = ran-records g.F.Tree c.args.world.files.root c.args.tree.now c.replay_log.new.tree c.replay_log.ensures.frame (c.replay_log.ensures.own told) in
     mark-left c.args.world.files.root (g.F.Tree.contents c.replay_log.new.tree) (g.F.Tree.contents c.finish.new.tree) c.finish.result
     (still-stand c.args.world.files.root old late ran (c.requires.stand told)).mark (c.finish.ensures.stands told)
+
+pub returns-in_err-count-clause-any_moment : goal.returns-in_err-count-clause-any_moment
+returns-in_err-count-clause-any_moment g c told marked =
+    records-left g.F.Tree c.args.world.files.root c.args.tree.now c.replay_log.new.tree c.replay_log.ensures.frame (c.replay_log.ensures.own told) marked _
+
+pub returns-clause-any_moment : goal.returns-clause-any_moment
+returns-clause-any_moment g c told marked =
+    let root = c.args.world.files.root in
+    let old = c.args.tree.now in
+    let late = c.replay_log.new.tree in
+    let new = c.finish.new.tree in
+    let same = ap (λ (f : Files). f.root) c.replay_log.ensures.files in
+    let w = world_of (g.F.Tree.contents old) c.args.world in
+    let v = world_of (g.F.Tree.contents late) c.replay_log.new.world in
+    let count = c.in_ok-count.count in
+    let all = c.in_ok-count.ensures.all told in
+    let each : records_after root c.args.checked.control.relseg (records_in c.args.checked (g.F.Tree.contents old)) w ≡ Ok v
+    = subst (λ n. records_after root n (records_in c.args.checked (g.F.Tree.contents old)) w ≡ Ok v) c.requires.per_file all.0 in
+    let stands = records-stand g.F.Tree root old late c.replay_log.ensures.frame (c.replay_log.ensures.own told) marked in
+    let left = c.finish.ensures.any_moment told (subst (λ p. StandsMarked (mark_of p) (moment_of g.F.Tree late)) (sym same) stands) in
+    records-then g.F.Tree root old late c.replay_log.ensures.frame (c.replay_log.ensures.own told) marked _ (closed_or root c.timeline-tli.result count.records count.end.0 v) new c.finish.ensures.frame
+    (replayed-meant root (start_in c.args.checked (g.F.Tree.contents old)) w v c.timeline-tli.result count.records count.end.0 each c.timeline-tli.ensures all.1 all.2)
+    (subst (λ p. LeavesOnly (IsMarkedOrDone p (closed_or p c.timeline-tli.result count.records count.end.0 v)) (g.F.Tree.stops late) (g.F.Tree.stops new)) same left)
