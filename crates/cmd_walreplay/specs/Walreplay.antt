@@ -4,12 +4,14 @@ use Rattle.std.specs.List.{concat}
 use Rattle.block_refs.specs.declared.names.BlockName.{BlockName}
 use Rattle.block_replay.specs.declared.faults.RecordFault.{RecordFault}
 use Rattle.cluster_tree.specs.Contents.{Contents}
+use Rattle.cluster_tree.specs.Run.{Moment}
 use Rattle.wal_base.specs.Lsn.{lsn_text}
 use Rattle.replay_start.specs.Checked.{Start, start_of}
 use Rattle.replay_start.specs.declared.fault.ReplayFault.{ReplayFault}
 use Rattle.replay_start.specs.declared.fault.ReplayFault.TheVariants as fault
 use Rattle.replay_core.specs.Faults.{of_record}
 use Rattle.replay_core.specs.Replayed.{After, after_replay, first_world, replayed_into}
+use Rattle.replay_core.specs.Stops.{IsLeftByReplay}
 use Rattle.replay_core.specs.Within.{IsMarked, LogStays}
 use Rattle.commands.specs.declared.walreplay.WalreplayWords.{WalreplayWords}
 use Rattle.acts.specs.Acts.{Act, Look, Print, Within}
@@ -105,3 +107,7 @@ pub record LeavesReplayed (words : WalreplayWords) (tells : Bool) (c c' : Conten
 pub record StaysMarked (words : WalreplayWords) (c c' : Contents) (ended : Cause) : Type 0 where
   pub log : LogStays words.root c c'
   pub mark : (s : Start) → start_of c words.root ≡ Ok s → IsFree ended ⊎ (ended ≡ cause.Done) ⊎ IsMarked words.root c'
+
+-- a stop at any moment leaves the cluster untouched, marked, or as it is meant to be left
+abbrev pub IsLeftByWalreplay : WalreplayWords → Moment → Contents → Type 0
+IsLeftByWalreplay words first c = IsLeftByReplay words.root first c

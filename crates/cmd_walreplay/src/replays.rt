@@ -1,13 +1,15 @@
 // A replay of a cluster's log.
 ghost use Rattle.std.specs.Prelude.{◌≡◌, ◌≢◌, ◌⊎◌, ℕ, Bool, Err, IfErr, IsTrue, OnOk};
-ghost use Rattle.cluster_tree.specs.Frame.{Came};
+ghost use Rattle.cluster_tree.specs.Frame.{Came, moment_of};
 ghost use Rattle.cluster_tree.specs.PathValue.{PathValue};
+ghost use Rattle.cluster_tree.specs.Stops.{LeavesOnly};
 ghost use Rattle.commands.specs.Fit.{IsFitRoot};
 ghost use Rattle.acts.specs.Acts.{Sunk, seen, sunk};
 ghost use Rattle.run_acts.specs.Answers.{Blames};
 ghost use Rattle.run_acts.specs.Causes.{cause_of, is_deep, is_of_files};
 ghost use Rattle.run_acts.specs.Unseen.{CarriesUnseen};
-ghost use Rattle.cmd_walreplay.specs.Walreplay.{IsWalreplay, LeavesReplayed, StaysMarked, walreplay_answer};
+ghost use Rattle.replay_core.specs.Stops.{IsDurable};
+ghost use Rattle.cmd_walreplay.specs.Walreplay.{IsLeftByWalreplay, IsWalreplay, LeavesReplayed, StaysMarked, walreplay_answer};
 
 use crate::causes::replay_cause;
 use crate::line::replayed_line;
@@ -25,6 +27,7 @@ use std::alloc::Global;
 /// and what an entry refuses, the mark stands, and a later run answers `Unfinished`. `ReadFault`,
 /// `WriteFault` and `SinkFault` come only where a call of that device failed, which it has counted, and
 /// `Changed` never where the tree tells its contents. A line that failed leaves the cluster replayed.
+/// A stop at any moment leaves it untouched, marked, or replayed, and what is marked is refused.
 pub fn walreplay<F: Tree, O: Sink>(
     alloc: Global,
     tree: &mut F,
@@ -46,6 +49,10 @@ pub fn walreplay<F: Tree, O: Sink>(
     // the log stays, and where the replay is refused behind its first change, so does its mark
     ensures stays { IsTrue F.tells → StaysMarked words.now (F.contents tree.old) (F.contents tree.new)
         (cause_of result) }
+    // this is what a stop at any moment leaves; and once the replay is done, what stands
+    ensures any_moment { IsTrue F.tells → LeavesOnly
+        (IsLeftByWalreplay words.now (moment_of F.Tree tree.old)) (F.stops tree.old) (F.stops tree.new) }
+    ensures synced { IsTrue F.tells → OnOk result (IsDurable (moment_of F.Tree tree.new)) }
     ensures blames { (n : ℕ) → Blames (cause_of result)
         (F.failed_reads tree.old) (F.failed_reads tree.new)
         (F.failed_changes tree.old) (F.failed_changes tree.new)

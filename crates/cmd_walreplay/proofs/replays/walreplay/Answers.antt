@@ -1,4 +1,5 @@
 use Rattle.std.proofs.Common.{Err, ap, ◌∙◌}
+use Rattle.cluster_tree.specs.Run.{Moment}
 use Rattle.run_acts.proofs.UnseenSteps.{unseen_told}
 use Rattle.cmd_walreplay.proofs.CarryLemmas.{leaves_replayed, looks_by, replay_faulted, replay_told}
 use Rattle.cmd_walreplay.proofs.StayLemmas.{stays_refused, stays_told}
@@ -22,7 +23,7 @@ returns-in-Err-clause-carries g c err_tells err =
       looks = looks_by c.in-Err.fault c.replay_cause.result c.replay_cause.ensures.value c.replay_cause.ensures.look;
       meant = c.in-Err.ensures.refused;
       within = c.in-Err.ensures.within;
-      checked = c.in-Err.ensures.checked;
+      checked = λ t f is. ap (λ (m : Moment). m.state) (c.in-Err.ensures.checked t f is);
       unwritten = λ t f is written. c.in-Err.ensures.unwritten t f is (ap Err written);
     }))
 
