@@ -287,8 +287,8 @@ pub fn replay<F: Tree>(alloc: Global, tree: &mut F, root: &Path) -> Result<Repla
         start_of (F.contents tree.old) root.now ≡ Err e → result ≢ Err ReplayFault.WriteFault }
     ensures stands { IsTrue F.tells → (s : Start) → start_of (F.contents tree.old) root.now ≡ Ok s →
         IfErr result (LeavesMark root.now (F.contents tree.new)) }
-    // a stop at any moment leaves the cluster untouched, marked, or as it is meant to be left, and once
-    // the replay is done, so alone
+    // a stop at any moment leaves the cluster untouched, marked, or as it is meant to be left; once the
+    // replay is done, it leaves what stands
     ensures any_moment { IsTrue F.tells → LeavesOnly
         (IsLeftByReplay root.now (moment_of F.Tree tree.old)) (F.stops tree.old) (F.stops tree.new) }
     ensures synced { IsTrue F.tells → OnOk result (IsDurable (moment_of F.Tree tree.new)) }
