@@ -3,27 +3,18 @@ use Rattle.rewind_survey.specs.declared.fault.RewindFault.{RewindFault}
 use Rattle.rewind_survey.specs.declared.fault.RewindFault.TheVariants as fault
 use Rattle.run_acts.specs.declared.cause.Cause.{Cause}
 use Rattle.run_acts.specs.declared.cause.Cause.TheVariants as cause
-use Rattle.run_acts.specs.declared.cause.ControlCause.TheVariants as control
 use Rattle.run_acts.specs.declared.cause.HistoryCause.TheVariants as history
 use Rattle.run_acts.specs.declared.cause.LogCause.TheVariants as logs
 use Rattle.run_acts.specs.declared.cause.PathCause.TheVariants as paths
 use Rattle.run_acts.specs.declared.cause.RewindCause.TheVariants as rewind
+use Rattle.cluster_causes.specs.Clusters.{cluster_cause}
 
 -- the cause of a fault of a rewind
 abbrev pub rewind_cause : RewindFault → Cause
-rewind_cause (fault.Unfinished path) = cause.Unfinished path
-rewind_cause (fault.ControlMissing root) = cause.Control (control.ControlMissing root)
-rewind_cause (fault.Size root n) = cause.Control (control.Size root n)
-rewind_cause (fault.Crc root stored computed) = cause.Control (control.Crc root stored computed)
-rewind_cause (fault.Version root n) = cause.Control (control.Version root n)
-rewind_cause (fault.Catalog root n) = cause.Control (control.Catalog root n)
-rewind_cause (fault.Shape root field n) = cause.Control (control.Shape root field n)
+rewind_cause (fault.Cluster e) = cluster_cause e
 rewind_cause (fault.SystemsDiffer target source) = cause.Rewind (rewind.SystemsDiffer target source)
 rewind_cause (fault.NoHints root) = cause.Rewind (rewind.NoHints root)
 rewind_cause (fault.NotClean root n) = cause.Rewind (rewind.NotClean root n)
-rewind_cause (fault.HistoryMissing root tli) = cause.History (history.HistoryMissing root tli)
-rewind_cause (fault.BadLine root tli n) = cause.History (history.BadLine root tli n)
-rewind_cause (fault.NotRising root tli n) = cause.History (history.NotRising root tli n)
 rewind_cause fault.NoCommonAncestor = cause.History history.NoCommonAncestor
 rewind_cause (fault.LogEnds at why) = cause.Log (logs.LogEnds at why)
 rewind_cause (fault.BadParts at offset) = cause.Log (logs.BadParts at offset)
@@ -37,7 +28,4 @@ rewind_cause (fault.NameNotText path) = cause.Paths (paths.NameNotText path)
 rewind_cause (fault.TooDeep path) = cause.Paths (paths.TooDeep path)
 rewind_cause (fault.OddSize path n) = cause.Rewind (rewind.OddSize path n)
 rewind_cause (fault.KindsDiffer path) = cause.Rewind (rewind.KindsDiffer path)
-rewind_cause fault.ReadFault = cause.ReadFault
 rewind_cause fault.WriteFault = cause.WriteFault
-rewind_cause (fault.Changed path) = cause.Changed path
-rewind_cause fault.OutOfMemory = cause.OutOfMemory

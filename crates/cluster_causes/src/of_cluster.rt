@@ -1,5 +1,6 @@
 // The faults of a cluster as causes.
-ghost use Rattle.std.specs.Prelude.{◌≡◌, IsTrue};
+ghost use Rattle.std.specs.Prelude.{◌≡◌, ◌≢◌, IsTrue};
+ghost use Rattle.cluster_tree.specs.PathValue.{PathValue};
 ghost use Rattle.run_acts.specs.Causes.{IsOfLook, is_of_files};
 ghost use Rattle.cluster_causes.specs.Clusters.{cluster_cause};
 
@@ -11,6 +12,10 @@ pub fn cluster_cause(fault: ClusterFault) -> Cause
     ensures value { result ≡ cluster_cause fault }
     ensures look { IsOfLook result }
     ensures files { IsTrue (is_of_files result) }
+    ensures read { result ≡ Cause.ReadFault → fault ≡ ClusterFault.ReadFault }
+    ensures write { result ≢ Cause.WriteFault }
+    ensures sink { result ≢ Cause.SinkFault }
+    ensures changed { (p : PathValue) → result ≡ Cause.Changed p → fault ≡ ClusterFault.Changed p }
 {
     match fault {
         ClusterFault::Unfinished(path) => Cause::Unfinished(path),

@@ -1,11 +1,13 @@
 // The faults of a rewind as causes.
 ghost use Rattle.std.specs.Prelude.{◌≡◌, ◌≢◌, ◌⊎◌, IsTrue};
 ghost use Rattle.cluster_tree.specs.PathValue.{PathValue};
+ghost use Rattle.clusters.specs.declared.fault.ClusterFault.TheVariants as cluster;
 ghost use Rattle.run_acts.specs.Causes.{IsOfLook, is_deep, is_of_files};
 ghost use Rattle.cluster_causes.specs.Rewind.{rewind_cause};
 
+use crate::of_cluster::cluster_cause;
 use rewind_survey::RewindFault as Fault;
-use run_acts::{Cause, ControlCause, HistoryCause, LogCause, PathCause, RewindCause};
+use run_acts::{Cause, HistoryCause, LogCause, PathCause, RewindCause};
 
 /// The cause that a fault of a rewind has. It comes while the command looks, and is one of files, but
 /// where a path below a root has too many parts, and where a change failed.
@@ -14,25 +16,17 @@ pub fn rewind_cause(fault: Fault) -> Cause
     ensures look { IsOfLook result ⊎ (fault ≡ Fault.WriteFault) }
     ensures files { IsTrue (is_of_files result) ⊎ IsTrue (is_deep result) ⊎
         (fault ≡ Fault.WriteFault) }
-    ensures read { result ≡ Cause.ReadFault → fault ≡ Fault.ReadFault }
+    ensures read { result ≡ Cause.ReadFault → fault ≡ Fault.Cluster cluster.ReadFault }
     ensures write { result ≡ Cause.WriteFault → fault ≡ Fault.WriteFault }
     ensures sink { result ≢ Cause.SinkFault }
-    ensures changed { (p : PathValue) → result ≡ Cause.Changed p → fault ≡ Fault.Changed p }
+    ensures changed { (p : PathValue) → result ≡ Cause.Changed p →
+        fault ≡ Fault.Cluster (cluster.Changed p) }
 {
     match fault {
-        Fault::Unfinished(path) => Cause::Unfinished(path),
-        Fault::ControlMissing(root) => Cause::Control(ControlCause::ControlMissing(root)),
-        Fault::Size(root, bytes) => Cause::Control(ControlCause::Size(root, bytes)),
-        Fault::Crc(root, stored, sum) => Cause::Control(ControlCause::Crc(root, stored, sum)),
-        Fault::Version(root, version) => Cause::Control(ControlCause::Version(root, version)),
-        Fault::Catalog(root, version) => Cause::Control(ControlCause::Catalog(root, version)),
-        Fault::Shape(root, field, n) => Cause::Control(ControlCause::Shape(root, field, n)),
+        Fault::Cluster(cause) => cluster_cause(cause),
         Fault::SystemsDiffer(t, s) => Cause::Rewind(RewindCause::SystemsDiffer(t, s)),
         Fault::NoHints(root) => Cause::Rewind(RewindCause::NoHints(root)),
         Fault::NotClean(root, state) => Cause::Rewind(RewindCause::NotClean(root, state)),
-        Fault::HistoryMissing(root, n) => Cause::History(HistoryCause::HistoryMissing(root, n)),
-        Fault::BadLine(root, tli, n) => Cause::History(HistoryCause::BadLine(root, tli, n)),
-        Fault::NotRising(root, tli, n) => Cause::History(HistoryCause::NotRising(root, tli, n)),
         Fault::NoCommonAncestor => Cause::History(HistoryCause::NoCommonAncestor),
         Fault::LogEnds(at, why) => Cause::Log(LogCause::LogEnds(at, why)),
         Fault::BadParts(at, offset) => Cause::Log(LogCause::BadParts(at, offset)),
@@ -48,9 +42,6 @@ pub fn rewind_cause(fault: Fault) -> Cause
         Fault::TooDeep(path) => Cause::Paths(PathCause::TooDeep(path)),
         Fault::OddSize(path, bytes) => Cause::Rewind(RewindCause::OddSize(path, bytes)),
         Fault::KindsDiffer(path) => Cause::Rewind(RewindCause::KindsDiffer(path)),
-        Fault::ReadFault => Cause::ReadFault,
         Fault::WriteFault => Cause::WriteFault,
-        Fault::Changed(path) => Cause::Changed(path),
-        Fault::OutOfMemory => Cause::OutOfMemory,
     }
 }
