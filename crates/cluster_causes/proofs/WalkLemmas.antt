@@ -1,5 +1,5 @@
 -- What is wrong below a root is told while a command looks.
-use Rattle.std.proofs.Common.{ℕ, ◌+◌, ◌%◌, Bool, true, false, List, [], ◌∷◌, length, map, inr, refl, Option, None, Some, is_some, Result, Ok, Err, IfErr}
+use Rattle.std.proofs.Common.{ℕ, ◌+◌, ◌%◌, Bool, true, false, List, [], ◌∷◌, length, map, inr, refl, Option, None, Some, is_some, Result, IfErr}
 use Rattle.std.specs.Prelude.{if◌then◌else◌, ◌&&◌, ◌==◌, not, nat_lt}
 use Rattle.cluster_tree.specs.Causes.{first_of, unless}
 use Rattle.cluster_tree.specs.Contents.{Contents, Entry, FileEntry, FolderEntry, LinkEntry, entry_at}
