@@ -1,5 +1,5 @@
 -- What a stop may leave of a run, from the words on.
-use Rattle.std.proofs.Common.{◌≡◌, ℤ, refl, sym, subst, inl, inr, Result, Ok, Err}
+use Rattle.std.proofs.Common.{◌≡◌, ◌⊎◌, ℤ, refl, sym, ap, ◌∙◌, subst, inl, inr, IsTrue, None, Result, Ok, Err, OnOk}
 use Rattle.cluster_tree.specs.Contents.{Contents}
 use Rattle.cluster_tree.specs.Frame.{Reads, moment_of}
 use Rattle.cluster_tree.specs.Run.{Moment}
@@ -14,11 +14,14 @@ use Rattle.commands.specs.declared.resetwal.ResetwalWords.{ResetwalWords}
 use Rattle.commands.specs.declared.rewind.RewindWords.{RewindWords}
 use Rattle.commands.specs.declared.walreplay.WalreplayWords.{WalreplayWords}
 use Rattle.cmd_resetwal.specs.Resetwal.{IsLeftByReset}
-use Rattle.cmd_rewind.specs.Rewind.{IsLeftByRewind}
+use Rattle.cmd_rewind.specs.Rewind.{IsDurable, IsLeftByRewind}
 use Rattle.cmd_walreplay.specs.Walreplay.{IsLeftByWalreplay}
-use Rattle.marked_runs.specs.Moments.{IsUntouched}
+use Rattle.marked_runs.specs.Moments.{IsUntouched, StandsSynced}
 use Rattle.marked_runs.proofs.StopLemmas.{leaves_weaker}
-use Rattle.wal_tools.specs.Stopped.{IsLeftAsked}
+use Rattle.run_acts.specs.Causes.{cause_of, has_values}
+use Rattle.run_acts.specs.declared.cause.Cause.{Cause}
+use Rattle.run_acts.specs.declared.cause.Cause.TheVariants as cause
+use Rattle.wal_tools.specs.Stopped.{IsDurableAsked, IsLeftAsked}
 
 -- what is untouched is left by every command
 within : (asked : Result Command CommandFault) (now : ℤ) (first : Moment) → Within (IsUntouched first) (IsLeftAsked asked now first)
@@ -68,3 +71,36 @@ left_of_command {k} asked now first a b is left = let P : Result Command Command
 -- the time under another name
 pub left_at : (asked : Result Command CommandFault) {n m : ℤ} (first : Moment) (a b : Stops) → n ≡ m → LeavesOnly (IsLeftAsked asked n first) a b → LeavesOnly (IsLeftAsked asked m first) a b
 left_at asked first a b same left = subst (λ x. LeavesOnly (IsLeftAsked asked x first) a b) same left
+
+-- ---- once it is done
+
+-- of pg_rewind, with the time under another name
+pub durable_rewind : {k : Command} {words : RewindWords} {n m : ℤ} (r : Result (Unit {0}) Cause) (c : Contents) (moment : Moment) → k ≡ command.Rewind words → n ≡ m → OnOk r (IsDurable words n c moment) → OnOk r (IsDurableAsked (Ok k) m c moment)
+durable_rewind {k} {words} {n} {m} r c moment is same durable =
+    let P : Command → Type 0 = λ x. OnOk r (IsDurableAsked (Ok x) m c moment) in
+    subst P (sym is) (subst (λ x. OnOk r (IsDurable words x c moment)) same durable)
+
+reset-kept : (words : ResetwalWords) (r : Result (Unit {0}) Cause) (moment : Moment) → (words.options.dry ≡ None → OnOk r (StandsSynced moment.state.contents moment)) → OnOk r (words.options.dry ≡ None → StandsSynced moment.state.contents moment)
+reset-kept words (Ok u) moment durable = durable
+reset-kept words (Err e) moment durable = tt
+
+-- of pg_resetwal
+pub durable_reset : {k : Command} {words : ResetwalWords} (r : Result (Unit {0}) Cause) (now : ℤ) (c : Contents) (moment : Moment) → k ≡ command.Resetwal words → (words.options.dry ≡ None → OnOk r (StandsSynced moment.state.contents moment)) → OnOk r (IsDurableAsked (Ok k) now c moment)
+durable_reset {k} {words} r now c moment is durable = let P : Command → Type 0 = λ x. OnOk r (IsDurableAsked (Ok x) now c moment) in subst P (sym is) (reset-kept words r moment durable)
+
+-- of pg_walreplay
+pub durable_replay : {k : Command} {words : WalreplayWords} (r : Result (Unit {0}) Cause) (now : ℤ) (c : Contents) (moment : Moment) → k ≡ command.Walreplay words → OnOk r (StandsSynced moment.state.contents moment) → OnOk r (IsDurableAsked (Ok k) now c moment)
+durable_replay {k} {words} r now c moment is durable = let P : Command → Type 0 = λ x. OnOk r (IsDurableAsked (Ok x) now c moment) in subst P (sym is) durable
+
+-- the words ask for this command
+pub durable_command : {k : Command} (r : Result (Unit {0}) Cause) (asked : Result Command CommandFault) {n m : ℤ} (c : Contents) (moment : Moment) → asked ≡ Ok k → n ≡ m → OnOk r (IsDurableAsked (Ok k) n c moment) → OnOk r (IsDurableAsked asked m c moment)
+durable_command {k} r asked {n} {m} c moment is same durable =
+    let P : Result Command CommandFault → Type 0 = λ x. OnOk r (IsDurableAsked x m c moment) in
+    subst P (sym is) (subst (λ x. OnOk r (IsDurableAsked (Ok k) x c moment)) same durable)
+
+-- a run that is done had that outcome
+pub durable_done : (r : Result (Unit {0}) Cause) (asked : Result Command CommandFault) {n m : ℤ} (c : Contents) (moment : Moment) {own ended : Cause} → (r ≡ Err cause.Done → ⊥) → own ≡ cause_of r → (ended ≡ own) ⊎ (IsTrue (has_values own) × (ended ≡ cause.OutOfMemory)) → ended ≡ cause.Done
+    → n ≡ m → OnOk r (IsDurableAsked asked n c moment) → IsDurableAsked asked m c moment
+durable_done (Ok u) asked c moment undone own told done same durable = subst (λ x. IsDurableAsked asked x c moment) same durable
+durable_done (Err e) asked c moment undone own (inl is) done same durable = absurd (undone (ap Err (sym own ∙ sym is ∙ done)))
+durable_done (Err e) asked c moment undone own (inr m) done same durable = let no : cause.OutOfMemory ≡ cause.Done = sym m.1 ∙ done in absurd (cc no)

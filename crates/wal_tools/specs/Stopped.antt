@@ -1,14 +1,14 @@
 -- What a stop at any moment of a run may leave. Own: "What a stop may leave", "Changes under a mark".
-use Rattle.std.specs.Prelude.{ℤ, Result, Ok, Err}
+use Rattle.std.specs.Prelude.{◌≡◌, ℤ, None, Result, Ok, Err}
 use Rattle.cluster_tree.specs.Contents.{Contents}
 use Rattle.cluster_tree.specs.Run.{Moment}
 use Rattle.commands.specs.declared.command.Command.{Command}
 use Rattle.commands.specs.declared.command.Command.TheVariants as command
 use Rattle.commands.specs.declared.fault.CommandFault.{CommandFault}
 use Rattle.cmd_resetwal.specs.Resetwal.{IsLeftByReset}
-use Rattle.cmd_rewind.specs.Rewind.{IsLeftByRewind}
+use Rattle.cmd_rewind.specs.Rewind.{IsDurable, IsLeftByRewind}
 use Rattle.cmd_walreplay.specs.Walreplay.{IsLeftByWalreplay}
-use Rattle.marked_runs.specs.Moments.{IsUntouched}
+use Rattle.marked_runs.specs.Moments.{IsUntouched, StandsSynced}
 
 -- A command that changes a cluster leaves it untouched, marked as unfinished or whole; one that only reads leaves all untouched. Of pg_archivecleanup, which
 -- has no mark, nothing is said.
@@ -21,3 +21,14 @@ IsLeftAsked (Ok (command.Archivecleanup words)) now first c = Unit {0}
 IsLeftAsked (Ok (command.Walreplay words)) now first c = IsLeftByWalreplay words first c
 IsLeftAsked (Ok (command.Walcompare words)) now first c = IsUntouched first c
 IsLeftAsked (Err e) now first c = IsUntouched first c
+
+-- Once it is done, a stop leaves what stands, and nothing else: of a rewind that was asked for and needed, of a reset that was asked for, and of a replay.
+abbrev pub IsDurableAsked : Result Command CommandFault → ℤ → Contents → Moment → Type 0
+IsDurableAsked (Ok (command.Rewind words)) now c moment = IsDurable words now c moment
+IsDurableAsked (Ok (command.Controldata words)) now c moment = Unit {0}
+IsDurableAsked (Ok (command.Waldump words)) now c moment = Unit {0}
+IsDurableAsked (Ok (command.Resetwal words)) now c moment = words.options.dry ≡ None → StandsSynced moment.state.contents moment
+IsDurableAsked (Ok (command.Archivecleanup words)) now c moment = Unit {0}
+IsDurableAsked (Ok (command.Walreplay words)) now c moment = StandsSynced moment.state.contents moment
+IsDurableAsked (Ok (command.Walcompare words)) now c moment = Unit {0}
+IsDurableAsked (Err e) now c moment = Unit {0}

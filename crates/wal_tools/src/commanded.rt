@@ -10,7 +10,7 @@ ghost use Rattle.run_acts.specs.Causes.{cause_of, is_deep, is_of_files};
 ghost use Rattle.run_acts.specs.Unseen.{CarriesUnseen};
 ghost use Rattle.wal_tools.specs.Answers.{IsAnswer, answered};
 ghost use Rattle.wal_tools.specs.Leaves.{LeavesAsked, StaysAsked};
-ghost use Rattle.wal_tools.specs.Stopped.{IsLeftAsked};
+ghost use Rattle.wal_tools.specs.Stopped.{IsDurableAsked, IsLeftAsked};
 ghost use Rattle.wal_tools.specs.Words.{AreFaulty, IsSeen, MayChange, NeedsNoTree, Walks, refused_by_words};
 
 use cluster_tree::{Sink, Tree};
@@ -67,6 +67,8 @@ pub(crate) fn carry_out<F: Tree, O: Sink, E: Sink>(
     ensures stops { IsTrue F.tells →
         LeavesOnly (IsLeftAsked (Ok command.now) now (moment_of F.Tree tree.old))
         (F.stops tree.old) (F.stops tree.new) }
+    ensures durable { IsTrue F.tells → OnOk result (IsDurableAsked
+        (Ok command.now) now (F.contents tree.old) (moment_of F.Tree tree.new)) }
 {
     match command {
         Command::Rewind(words) => rewind(alloc, tree, err, words, now),

@@ -14,7 +14,7 @@ ghost use Rattle.wal_tools.specs.Answers.{IsAnswer, answered};
 ghost use Rattle.wal_tools.specs.Converges.{ConvergesAsked};
 ghost use Rattle.wal_tools.specs.Leaves.{LeavesAsked, StaysAsked};
 ghost use Rattle.wal_tools.specs.Runs.{Runs};
-ghost use Rattle.wal_tools.specs.Stopped.{IsLeftAsked};
+ghost use Rattle.wal_tools.specs.Stopped.{IsDurableAsked, IsLeftAsked};
 ghost use Rattle.wal_tools.specs.Words.{AreFaulty, IsSeen, MayChange, NeedsNoTree, Walks, refused_by_words};
 
 use crate::commanded::carry_out;
@@ -72,6 +72,9 @@ fn answer<F: Tree, O: Sink, E: Sink>(
     ensures stops { IsTrue F.tells → LeavesOnly (IsLeftAsked
         (command_of (map string_bytes words.now)) now (moment_of F.Tree tree.old))
         (F.stops tree.old) (F.stops tree.new) }
+    ensures durable { IsTrue F.tells → OnOk result (IsDurableAsked
+        (command_of (map string_bytes words.now)) now (F.contents tree.old)
+        (moment_of F.Tree tree.new)) }
     ensures built { result ≡ Err Cause.NotBuilt →
         refused_by_words (command_of (map string_bytes words.now)) ≡ Some Cause.NotBuilt }
     ensures undone { result ≢ Err Cause.Done }
@@ -149,6 +152,10 @@ pub fn run<F: Tree, O: Sink, E: Sink>(
     ensures stops { IsTrue F.tells → LeavesOnly (IsLeftAsked
         (command_of (map string_bytes words.now)) now (moment_of F.Tree tree.old))
         (F.stops tree.old) (F.stops tree.new) }
+    // and once it is done, what stands
+    ensures durable { IsTrue F.tells → result.cause ≡ Cause.Done → IsDurableAsked
+        (command_of (map string_bytes words.now)) now (F.contents tree.old)
+        (moment_of F.Tree tree.new) }
 
     // what the words alone decide, over every tree
     ensures usage { result.cause ≡ Cause.Usage →

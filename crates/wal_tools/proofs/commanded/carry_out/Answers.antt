@@ -3,7 +3,7 @@ use Rattle.std.proofs.lemmas.Int.{to_z-of_z}
 use Rattle.acts.specs.Acts.{sunk}
 use Rattle.cluster_tree.specs.Frame.{moment_of}
 use Rattle.wal_tools.proofs.RunLemmas.{at_time, dried_cleanup, dried_reset, dried_rewind, of_archivecleanup, of_controldata, of_resetwal, of_rewind, of_waldump, of_walcompare, of_walreplay, replay_may, replayed_at, rewound_at, same_at, stays_at}
-use Rattle.wal_tools.proofs.StopLemmas.{left_of_cleanup, left_of_replay, left_of_reset, left_of_rewind, read_left}
+use Rattle.wal_tools.proofs.StopLemmas.{durable_replay, durable_reset, durable_rewind, left_of_cleanup, left_of_replay, left_of_reset, left_of_rewind, read_left}
 use Rattle.wal_tools.proofs.commanded.carry_out.Goals as goal
 
 pub returns-in-Rewind-clause-carries : goal.returns-in-Rewind-clause-carries
@@ -118,3 +118,14 @@ returns-in-Walreplay-clause-stops g c t = left_of_replay _ _ _ _ c.in-Walreplay.
 
 pub returns-in-Walcompare-clause-stops : goal.returns-in-Walcompare-clause-stops
 returns-in-Walcompare-clause-stops g c t = read_left g.F.Tree _ _ c.args.tree.now c.walcompare.new.tree c.walcompare.ensures.reads
+
+pub returns-in-Rewind-clause-durable : goal.returns-in-Rewind-clause-durable
+returns-in-Rewind-clause-durable g c t =
+    let fits : FitsSigned w64 c.args.now = search rules in
+    durable_rewind c.rewind.result _ _ c.in-Rewind.is (to_z-of_z w64 c.args.now fits) (c.rewind.ensures.synced t)
+
+pub returns-in-Resetwal-clause-durable : goal.returns-in-Resetwal-clause-durable
+returns-in-Resetwal-clause-durable g c t = durable_reset c.resetwal.result _ _ _ c.in-Resetwal.is (c.resetwal.ensures.synced t)
+
+pub returns-in-Walreplay-clause-durable : goal.returns-in-Walreplay-clause-durable
+returns-in-Walreplay-clause-durable g c t = durable_replay c.walreplay.result _ _ _ c.in-Walreplay.is (c.walreplay.ensures.synced t)

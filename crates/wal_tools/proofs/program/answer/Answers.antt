@@ -3,7 +3,7 @@ use Rattle.std.proofs.lemmas.Int.{to_z-of_z}
 use Rattle.cluster_tree.specs.Frame.{moment_of}
 use Rattle.tool_words.specs.Command.{command_of}
 use Rattle.wal_tools.proofs.RunLemmas.{at_time, no_words, of_command, stays_refused, stays_unmade, words_refused}
-use Rattle.wal_tools.proofs.StopLemmas.{left_at, left_of_command, still_left}
+use Rattle.wal_tools.proofs.StopLemmas.{durable_command, left_at, left_of_command, still_left}
 use Rattle.wal_tools.proofs.program.answer.Goals as goal
 
 pub returns-in-Ok-clause-carries : goal.returns-in-Ok-clause-carries
@@ -35,3 +35,8 @@ returns-in-Err-OutOfMemory-clause-stops g c t = still_left _ _ (moment_of g.F.Tr
 
 pub returns-in-Err-clause-stops : goal.returns-in-Err-clause-stops
 returns-in-Err-clause-stops g c t = still_left _ _ (moment_of g.F.Tree c.args.tree.now)
+
+pub returns-in-Ok-clause-durable : goal.returns-in-Ok-clause-durable
+returns-in-Ok-clause-durable g c t =
+    let fits : FitsSigned w64 c.args.now = search rules in
+    durable_command c.carry_out.result _ _ _ c.in-Ok.ensures.answer (to_z-of_z w64 c.args.now fits) (c.carry_out.ensures.durable t)

@@ -6,7 +6,7 @@ use Rattle.tool_words.specs.Command.{command_of}
 use Rattle.cause_lines.specs.Lines.{line_of}
 use Rattle.wal_tools.specs.Runs.{Says}
 use Rattle.wal_tools.proofs.RunLemmas.{at_time, converges_left, exact_told, leaves_done, stays_told}
-use Rattle.wal_tools.proofs.StopLemmas.{left_at}
+use Rattle.wal_tools.proofs.StopLemmas.{durable_done, left_at}
 use Rattle.wal_tools.proofs.program.run.Goals as goal
 
 pub returns-clause-exact : goal.returns-clause-exact
@@ -54,3 +54,9 @@ pub returns-clause-stops : goal.returns-clause-stops
 returns-clause-stops g c t =
     let fits : FitsSigned w64 c.args.now = search rules in
     left_at (command_of (map string_bytes c.args.words.now)) _ _ _ (to_z-of_z w64 c.args.now fits) (c.answer-outcome.ensures.stops t)
+
+pub returns-clause-durable : goal.returns-clause-durable
+returns-clause-durable g c t done =
+    let fits : FitsSigned w64 c.args.now = search rules in
+    durable_done c.answer-outcome.result (command_of (map string_bytes c.args.words.now)) _ _ c.answer-outcome.ensures.undone c.cause_of.ensures c.finish.ensures.cause done
+    (to_z-of_z w64 c.args.now fits) (c.answer-outcome.ensures.durable t)
