@@ -1,17 +1,18 @@
 -- What pg_walreplay does: PostgreSQL 16, src/backend/access/transam/xlogrecovery.c, PerformWalRecovery. Own: "The answer of a replay", "Commands of this project's own".
-use Rattle.std.specs.Prelude.{◌≡◌, ◌⊎◌, ◌++◌, ℕ, Bool, IsTrue, List, [], ◌∷◌, codes, decimal, None, Some, Result, Ok, Err}
+use Rattle.std.specs.Prelude.{◌≡◌, ◌⊎◌, ◌++◌, ℕ, Bool, IsTrue, true, List, [], ◌∷◌, codes, decimal, None, Some, Result, Ok, Err}
 use Rattle.std.specs.List.{concat}
 use Rattle.block_refs.specs.declared.names.BlockName.{BlockName}
 use Rattle.block_replay.specs.declared.faults.RecordFault.{RecordFault}
 use Rattle.cluster_tree.specs.Contents.{Contents}
+use Rattle.cluster_tree.specs.Marks.{is_there}
 use Rattle.cluster_tree.specs.Run.{Moment}
 use Rattle.wal_base.specs.Lsn.{lsn_text}
 use Rattle.replay_start.specs.Checked.{Start, start_of}
 use Rattle.replay_start.specs.declared.fault.ReplayFault.{ReplayFault}
 use Rattle.replay_start.specs.declared.fault.ReplayFault.TheVariants as fault
 use Rattle.replay_core.specs.Faults.{of_record}
-use Rattle.replay_core.specs.Replayed.{After, after_replay, first_world, replayed_into}
-use Rattle.replay_core.specs.Stops.{IsLeftByReplay}
+use Rattle.replay_core.specs.Replayed.{After, after_replay, first_world, mark_of, replayed_into}
+use Rattle.replay_core.specs.Stops.{IsLeftByReplay, first_standing}
 use Rattle.replay_core.specs.Within.{IsMarked, LogStays}
 use Rattle.commands.specs.declared.walreplay.WalreplayWords.{WalreplayWords}
 use Rattle.acts.specs.Acts.{Act, Look, Print, Within}
@@ -98,3 +99,7 @@ pub record StaysMarked (words : WalreplayWords) (c c' : Contents) (ended : Cause
 -- a stop at any moment leaves the cluster untouched, marked, or as it is meant to be left
 abbrev pub IsLeftByWalreplay : WalreplayWords → Moment → Contents → Type 0
 IsLeftByWalreplay words first c = IsLeftByReplay words.root first c
+
+-- what it left marked is refused, with its mark, or with that of a rewind where one stands
+abbrev pub MarkIsRefused : Type 0
+MarkIsRefused = (words : WalreplayWords) (c : Contents) → is_there c (mark_of words.root) ≡ true → walreplay_answer c words ≡ refused (cause.Unfinished (first_standing c words.root))

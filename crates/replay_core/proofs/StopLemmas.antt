@@ -225,7 +225,10 @@ standing-first root c marked = by (is_there c (marks_of root).rewind)
     by true = refl
     by false = ap (λ b. with_mark (marks_of root) (cond b (Some 1) (cond (is_there c (marks_of root).reset) (Some 2) None))) marked
 
+pub mark-found : (root : PathValue) (c : Contents) → IsMarked (mark_of root) c → start_of c root ≡ told_by (Err (cluster.Unfinished (first_standing c root)))
+unfolding start_of
+mark-found root c marked = ap (λ o. unless (option_map of_cluster o) (given (told_by (control_at c root)) (from_control c root))) (standing-first root c marked)
+
 pub mark-refused : MarkIsRefused
-unfolding after_replay start_of
-mark-refused root c marked =
-    ap (λ o. given (unless (option_map of_cluster o) (given (told_by (control_at c root)) (from_control c root))) (λ s. replayed_into root s (first_world c root s))) (standing-first root c marked)
+unfolding after_replay
+mark-refused root c marked = ap (λ r. given r (λ s. replayed_into root s (first_world c root s))) (mark-found root c marked)

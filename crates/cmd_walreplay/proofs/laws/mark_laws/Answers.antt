@@ -1,0 +1,7 @@
+use Rattle.std.proofs.Common.{ap}
+use Rattle.replay_core.proofs.StopLemmas.{mark-found}
+use Rattle.cmd_walreplay.specs.Walreplay.{checked_answer}
+use Rattle.cmd_walreplay.proofs.laws.mark_laws.Goals as goal
+
+pub returns : goal.returns
+returns c = record { refused = λ words files marked. ap (checked_answer files words) (mark-found words.root files marked) }
