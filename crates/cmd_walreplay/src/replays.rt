@@ -50,7 +50,7 @@ pub fn walreplay<F: Tree, O: Sink>(
     ensures stays { IsTrue F.tells → StaysMarked words.now (F.contents tree.old) (F.contents tree.new)
         (cause_of result) }
     // this is what a stop at any moment leaves; and once the replay is done, what stands
-    ensures any_moment { IsTrue F.tells → LeavesOnly
+    ensures stops { IsTrue F.tells → LeavesOnly
         (IsLeftByWalreplay words.now (moment_of F.Tree tree.old)) (F.stops tree.old) (F.stops tree.new) }
     ensures synced { IsTrue F.tells → OnOk result (IsDurable (moment_of F.Tree tree.new)) }
     ensures blames { (n : ℕ) → Blames (cause_of result)

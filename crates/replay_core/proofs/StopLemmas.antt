@@ -35,7 +35,7 @@ use Rattle.marked_runs.proofs.CarriedLemmas.{both_unrefused}
 use Rattle.marked_runs.proofs.StopLemmas.{body-left, body-stands, leaves_on, leaves_weaker}
 use Rattle.replay_control.specs.Following.{control_left}
 use Rattle.replay_start.specs.Checked.{Start, from_control, start_of}
-use Rattle.replay_start.specs.Faults.{of_cluster, told_by}
+use Rattle.replay_start.specs.Faults.{told_by}
 use Rattle.replay_start.specs.declared.fault.ReplayFault.{ReplayFault}
 use Rattle.replay_start.specs.declared.fault.ReplayFault.TheVariants as fault
 use Rattle.replay_world.specs.Records.{records_after}
@@ -227,7 +227,7 @@ standing-first root c marked = by (is_there c (marks_of root).rewind)
 
 pub mark-found : (root : PathValue) (c : Contents) → IsMarked (mark_of root) c → start_of c root ≡ told_by (Err (cluster.Unfinished (first_standing c root)))
 unfolding start_of
-mark-found root c marked = ap (λ o. unless (option_map of_cluster o) (given (told_by (control_at c root)) (from_control c root))) (standing-first root c marked)
+mark-found root c marked = ap (λ o. unless (option_map fault.Cluster o) (given (told_by (control_at c root)) (from_control c root))) (standing-first root c marked)
 
 pub mark-refused : MarkIsRefused
 unfolding after_replay

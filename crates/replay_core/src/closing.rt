@@ -24,7 +24,7 @@ use marked_runs::{PerformFault, StepFault, about, begin, finish, overwrite, remo
 /// Makes the mark, and makes it durable. A stop leaves what one could have left before, or the mark.
 pub(crate) fn begin_mark<F: Tree>(tree: &mut F, mark: &Path) -> Result<(), StepFault>
     ensures carries { Carries F.Tree (begun mark.now mark_text) tree.old tree.new result }
-    ensures any_moment { IsTrue F.tells →
+    ensures stops { IsTrue F.tells →
         first_refusal (F.contents tree.old) (begun mark.now mark_text) ≡ None → LeavesOnly
         (IsBegun mark.now (moment_of F.Tree tree.old)) (F.stops tree.old) (F.stops tree.new) }
     ensures marked { IsTrue F.tells →
@@ -103,7 +103,7 @@ fn put_files<F: Tree>(
 // Makes all durable, and ends the mark.
 fn unmark<F: Tree>(tree: &mut F, mark: Path) -> Result<(), PerformFault>
     ensures performs { Performs F.Tree (ended mark) tree.old tree.new result }
-    ensures any_moment { IsTrue F.tells → StandsMarked mark (moment_of F.Tree tree.old) → LeavesOnly
+    ensures stops { IsTrue F.tells → StandsMarked mark (moment_of F.Tree tree.old) → LeavesOnly
         (IsEnded mark (remove (F.contents tree.old) mark)) (F.stops tree.old) (F.stops tree.new) }
     ensures synced { IsTrue F.tells → first_refusal (F.contents tree.old) (ended mark) ≡ None →
         OnOk result (StandsSynced (remove (F.contents tree.old) mark) (moment_of F.Tree tree.new)) }
@@ -128,7 +128,7 @@ pub(crate) fn close<F: Tree>(
     requires { IsControl control.now }
     ensures performs { Performs F.Tree (Writes paths.control 0 (control_bytes control.now)
         ∷ Removes paths.label ∷ ended paths.mark) tree.old tree.new result }
-    ensures any_moment { IsTrue F.tells → (root : PathValue) → ArePaths root paths →
+    ensures stops { IsTrue F.tells → (root : PathValue) → ArePaths root paths →
         Stand (F.contents tree.old) root → StandsMarked (mark_of root) (moment_of F.Tree tree.old) →
         LeavesOnly (IsEnded (mark_of root) (all_changed (F.contents tree.old) (closing root control.now)))
         (F.stops tree.old) (F.stops tree.new) }

@@ -118,7 +118,7 @@ fn finish<F: Tree>(
         WentOn world.files.root marked (state_by F.contents F.calls tree.new) (is_ok result) }
     ensures stands { IsTrue F.tells → IfErr result
         (λ e. IsFree e ⊎ (F.contents tree.new ≡ F.contents tree.old)) }
-    ensures any_moment { IsTrue F.tells →
+    ensures stops { IsTrue F.tells →
         StandsMarked (mark_of world.files.root) (moment_of F.Tree tree.old) → LeavesOnly
         (IsMarkedOrDone world.files.root (closed_or world.files.root tli count.records count.end.0
         (world_of (F.contents tree.old) world))) (F.stops tree.old) (F.stops tree.new) }
@@ -163,7 +163,7 @@ fn replay_marked<F: Tree>(
         (state_by F.contents F.calls tree.old) (state_by F.contents F.calls tree.new) (is_ok result) }
     ensures stands { IsTrue F.tells →
         IfErr result (LeavesMark world.files.root (F.contents tree.new)) }
-    ensures any_moment { IsTrue F.tells →
+    ensures stops { IsTrue F.tells →
         StandsMarked (mark_of world.files.root) (moment_of F.Tree tree.old) → LeavesOnly
         (IsMarkedOrDone world.files.root (replayed_into world.files.root
         (start_in checked (F.contents tree.old)) (world_of (F.contents tree.old) world)))
@@ -231,7 +231,7 @@ fn replay_checked<F: Tree>(
     ensures went { IsTrue F.tells → Went root.now (state_by F.contents F.calls tree.old)
         (state_by F.contents F.calls tree.new) (is_ok result) }
     ensures stands { IsTrue F.tells → IfErr result (LeavesMark root.now (F.contents tree.new)) }
-    ensures any_moment { IsTrue F.tells → LeavesOnly
+    ensures stops { IsTrue F.tells → LeavesOnly
         (IsLeft root.now (moment_of F.Tree tree.old) (replayed_into root.now
         (start_in checked (F.contents tree.old))
         (first_world (F.contents tree.old) root.now (start_in checked (F.contents tree.old)))))
@@ -289,7 +289,7 @@ pub fn replay<F: Tree>(alloc: Global, tree: &mut F, root: &Path) -> Result<Repla
         IfErr result (LeavesMark root.now (F.contents tree.new)) }
     // a stop at any moment leaves the cluster untouched, marked, or as it is meant to be left; once the
     // replay is done, it leaves what stands
-    ensures any_moment { IsTrue F.tells → LeavesOnly
+    ensures stops { IsTrue F.tells → LeavesOnly
         (IsLeftByReplay root.now (moment_of F.Tree tree.old)) (F.stops tree.old) (F.stops tree.new) }
     ensures synced { IsTrue F.tells → OnOk result (IsDurable (moment_of F.Tree tree.new)) }
     ensures frame { Came F.Tree tree.old tree.new }

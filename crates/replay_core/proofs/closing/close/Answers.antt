@@ -16,13 +16,13 @@ returns-in-Err-clause-performs g c =
     performs-front g.F.Tree (Writes c.args.paths.control 0 (control_bytes c.args.control.now) ∷ Removes c.args.paths.label ∷ []) (ended c.args.paths.mark) _ _
     c.in-Err.fault c.in-Err.ensures.performs
 
-pub returns-in-Ok-clause-any_moment : goal.returns-in-Ok-clause-any_moment
-returns-in-Ok-clause-any_moment g c = λ told root are stand marked.
+pub returns-in-Ok-clause-stops : goal.returns-in-Ok-clause-stops
+returns-in-Ok-clause-stops g c = λ told root are stand marked.
     close-left g.F.Tree told root c.args.paths are c.args.control.now c.args.tree.now c.put_files.new.tree stand c.in-Ok.ensures.frame marked _ _
-    c.in-Ok.ensures.performs c.unmark.ensures.frame (c.unmark.ensures.any_moment told)
+    c.in-Ok.ensures.performs c.unmark.ensures.frame (c.unmark.ensures.stops told)
 
-pub returns-in-Err-clause-any_moment : goal.returns-in-Err-clause-any_moment
-returns-in-Err-clause-any_moment g c = λ told root are stand marked.
+pub returns-in-Err-clause-stops : goal.returns-in-Err-clause-stops
+returns-in-Err-clause-stops g c = λ told root are stand marked.
     close-broken g.F.Tree told root c.args.paths are c.args.control.now c.args.tree.now c.put_files.new.tree stand c.in-Err.ensures.frame marked c.in-Err.fault c.in-Err.ensures.performs
 
 pub returns-in-Ok-clause-synced : goal.returns-in-Ok-clause-synced

@@ -52,17 +52,17 @@ returns-clause-stands g c told =
     let ran = closing-ran g.F.Tree c.args.world.files.root c.args.paths left c.control_left.result _ _ _ c.requires.paths c.control_left.ensures.value told (c.requires.stand told) c.in-Err.ensures.performs in
     inl (subst IsFree (sym c.of_perform.ensures) (free-of c.in-Err.fault (λ h. c.in-Err.ensures.read_fault (ap Err h)) (λ p h. ran.agreed p (ap Err h))))
 
-pub returns-in-Some-clause-any_moment : goal.returns-in-Some-clause-any_moment
-returns-in-Some-clause-any_moment g c told marked = still-left c.args.world.files.root (moment_of g.F.Tree c.args.tree.now) _ marked
+pub returns-in-Some-clause-stops : goal.returns-in-Some-clause-stops
+returns-in-Some-clause-stops g c told marked = still-left c.args.world.files.root (moment_of g.F.Tree c.args.tree.now) _ marked
 
-pub returns-in-Ok-clause-any_moment : goal.returns-in-Ok-clause-any_moment
-returns-in-Ok-clause-any_moment g c told marked =
+pub returns-in-Ok-clause-stops : goal.returns-in-Ok-clause-stops
+returns-in-Ok-clause-stops g c told marked =
     closed-left c.args.world.files.root c.args.tli c.args.count.records c.args.count.end.0 (world_of (g.F.Tree.contents c.args.tree.now) c.args.world) c.control_left.result _ _
     (sym c.least.ensures ∙ none-least c.least.result c.in_default.not-Some) c.control_left.ensures.value
-    (c.in-Ok.ensures.any_moment told c.args.world.files.root c.requires.paths (c.requires.stand told) marked)
+    (c.in-Ok.ensures.stops told c.args.world.files.root c.requires.paths (c.requires.stand told) marked)
 
-pub returns-clause-any_moment : goal.returns-clause-any_moment
-returns-clause-any_moment g c told marked =
+pub returns-clause-stops : goal.returns-clause-stops
+returns-clause-stops g c told marked =
     closed-left c.args.world.files.root c.args.tli c.args.count.records c.args.count.end.0 (world_of (g.F.Tree.contents c.args.tree.now) c.args.world) c.control_left.result _ _
     (sym c.least.ensures ∙ none-least c.least.result c.in_default.not-Some) c.control_left.ensures.value
-    (c.in-Err.ensures.any_moment told c.args.world.files.root c.requires.paths (c.requires.stand told) marked)
+    (c.in-Err.ensures.stops told c.args.world.files.root c.requires.paths (c.requires.stand told) marked)

@@ -66,13 +66,13 @@ returns-clause-log g c told path holds =
 pub returns-in_err-checked-clause-checked : goal.returns-in_err-checked-clause-checked
 returns-in_err-checked-clause-checked g c told e is = reads-moment g.F.Tree c.args.tree.now c.check.new.tree c.check.ensures.reads
 
-pub returns-in_err-checked-clause-any_moment : goal.returns-in_err-checked-clause-any_moment
-returns-in_err-checked-clause-any_moment g c told = refused-left g.F.Tree c.args.root.now (after_replay (g.F.Tree.contents c.args.tree.now) c.args.root.now) c.args.tree.now c.check.new.tree c.check.ensures.reads
+pub returns-in_err-checked-clause-stops : goal.returns-in_err-checked-clause-stops
+returns-in_err-checked-clause-stops g c told = refused-left g.F.Tree c.args.root.now (after_replay (g.F.Tree.contents c.args.tree.now) c.args.root.now) c.args.tree.now c.check.new.tree c.check.ensures.reads
 
-pub returns-clause-any_moment : goal.returns-clause-any_moment
-returns-clause-any_moment g c told =
+pub returns-clause-stops : goal.returns-clause-stops
+returns-clause-stops g c told =
     let before = g.F.Tree.contents c.args.tree.now in
     let after = g.F.Tree.contents c.check.new.tree in
     let checked = checked-by before after c.args.root.now c.in_ok-checked.checked c.check.ensures.reads.same (c.in_ok-checked.ensures.exact told) (c.in_ok-checked.ensures.knows told) in
     let meant = sym (after-of after c.args.root.now (start_in c.in_ok-checked.checked after) checked.start) ∙ ap (λ x. after_replay x c.args.root.now) c.check.ensures.reads.same in
-    checked-left g.F.Tree c.args.root.now (after_replay before c.args.root.now) _ c.args.tree.now c.check.new.tree c.replay_checked.new.tree c.check.ensures.reads meant (c.replay_checked.ensures.any_moment told)
+    checked-left g.F.Tree c.args.root.now (after_replay before c.args.root.now) _ c.args.tree.now c.check.new.tree c.replay_checked.new.tree c.check.ensures.reads meant (c.replay_checked.ensures.stops told)

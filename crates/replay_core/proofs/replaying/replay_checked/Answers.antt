@@ -110,17 +110,17 @@ returns-in-Err-clause-stands g c told =
     (λ h. c.in-Err.ensures.read_fault (ap Err (about-read c.in-Err.fault mark (sym c.about.ensures ∙ h))))
     (λ p h. ran.agreed (ap Err (about-changed c.in-Err.fault mark p (sym c.about.ensures ∙ h))))))
 
-pub returns-in_err-paths-clause-any_moment : goal.returns-in_err-paths-clause-any_moment
-returns-in_err-paths-clause-any_moment g c told = nothing-left c.args.root.now (moment_of g.F.Tree c.args.tree.now) _
+pub returns-in_err-paths-clause-stops : goal.returns-in_err-paths-clause-stops
+returns-in_err-paths-clause-stops g c told = nothing-left c.args.root.now (moment_of g.F.Tree c.args.tree.now) _
 
-pub returns-in_err-world-clause-any_moment : goal.returns-in_err-world-clause-any_moment
-returns-in_err-world-clause-any_moment g c told = nothing-left c.args.root.now (moment_of g.F.Tree c.args.tree.now) _
+pub returns-in_err-world-clause-stops : goal.returns-in_err-world-clause-stops
+returns-in_err-world-clause-stops g c told = nothing-left c.args.root.now (moment_of g.F.Tree c.args.tree.now) _
 
-pub returns-in_err-room-clause-any_moment : goal.returns-in_err-room-clause-any_moment
-returns-in_err-room-clause-any_moment g c told = nothing-left c.args.root.now (moment_of g.F.Tree c.args.tree.now) _
+pub returns-in_err-room-clause-stops : goal.returns-in_err-room-clause-stops
+returns-in_err-room-clause-stops g c told = nothing-left c.args.root.now (moment_of g.F.Tree c.args.tree.now) _
 
-pub returns-in-Ok-clause-any_moment : goal.returns-in-Ok-clause-any_moment
-returns-in-Ok-clause-any_moment g c told =
+pub returns-in-Ok-clause-stops : goal.returns-in-Ok-clause-stops
+returns-in-Ok-clause-stops g c told =
     let before = g.F.Tree.contents c.args.tree.now in
     let after = g.F.Tree.contents c.begin_mark.new.tree in
     let root = c.args.root.now in
@@ -132,13 +132,13 @@ returns-in-Ok-clause-any_moment g c told =
     let under = under-mark before after root c.args.checked (c.requires.checked told) c.requires.folder (ran.runs.after refl) in
     let stands = subst (λ p. StandsMarked p (moment_of g.F.Tree c.begin_mark.new.tree)) (is ∙ ap mark_of (sym c.in_ok-world.ensures.root)) (c.in-Ok.ensures.marked told (begun-unrefused before root mark is none)) in
     let other = replayed_into world.files.root (start_in c.args.checked after) (world_of after world) in
-    begun-then g.F.Tree root mark _ c.args.tree.now c.begin_mark.new.tree is (c.in-Ok.ensures.any_moment told (begun-unrefused before root mark is none)) other c.replay_marked.new.tree c.in-Ok.ensures.frame c.replay_marked.ensures.frame
+    begun-then g.F.Tree root mark _ c.args.tree.now c.begin_mark.new.tree is (c.in-Ok.ensures.stops told (begun-unrefused before root mark is none)) other c.replay_marked.new.tree c.in-Ok.ensures.frame c.replay_marked.ensures.frame
     (first-meant root world.files.root (start_in c.args.checked after) (start_in c.args.checked before) before (world_of after world) c.in_ok-world.ensures.root under.start (ran.runs.after refl) c.in_ok-world.ensures.control c.in_ok-world.ensures.skipped)
-    (subst (λ p. LeavesOnly (IsMarkedOrDone p other) (g.F.Tree.stops c.begin_mark.new.tree) (g.F.Tree.stops c.replay_marked.new.tree)) c.in_ok-world.ensures.root (c.replay_marked.ensures.any_moment told stands))
+    (subst (λ p. LeavesOnly (IsMarkedOrDone p other) (g.F.Tree.stops c.begin_mark.new.tree) (g.F.Tree.stops c.replay_marked.new.tree)) c.in_ok-world.ensures.root (c.replay_marked.ensures.stops told stands))
 
-pub returns-in-Err-clause-any_moment : goal.returns-in-Err-clause-any_moment
-returns-in-Err-clause-any_moment g c told =
+pub returns-in-Err-clause-stops : goal.returns-in-Err-clause-stops
+returns-in-Err-clause-stops g c told =
     let before = g.F.Tree.contents c.args.tree.now in
     let none = mark-unrefused before c.args.root.now c.args.checked (g.met.F.Tree.is_tree told c.args.tree.now) (c.requires.checked told) in
     let is = c.in_ok-paths.ensures.paths.mark in
-    begun-left g.F.Tree c.args.root.now c.in_ok-paths.paths.mark _ c.args.tree.now c.begin_mark.new.tree is (c.in-Err.ensures.any_moment told (begun-unrefused before c.args.root.now c.in_ok-paths.paths.mark is none))
+    begun-left g.F.Tree c.args.root.now c.in_ok-paths.paths.mark _ c.args.tree.now c.begin_mark.new.tree is (c.in-Err.ensures.stops told (begun-unrefused before c.args.root.now c.in_ok-paths.paths.mark is none))

@@ -55,12 +55,12 @@ returns-clause-stands g c told =
     mark-left c.args.world.files.root (g.F.Tree.contents c.replay_log.new.tree) (g.F.Tree.contents c.finish.new.tree) c.finish.result
     (still-stand c.args.world.files.root old late ran (c.requires.stand told)).mark (c.finish.ensures.stands told)
 
-pub returns-in_err-count-clause-any_moment : goal.returns-in_err-count-clause-any_moment
-returns-in_err-count-clause-any_moment g c told marked =
+pub returns-in_err-count-clause-stops : goal.returns-in_err-count-clause-stops
+returns-in_err-count-clause-stops g c told marked =
     records-left g.F.Tree c.args.world.files.root c.args.tree.now c.replay_log.new.tree c.replay_log.ensures.frame (c.replay_log.ensures.own told) marked _
 
-pub returns-clause-any_moment : goal.returns-clause-any_moment
-returns-clause-any_moment g c told marked =
+pub returns-clause-stops : goal.returns-clause-stops
+returns-clause-stops g c told marked =
     let root = c.args.world.files.root in
     let old = c.args.tree.now in
     let late = c.replay_log.new.tree in
@@ -73,7 +73,7 @@ returns-clause-any_moment g c told marked =
     let each : records_after root c.args.checked.control.relseg (records_in c.args.checked (g.F.Tree.contents old)) w ≡ Ok v
     = subst (λ n. records_after root n (records_in c.args.checked (g.F.Tree.contents old)) w ≡ Ok v) c.requires.per_file all.0 in
     let stands = records-stand g.F.Tree root old late c.replay_log.ensures.frame (c.replay_log.ensures.own told) marked in
-    let left = c.finish.ensures.any_moment told (subst (λ p. StandsMarked (mark_of p) (moment_of g.F.Tree late)) (sym same) stands) in
+    let left = c.finish.ensures.stops told (subst (λ p. StandsMarked (mark_of p) (moment_of g.F.Tree late)) (sym same) stands) in
     records-then g.F.Tree root old late c.replay_log.ensures.frame (c.replay_log.ensures.own told) marked _ (closed_or root c.timeline-tli.result count.records count.end.0 v) new c.finish.ensures.frame
     (replayed-meant root (start_in c.args.checked (g.F.Tree.contents old)) w v c.timeline-tli.result count.records count.end.0 each c.timeline-tli.ensures all.1 all.2)
     (subst (λ p. LeavesOnly (IsMarkedOrDone p (closed_or p c.timeline-tli.result count.records count.end.0 v)) (g.F.Tree.stops late) (g.F.Tree.stops new)) same left)
