@@ -1,5 +1,5 @@
 -- Each refusal of a cluster, before the first change, comes while the command looks.
-use Rattle.std.proofs.Common.{ℕ, Bool, true, false, List, [], ◌∷◌, inl, inr, refl, Option, None, Some, option_map, nat_lt, Result, Ok, Err}
+use Rattle.std.proofs.Common.{ℕ, Bool, true, false, List, [], ◌∷◌, inr, refl, Option, None, Some, option_map, nat_lt, Result, Ok, Err}
 use Rattle.std.specs.Prelude.{if◌then◌else◌, ◌==◌}
 use Rattle.std.specs.List.{list_any}
 use Rattle.backup_label.specs.Reading.{label_of}
@@ -8,14 +8,12 @@ use Rattle.backup_label.specs.declared.fault.LabelFault.TheVariants as label
 use Rattle.backup_label.specs.declared.reading.LabelPlaces.{LabelPlaces}
 use Rattle.cluster_tree.specs.Causes.{first_of, given, unless}
 use Rattle.cluster_tree.specs.Contents.{Contents}
-use Rattle.cluster_tree.specs.Marks.{MarkPaths, first_mark, mark_at, marks_of}
 use Rattle.cluster_tree.specs.PathValue.{PathValue}
 use Rattle.cluster_tree.specs.declared.tree.TreeFault.{TreeFault}
-use Rattle.clusters.specs.Marks.{unfinished, with_mark}
+use Rattle.clusters.specs.Marks.{unfinished}
 use Rattle.clusters.specs.RootControl.{control_at}
 use Rattle.clusters.specs.RootHistory.{history_at}
 use Rattle.clusters.specs.declared.fault.ClusterFault.{ClusterFault}
-use Rattle.clusters.specs.declared.fault.ClusterFault.TheVariants as cluster
 use Rattle.control_file.specs.Reading.{timeline_of}
 use Rattle.control_file.specs.declared.control.Control.{Control}
 use Rattle.replay_profile.specs.Profile.{first_outside}
@@ -25,11 +23,12 @@ use Rattle.wal_pages.specs.declared.log_path.LogPath.{LogPath}
 use Rattle.wal_records.specs.Log.{end_after}
 use Rattle.wal_records.specs.Reading.{LogRecord}
 use Rattle.replay_start.specs.Checked.{checksums_on, from_control, from_label, in_log, label_at, label_in, log_with, no_hints, start_of, with_label}
-use Rattle.replay_start.specs.Faults.{of_cluster, of_profile, told_by}
+use Rattle.replay_start.specs.Faults.{of_profile, told_by}
 use Rattle.replay_start.specs.Scanned.{ends_too_soon, is_labelled, log_refusal, unlabelled}
 use Rattle.replay_start.specs.declared.fault.ReplayFault.{ReplayFault}
 use Rattle.replay_start.specs.declared.fault.ReplayFault.TheVariants as fault
 use Rattle.run_acts.specs.Causes.{IsOfLook}
+use Rattle.cluster_causes.proofs.CauseLemmas.{cluster_looks}
 use Rattle.cmd_walreplay.specs.Walreplay.{replay_cause}
 
 -- a refusal comes while the command looks
@@ -62,36 +61,13 @@ look-none : MayLook (first_of [])
 unfolding first_of
 look-none = tt
 
-of_cluster-looks : (f : ClusterFault) → Looks (of_cluster f)
-of_cluster-looks (cluster.Unfinished path) = inr (inr refl)
-of_cluster-looks (cluster.ControlMissing root) = inr (inr refl)
-of_cluster-looks (cluster.Size root n) = inr (inr refl)
-of_cluster-looks (cluster.Crc root stored computed) = inr (inr refl)
-of_cluster-looks (cluster.Version root n) = inr (inr refl)
-of_cluster-looks (cluster.Catalog root n) = inr (inr refl)
-of_cluster-looks (cluster.Shape root field n) = inr (inr refl)
-of_cluster-looks (cluster.HistoryMissing root tli) = inr (inr refl)
-of_cluster-looks (cluster.BadLine root tli n) = inr (inr refl)
-of_cluster-looks (cluster.NotRising root tli n) = inr (inr refl)
-of_cluster-looks cluster.ReadFault = inl refl
-of_cluster-looks (cluster.Changed path) = inr (inr refl)
-of_cluster-looks cluster.OutOfMemory = inr (inl refl)
-
 told-looks : {A : Type 0} (r : Result A ClusterFault) → LooksIn (told_by r)
 told-looks (Ok v) = tt
-told-looks (Err f) = of_cluster-looks f
+told-looks (Err f) = cluster_looks f
 
-mark-looks : (o : Option PathValue) → MayLook (option_map of_cluster (option_map cluster.Unfinished o))
-mark-looks None = tt
-mark-looks (Some path) = inr (inr refl)
-
-marks-look : (marks : MarkPaths) (o : Option ℕ) → MayLook (option_map of_cluster (with_mark marks o))
-marks-look marks None = tt
-marks-look marks (Some number) = mark-looks (mark_at marks number)
-
-unfinished-looks : (c : Contents) (root : PathValue) → MayLook (option_map of_cluster (unfinished c root))
-unfolding unfinished
-unfinished-looks c root = marks-look (marks_of root) (first_mark c (marks_of root))
+marks-look : (o : Option ClusterFault) → MayLook (option_map fault.Cluster o)
+marks-look None = tt
+marks-look (Some f) = cluster_looks f
 
 profile-looks : (o : Option ProfileFault) → MayLook (option_map of_profile o)
 profile-looks None = tt
@@ -165,5 +141,5 @@ from_control-looks c root control =
 pub start-looks : (c : Contents) (root : PathValue) → LooksIn (start_of c root)
 unfolding start_of
 start-looks c root =
-    look-unless (option_map of_cluster (unfinished c root)) _ (unfinished-looks c root)
+    look-unless (option_map fault.Cluster (unfinished c root)) _ (marks-look (unfinished c root))
     (look-given (told_by (control_at c root)) _ (told-looks (control_at c root)) (λ control. from_control-looks c root control))

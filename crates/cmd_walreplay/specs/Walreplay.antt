@@ -17,29 +17,19 @@ use Rattle.run_acts.specs.Answers.{Answer, does, refused}
 use Rattle.run_acts.specs.Causes.{IsFree, IsOfLook}
 use Rattle.run_acts.specs.declared.cause.Cause.{Cause}
 use Rattle.run_acts.specs.declared.cause.Cause.TheVariants as cause
-use Rattle.run_acts.specs.declared.cause.ControlCause.TheVariants as control
-use Rattle.run_acts.specs.declared.cause.HistoryCause.TheVariants as history
 use Rattle.run_acts.specs.declared.cause.LogCause.TheVariants as logs
 use Rattle.run_acts.specs.declared.cause.PathCause.TheVariants as paths
 use Rattle.run_acts.specs.declared.cause.ReplayCause.TheVariants as replay
 use Rattle.run_acts.specs.declared.cause.RewindCause.TheVariants as unfit
+use Rattle.cluster_causes.specs.Clusters.{cluster_cause}
 
 -- the cause of a fault
 abbrev pub replay_cause : ReplayFault → Cause
-replay_cause (fault.Unfinished path) = cause.Unfinished path
-replay_cause (fault.ControlMissing root) = cause.Control (control.ControlMissing root)
-replay_cause (fault.Size root n) = cause.Control (control.Size root n)
-replay_cause (fault.Crc root stored computed) = cause.Control (control.Crc root stored computed)
-replay_cause (fault.Version root n) = cause.Control (control.Version root n)
-replay_cause (fault.Catalog root n) = cause.Control (control.Catalog root n)
-replay_cause (fault.Shape root field n) = cause.Control (control.Shape root field n)
+replay_cause (fault.Cluster e) = cluster_cause e
 replay_cause (fault.ChecksumsOn root) = cause.Replay (replay.ChecksumsOn root)
 replay_cause (fault.NoHints root) = cause.Rewind (unfit.NoHints root)
 replay_cause (fault.NoLabel root) = cause.Replay (replay.NoLabel root)
 replay_cause (fault.BadLabel root n) = cause.Replay (replay.BadLabel root n)
-replay_cause (fault.HistoryMissing root tli) = cause.History (history.HistoryMissing root tli)
-replay_cause (fault.BadLine root tli n) = cause.History (history.BadLine root tli n)
-replay_cause (fault.NotRising root tli n) = cause.History (history.NotRising root tli n)
 replay_cause (fault.BadParts at offset) = cause.Log (logs.BadParts at offset)
 replay_cause (fault.Compressed at id) = cause.Log (logs.Compressed at id)
 replay_cause (fault.NotInProfile at manager info) = cause.Replay (replay.NotInProfile at manager info)
@@ -51,10 +41,7 @@ replay_cause (fault.NotFolder path) = cause.Paths (paths.NotFolder path)
 replay_cause (fault.KindsDiffer path) = cause.Rewind (unfit.KindsDiffer path)
 replay_cause (fault.NameNotText path) = cause.Paths (paths.NameNotText path)
 replay_cause (fault.TooDeep path) = cause.Paths (paths.TooDeep path)
-replay_cause fault.ReadFault = cause.ReadFault
 replay_cause fault.WriteFault = cause.WriteFault
-replay_cause (fault.Changed path) = cause.Changed path
-replay_cause fault.OutOfMemory = cause.OutOfMemory
 
 -- what is told of a replay that is done: the number of records, where the last of them ends, and the timeline
 unfoldable pub replayed_line : (records end tli : ℕ) → List ℕ

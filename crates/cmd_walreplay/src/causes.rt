@@ -1,11 +1,13 @@
 // The faults of a replay as causes.
 ghost use Rattle.std.specs.Prelude.{◌≡◌, ◌≢◌, ◌⊎◌, IsTrue};
 ghost use Rattle.cluster_tree.specs.PathValue.{PathValue};
+ghost use Rattle.clusters.specs.declared.fault.ClusterFault.TheVariants as cluster;
 ghost use Rattle.run_acts.specs.Causes.{IsOfLook, is_deep, is_of_files};
 ghost use Rattle.cmd_walreplay.specs.Walreplay.{replay_cause};
 
+use cluster_causes::cluster_cause;
 use replay_core::ReplayFault as Fault;
-use run_acts::{Cause, ControlCause, HistoryCause, LogCause, PathCause, ReplayCause, RewindCause};
+use run_acts::{Cause, LogCause, PathCause, ReplayCause, RewindCause};
 
 /// The cause that a fault of a replay has.
 pub(crate) fn replay_cause(fault: Fault) -> Cause
@@ -13,26 +15,18 @@ pub(crate) fn replay_cause(fault: Fault) -> Cause
     ensures look { IsOfLook result ⊎ (fault ≡ Fault.WriteFault) }
     ensures files { IsTrue (is_of_files result) ⊎ IsTrue (is_deep result) ⊎
         (fault ≡ Fault.WriteFault) }
-    ensures read { result ≡ Cause.ReadFault → fault ≡ Fault.ReadFault }
+    ensures read { result ≡ Cause.ReadFault → fault ≡ Fault.Cluster cluster.ReadFault }
     ensures write { result ≡ Cause.WriteFault → fault ≡ Fault.WriteFault }
     ensures sink { result ≢ Cause.SinkFault }
-    ensures changed { (p : PathValue) → result ≡ Cause.Changed p → fault ≡ Fault.Changed p }
+    ensures changed { (p : PathValue) → result ≡ Cause.Changed p →
+        fault ≡ Fault.Cluster (cluster.Changed p) }
 {
     match fault {
-        Fault::Unfinished(path) => Cause::Unfinished(path),
-        Fault::ControlMissing(root) => Cause::Control(ControlCause::ControlMissing(root)),
-        Fault::Size(root, bytes) => Cause::Control(ControlCause::Size(root, bytes)),
-        Fault::Crc(root, stored, sum) => Cause::Control(ControlCause::Crc(root, stored, sum)),
-        Fault::Version(root, version) => Cause::Control(ControlCause::Version(root, version)),
-        Fault::Catalog(root, version) => Cause::Control(ControlCause::Catalog(root, version)),
-        Fault::Shape(root, field, n) => Cause::Control(ControlCause::Shape(root, field, n)),
+        Fault::Cluster(cause) => cluster_cause(cause),
         Fault::ChecksumsOn(root) => Cause::Replay(ReplayCause::ChecksumsOn(root)),
         Fault::NoHints(root) => Cause::Rewind(RewindCause::NoHints(root)),
         Fault::NoLabel(root) => Cause::Replay(ReplayCause::NoLabel(root)),
         Fault::BadLabel(root, line) => Cause::Replay(ReplayCause::BadLabel(root, line)),
-        Fault::HistoryMissing(root, n) => Cause::History(HistoryCause::HistoryMissing(root, n)),
-        Fault::BadLine(root, tli, n) => Cause::History(HistoryCause::BadLine(root, tli, n)),
-        Fault::NotRising(root, tli, n) => Cause::History(HistoryCause::NotRising(root, tli, n)),
         Fault::BadParts(at, offset) => Cause::Log(LogCause::BadParts(at, offset)),
         Fault::Compressed(at, id) => Cause::Log(LogCause::Compressed(at, id)),
         Fault::NotInProfile(at, n, info) => Cause::Replay(ReplayCause::NotInProfile(at, n, info)),
@@ -44,9 +38,6 @@ pub(crate) fn replay_cause(fault: Fault) -> Cause
         Fault::KindsDiffer(path) => Cause::Rewind(RewindCause::KindsDiffer(path)),
         Fault::NameNotText(path) => Cause::Paths(PathCause::NameNotText(path)),
         Fault::TooDeep(path) => Cause::Paths(PathCause::TooDeep(path)),
-        Fault::ReadFault => Cause::ReadFault,
         Fault::WriteFault => Cause::WriteFault,
-        Fault::Changed(path) => Cause::Changed(path),
-        Fault::OutOfMemory => Cause::OutOfMemory,
     }
 }

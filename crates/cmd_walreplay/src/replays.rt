@@ -20,7 +20,7 @@ use std::alloc::Global;
 /// Replays a cluster's log into its files, and tells on `out` how many records there were, where the
 /// last of them ends, and the cluster's timeline. The line takes no memory.
 ///
-/// Answers the first fault of the order of `ReplayFault`, as `replay_cause` names it. Up to
+/// Answers the first fault that `replay` tells, as `replay_cause` names it. Up to
 /// `EndsTooSoon` and the second line of a label nothing was changed; after `RedoFailed`, `MissingPage`
 /// and what an entry refuses, the mark stands, and a later run answers `Unfinished`. `ReadFault`,
 /// `WriteFault` and `SinkFault` come only where a call of that device failed, which it has counted, and
