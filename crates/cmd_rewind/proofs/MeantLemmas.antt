@@ -37,7 +37,7 @@ use Rattle.file_walk.specs.declared.fault.WalkFault.TheVariants as flaw
 use Rattle.file_walk.specs.declared.pair.Pair.{Pair}
 use Rattle.rewind_plan.specs.Checks.{first_difference}
 use Rattle.rewind_plan.specs.Room.{first_lacking}
-use Rattle.rewind_survey.specs.Faults.{of_cluster, of_walk, told_by, walked}
+use Rattle.rewind_survey.specs.Faults.{of_walk, told_by, walked}
 use Rattle.rewind_survey.specs.Fitness.{pair_points, other_sizes, systems_differ, no_hints, not_clean}
 use Rattle.rewind_survey.specs.Survey.{AtFork, OneTimeline, Parted, Parting, Survey, fork_in, from_controls, from_histories, in_log, parted, past_fork, read_from, survey_of, target_log, walked_back}
 use Rattle.rewind_survey.specs.declared.fault.RewindFault.{RewindFault}
@@ -46,6 +46,7 @@ use Rattle.rewind_core.specs.Faults.{seen, of_walk as walk_fault}
 use Rattle.rewind_core.specs.Planned.{Aim, aim_of, from_pairs, from_parting, from_size, from_survey, from_walks, pairs_refusal, planned_of}
 use Rattle.run_acts.specs.Causes.{IsOfLook}
 use Rattle.cluster_causes.specs.Rewind.{rewind_cause}
+use Rattle.cluster_causes.proofs.CauseLemmas.{cluster_looks}
 
 -- a refusal comes while the command looks
 abbrev pub IsLook : RewindFault → Type 0
@@ -71,28 +72,13 @@ looked-given (Err f) k looks rest = looks
 
 -- ---- clusters and walks over a log
 
-of_cluster-looks : (f : ClusterFault) → IsLook (of_cluster f)
-of_cluster-looks (cluster.Unfinished path) = inr (inr refl)
-of_cluster-looks (cluster.ControlMissing root) = inr (inr refl)
-of_cluster-looks (cluster.Size root n) = inr (inr refl)
-of_cluster-looks (cluster.Crc root stored computed) = inr (inr refl)
-of_cluster-looks (cluster.Version root n) = inr (inr refl)
-of_cluster-looks (cluster.Catalog root n) = inr (inr refl)
-of_cluster-looks (cluster.Shape root field n) = inr (inr refl)
-of_cluster-looks (cluster.HistoryMissing root tli) = inr (inr refl)
-of_cluster-looks (cluster.BadLine root tli n) = inr (inr refl)
-of_cluster-looks (cluster.NotRising root tli n) = inr (inr refl)
-of_cluster-looks cluster.ReadFault = inl refl
-of_cluster-looks (cluster.Changed path) = inr (inr refl)
-of_cluster-looks cluster.OutOfMemory = inr (inl refl)
-
 pub told-looks : {A : Type 0} (r : Result A ClusterFault) → Looked (told_by r)
 told-looks (Ok v) = tt
-told-looks (Err f) = of_cluster-looks f
+told-looks (Err f) = cluster_looks f
 
-pub marks-look : (o : Option ClusterFault) → MayLook (option_map of_cluster o)
+pub marks-look : (o : Option ClusterFault) → MayLook (option_map fault.Cluster o)
 marks-look None = tt
-marks-look (Some f) = of_cluster-looks f
+marks-look (Some f) = cluster_looks f
 
 of_walk-looks : (f : LogWalkFault) → IsLook (of_walk f)
 of_walk-looks (walk.LogEnds at why) = inr (inr refl)
@@ -122,7 +108,7 @@ sizes-look : (source : PathValue) (t s : Control) → MayLook (other_sizes sourc
 unfolding other_sizes
 sizes-look source t s = by (s.relseg == t.relseg)
   where
-    by : (b : Bool) → MayLook (if b then (if s.walSegSize == t.walSegSize then None else Some (fault.Shape source field.WalSegSize s.walSegSize)) else Some (fault.Shape source field.Relseg s.relseg))
+    by : (b : Bool) → MayLook (if b then (if s.walSegSize == t.walSegSize then None else Some (fault.Cluster (cluster.Shape source field.WalSegSize s.walSegSize))) else Some (fault.Cluster (cluster.Shape source field.Relseg s.relseg)))
     by true = may-if (s.walSegSize == t.walSegSize) _ (inr (inr refl))
     by false = inr (inr refl)
 
@@ -203,8 +189,8 @@ controls-look c target source t s = looked-unless (first_of (pair_points target 
 
 survey-looks : (c : Contents) (target source : PathValue) → Looked (survey_of c target source)
 survey-looks c target source =
-    looked-unless (option_map of_cluster (unfinished c target)) _ (marks-look (unfinished c target))
-    (looked-unless (option_map of_cluster (unfinished c source)) _ (marks-look (unfinished c source))
+    looked-unless (option_map fault.Cluster (unfinished c target)) _ (marks-look (unfinished c target))
+    (looked-unless (option_map fault.Cluster (unfinished c source)) _ (marks-look (unfinished c source))
     (looked-given (told_by (control_at c target)) _ (told-looks _) (λ t.
     looked-given (told_by (control_at c source)) _ (told-looks _) (λ s.
     controls-look c target source t s))))

@@ -82,7 +82,7 @@ fn check<F: Tree>(alloc: Global, tree: &mut F, words: &RewindWords, now: i64) ->
 /// changes, and a last line. With `dry_run` the three lines alone, and where nothing is to be done two
 /// lines that say so; then nothing is changed. `now` is in seconds since 1970.
 ///
-/// Answers the first fault of the order of `RewindFault`, as `rewind_cause` names it; all that, and
+/// Answers the first fault that `plan` tells, as `rewind_cause` names it; all that, and
 /// want of memory, comes before the first line. `ReadFault`, `WriteFault` and `SinkFault` come only
 /// where a call of that device failed, which it has counted, and `Changed` never where the tree tells
 /// its contents. Where a change failed the target has its mark, and a later run answers `Unfinished`;
