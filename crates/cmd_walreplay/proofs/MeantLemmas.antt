@@ -1,5 +1,5 @@
 -- Each refusal of a cluster, before the first change, comes while the command looks.
-use Rattle.std.proofs.Common.{ℕ, Bool, true, false, List, [], ◌∷◌, inl, inr, refl, Option, None, Some, option_map, nat_lt, Result, Ok, Err}
+use Rattle.std.proofs.Common.{ℕ, Bool, true, false, List, [], ◌∷◌, inr, refl, Option, None, Some, option_map, nat_lt, Result, Ok, Err}
 use Rattle.std.specs.Prelude.{if◌then◌else◌, ◌==◌}
 use Rattle.std.specs.List.{list_any}
 use Rattle.backup_label.specs.Reading.{label_of}
