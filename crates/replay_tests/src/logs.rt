@@ -1,5 +1,9 @@
 //! Logs of one record.
-use cluster_tree::{MemoryTree, Path, Tree};
+ghost use Rattle.std.specs.Prelude.{◌≤◌, length, IfOk};
+
+use crate::texts::{byte, bytes_of};
+use crate::trees::{put_file, tree_of};
+use cluster_tree::{MemoryTree, Path};
 use std::alloc::Global;
 use std::test::Fail;
 use wal_base::{Lsn, SegSize, Spans};
@@ -24,25 +28,31 @@ pub(crate) struct OneRecord<'a> {
     pub(crate) body: &'a [u8],
 }
 
-/// A tree with a log of one record.
+/// A log of one record.
 #[tactic(auto, using(wal_records::proofs::NearLemmas::ends_near))]
-fn tree_with(alloc: Global, rec: OneRecord<'_>) -> Result<MemoryTree, Fail> {
+fn writer_of(alloc: Global, rec: OneRecord<'_>) -> Result<LogWriter, Fail> {
     let size = SegSize::new(0x10_0000).ok_or("no size")?;
     let mut writer = LogWriter::new(alloc, SEGMENT, 1, SYSTEM, size)?;
     if writer.position().0 > 1 << 62 || rec.manager >= 22 {
         return Err("no such record".into());
     }
     writer.append(rec.xid, rec.info, rec.manager, rec.body)?;
-    let mut tree = MemoryTree::new(alloc);
-    tree.make_folder(&Path::parse(alloc, "log")?)?;
+    Ok(writer)
+}
+
+/// A tree with that log.
+fn tree_with(alloc: Global, rec: OneRecord<'_>) -> Result<MemoryTree, Fail> {
+    let writer = writer_of(alloc, rec)?;
     let file = Path::parse(alloc, "log/000000010000000000000001")?;
-    tree.make_file(&file)?;
-    tree.write_at(&file, 0, writer.bytes())?;
+    let mut tree = tree_of(alloc, "folder log", "")?;
+    put_file(&mut tree, &file, writer.bytes())?;
     Ok(tree)
 }
 
-/// A cursor that has read the record.
-pub(crate) fn cursor_over(alloc: Global, rec: OneRecord<'_>) -> Result<RecordCursor, Fail> {
+/// Where the log lies.
+fn path_of(alloc: Global) -> Result<LogPath, Fail>
+    ensures { IfOk result (λ log. length log.folder.parts ≤ 63) }
+{
     let path = LogPath {
         folder: Path::parse(alloc, "log")?,
         spans: Spans::one(alloc, 1)?,
@@ -52,16 +62,50 @@ pub(crate) fn cursor_over(alloc: Global, rec: OneRecord<'_>) -> Result<RecordCur
     if path.folder.len() > 63 {
         return Err("too deep".into());
     }
+    Ok(path)
+}
+
+/// A cursor that has read the record.
+pub(crate) fn cursor_over(alloc: Global, rec: OneRecord<'_>) -> Result<RecordCursor, Fail> {
     let mut tree = tree_with(alloc, rec)?;
-    let mut cursor = RecordCursor::at(alloc, path, START)?;
+    let mut cursor = RecordCursor::at(alloc, path_of(alloc)?, START)?;
     let _step = cursor.next(&mut tree)?;
     Ok(cursor)
 }
 
-/// The body of a record that has main bytes alone, at most 255.
-pub(crate) fn main_body(alloc: Global, main: &[u8]) -> Result<Vec<u8>, Fail> {
-    let size = u8::try_from(main.len())?;
-    let mut body = vec![in alloc; 255, size]?;
-    body.extend_from_slice(main)?;
-    Ok(body)
+/// A cursor that has read a record of a transaction, by its manager, its info and its body.
+pub(crate) fn cursor_by(
+    alloc: Global,
+    xid: u32,
+    manager: &str,
+    info: &str,
+    body: &str,
+) -> Result<RecordCursor, Fail> {
+    let body = bytes_of(alloc, body)?;
+    let rec = OneRecord {
+        xid,
+        manager: byte(manager)?,
+        info: byte(info)?,
+        body: &body,
+    };
+    cursor_over(alloc, rec)
+}
+
+/// A cursor that has read a record of main bytes alone, at most 255.
+pub(crate) fn main_cursor(
+    alloc: Global,
+    manager: u8,
+    info: u8,
+    digits: &str,
+) -> Result<RecordCursor, Fail> {
+    let main = bytes_of(alloc, digits)?;
+    let mut body = vec![in alloc; 255, u8::try_from(main.len())?]?;
+    body.extend_from_slice(&main)?;
+    let rec = OneRecord {
+        xid: 0,
+        manager,
+        info,
+        body: &body,
+    };
+    cursor_over(alloc, rec)
 }

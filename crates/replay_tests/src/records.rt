@@ -2,12 +2,13 @@
 mod block_rows;
 mod file_rows;
 
+ghost use Rattle.std.specs.Prelude.{IfOk};
 ghost use Rattle.block_refs.specs.Parts.{ArePartsOf};
 ghost use Rattle.storage_replay.specs.Files.{AreFit};
 
-use crate::logs::{OneRecord, cursor_over};
+use crate::logs::cursor_by;
 use crate::rows::check_left;
-use crate::texts::{byte, bytes_of, cut_at, number};
+use crate::texts::{cut_at, number};
 use block_refs::{Parts, split_record};
 use block_replay::{RecordFault, Skipped, replay_blocks};
 use cluster_tree::{Path, Tree};
@@ -68,15 +69,11 @@ fn on_files<F: Tree>(
     told(alloc, answer, &Skipped::new(alloc))
 }
 
-/// What a record answers on the cluster at a root: by its blocks, of which a file has two, or by other files, where a
-/// file has as many blocks as a server gives it.
-pub(crate) fn answer_record<F: Tree>(
-    alloc: Global,
-    tree: &mut F,
-    root: &Path,
-    kind: &str,
-    words: &str,
-) -> Result<String, Fail> {
+/// The files of the cluster at a root, of which one has so many blocks: two where blocks are asked, or as many as a server
+/// gives it.
+fn files(alloc: Global, root: &Path, kind: &str) -> Result<Files, Fail>
+    ensures { IfOk result AreFit }
+{
     let at = Files {
         root: root.copy(alloc)?,
         per_file: if kind == "blocks" { 2 } else { 131_072 },
@@ -84,24 +81,41 @@ pub(crate) fn answer_record<F: Tree>(
     if at.root.len() > 61 {
         return Err("too deep".into());
     }
+    Ok(at)
+}
+
+/// What a record answers.
+fn on_record<F: Tree>(
+    alloc: Global,
+    tree: &mut F,
+    at: &Files,
+    kind: &str,
+    words: &str,
+) -> Result<String, Fail>
+    requires fit { AreFit at.now }
+{
     let (xid, behind) = cut_at(words, " ");
     let (manager, behind) = cut_at(behind, " ");
     let (info, body) = cut_at(behind, " ");
-    let body = bytes_of(alloc, body)?;
-    let one = OneRecord {
-        xid: number(xid)?,
-        manager: byte(manager)?,
-        info: byte(info)?,
-        body: &body,
-    };
-    let cursor = cursor_over(alloc, one)?;
+    let cursor = cursor_by(alloc, number(xid)?, manager, info, body)?;
     let rec = cursor.current().ok_or("no record")?;
     let parts = split_record(rec)?;
-    if kind == "blocks" {
-        on_blocks(alloc, tree, &at, rec, &parts)
-    } else {
-        on_files(alloc, tree, &at, rec, &parts)
+    match kind {
+        "blocks" => on_blocks(alloc, tree, at, rec, &parts),
+        _ => on_files(alloc, tree, at, rec, &parts),
     }
+}
+
+/// What a record answers on the cluster at a root, by its `blocks` or by other `files`.
+pub(crate) fn answer_record<F: Tree>(
+    alloc: Global,
+    tree: &mut F,
+    root: &Path,
+    kind: &str,
+    words: &str,
+) -> Result<String, Fail> {
+    let at = files(alloc, root, kind)?;
+    on_record(alloc, tree, &at, kind, words)
 }
 
 #[test]

@@ -67,11 +67,11 @@ fn body_of(alloc: Global, blocks: &str, main: &str) -> Result<Vec<u8>, Fail> {
 
 /// What redo says of the page of a reference of a record, and what it leaves of it.
 fn redone(alloc: Global, one: OneRecord<'_>, id: u8, commands: &str) -> Result<String, Fail> {
-    let before = made(alloc, commands)?;
-    let mut page = made(alloc, commands)?;
     let cursor = cursor_over(alloc, one)?;
     let rec = cursor.current().ok_or("no record")?;
     let parts = split_record(rec)?;
+    let before = made(alloc, commands)?;
+    let mut page = made(alloc, commands)?;
     let answer = match one.manager {
         11 => redo_btree(rec, &parts, id, &mut page),
         _ => redo_heap(rec, &parts, id, &mut page),

@@ -1,38 +1,37 @@
 //! Runs the rows of texts. README.md has their forms.
 use crate::effects::effect;
 use crate::files::answer;
-use crate::logs::{OneRecord, cursor_over};
+use crate::logs::cursor_by;
 use crate::profile::{judged, measured};
 use crate::redo::redone_row;
-use crate::texts::{byte, bytes_of, cut_at};
+use crate::texts::cut_at;
 use crate::trees::{is_so, tree_of};
 use cluster_tree::MemoryTree;
 use std::alloc::Global;
 use std::process::Abort;
 use std::test::Fail;
 
-/// What is told of the record that a row has before its sign of equality.
-fn told(alloc: Global, row: &str) -> Result<String, Fail> {
-    if row.contains(" | ") {
-        return redone_row(alloc, row);
-    }
+/// What a call tells of the record behind it.
+fn told_of(alloc: Global, row: &str) -> Result<String, Fail> {
     let (call, behind) = cut_at(row, " ");
     let (manager, behind) = cut_at(behind, " ");
     let (info, behind) = cut_at(behind, " ");
     let (body, words) = cut_at(behind, " ");
-    let body = bytes_of(alloc, body)?;
-    let one = OneRecord {
-        xid: 700,
-        manager: byte(manager)?,
-        info: byte(info)?,
-        body: &body,
-    };
-    let cursor = cursor_over(alloc, one)?;
+    let cursor = cursor_by(alloc, 700, manager, info, body)?;
     let rec = cursor.current().ok_or("no record")?;
     match call {
         "judge" => judged(alloc, rec),
         "short" => measured(alloc, rec),
         _ => effect(alloc, rec, call, words),
+    }
+}
+
+/// What is told of the record that a row has before its sign of equality.
+fn told(alloc: Global, row: &str) -> Result<String, Fail> {
+    if row.contains(" | ") {
+        redone_row(alloc, row)
+    } else {
+        told_of(alloc, row)
     }
 }
 

@@ -25,7 +25,7 @@ fn put_way(alloc: Global, tree: &mut MemoryTree, path: &Path) -> Result<(), Fail
     Ok(())
 }
 
-fn put_file(tree: &mut MemoryTree, path: &Path, bytes: &[u8]) -> Result<(), TreeFault> {
+pub(crate) fn put_file(tree: &mut MemoryTree, path: &Path, bytes: &[u8]) -> Result<(), TreeFault> {
     tree.make_file(path)?;
     tree.write_at(path, 0, bytes)
 }

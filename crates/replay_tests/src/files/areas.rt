@@ -1,7 +1,7 @@
 // The calls of slru_replay, and what each answers.
 use crate::files::answers::{ended, whole};
-use crate::logs::{OneRecord, cursor_over, main_body};
-use crate::texts::{byte, bytes_of, cut_at, number};
+use crate::logs::main_cursor;
+use crate::texts::{byte, cut_at, number};
 use block_refs::split_record;
 use cluster_tree::{Path, Tree};
 use slru_replay::{Area, add_multi, cut_before, set_status, zero_page};
@@ -27,14 +27,7 @@ fn multixact<F: Tree>(
     if root.len() > 61 {
         return Err("too deep".into());
     }
-    let body = main_body(alloc, &bytes_of(alloc, digits)?)?;
-    let one = OneRecord {
-        xid: 0,
-        manager: 6,
-        info: 0x20,
-        body: &body,
-    };
-    let cursor = cursor_over(alloc, one)?;
+    let cursor = main_cursor(alloc, 6, 0x20, digits)?;
     let rec = cursor.current().ok_or("no record")?;
     let parts = split_record(rec)?;
     whole(alloc, add_multi(alloc, tree, root, rec, &parts))

@@ -1,7 +1,7 @@
 // The calls of storage_databases, and what each answers.
 use crate::files::answers::{ended, whole};
-use crate::logs::{OneRecord, cursor_over, main_body};
-use crate::texts::{bytes_of, cut_at, number};
+use crate::logs::main_cursor;
+use crate::texts::{cut_at, number};
 use block_refs::split_record;
 use cluster_tree::{Path, Tree};
 use std::alloc::Global;
@@ -13,14 +13,7 @@ fn map<F: Tree>(alloc: Global, tree: &mut F, root: &Path, digits: &str) -> Resul
     if root.len() > 61 {
         return Err("too deep".into());
     }
-    let body = main_body(alloc, &bytes_of(alloc, digits)?)?;
-    let one = OneRecord {
-        xid: 0,
-        manager: 7,
-        info: 0,
-        body: &body,
-    };
-    let cursor = cursor_over(alloc, one)?;
+    let cursor = main_cursor(alloc, 7, 0, digits)?;
     let rec = cursor.current().ok_or("no record")?;
     let parts = split_record(rec)?;
     whole(alloc, write_relation_map(alloc, tree, root, rec, &parts))

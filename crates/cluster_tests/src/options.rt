@@ -1,10 +1,10 @@
-// Options as texts.
+//! Options of resets as texts.
+use crate::texts::{cut_at, long, number};
 use reset_cleanup::ResetOptions;
 use std::test::Fail;
-use wal_base::{decimal_u32, decimal_u64};
 
 /// No option.
-pub(crate) const PLAIN: ResetOptions = ResetOptions {
+const PLAIN: ResetOptions = ResetOptions {
     commit_ts: None,
     epoch: None,
     force: None,
@@ -17,29 +17,6 @@ pub(crate) const PLAIN: ResetOptions = ResetOptions {
     xid: None,
     segment_mb: None,
 };
-
-/// What stands before a mark, and what behind it.
-pub(crate) fn cut_at<'a>(text: &'a str, mark: &str) -> (&'a str, &'a str) {
-    match text.split_once(mark) {
-        Some(parts) => parts,
-        None => (text, ""),
-    }
-}
-
-fn number(text: &str) -> Result<u32, Fail> {
-    match decimal_u32(text.as_bytes()) {
-        Some(number) => Ok(number),
-        None => Err("no number".into()),
-    }
-}
-
-/// A number below 2^64.
-pub(crate) fn long(text: &str) -> Result<u64, Fail> {
-    match decimal_u64(text.as_bytes()) {
-        Some(number) => Ok(number),
-        None => Err("no number".into()),
-    }
-}
 
 fn pair(words: &str) -> Result<(u32, u32), Fail> {
     let (first, second) = cut_at(words, " ");

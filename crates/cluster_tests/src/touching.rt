@@ -1,6 +1,9 @@
 //! Sets of blocks that records touch.
+ghost use Rattle.std.specs.Prelude.{◌≤◌, length, IfOk};
+
+use crate::trees::{put_file, tree_of};
 use block_refs::split_record;
-use cluster_tree::{MemoryTree, Path, Tree};
+use cluster_tree::{MemoryTree, Path};
 use std::alloc::Global;
 use std::test::Fail;
 use touched_blocks::Touched;
@@ -20,28 +23,39 @@ const HEAP: u8 = 10;
 /// block's number: its id, no flags, no data, and the relation's three numbers.
 const REFERENCE: [u8; 16] = [0, 0, 0, 0, 0x7F, 6, 0, 0, 5, 0, 0, 0, 1, 0x40, 0, 0];
 
-// A log of one record that references a block.
-#[tactic(auto, using(wal_records::proofs::NearLemmas::ends_near))]
-fn log_with(alloc: Global, block: u32) -> Result<MemoryTree, Fail> {
+/// The body of a record that references a block.
+fn body_of(block: u32) -> [u8; 20] {
     let mut body = [0; 20];
     body[..16].copy_from_slice(&REFERENCE);
     body[16..].copy_from_slice(&block.to_le_bytes());
+    body
+}
+
+// A log of one record that references a block.
+#[tactic(auto, using(wal_records::proofs::NearLemmas::ends_near))]
+fn writer_of(alloc: Global, block: u32) -> Result<LogWriter, Fail> {
     let size = SegSize::new(0x10_0000).ok_or("no size")?;
     let mut writer = LogWriter::new(alloc, SEGMENT, 1, 7, size)?;
     if writer.position().0 > 1 << 62 {
         return Err("no such record".into());
     }
-    writer.append(0, 0, HEAP, &body)?;
-    let mut tree = MemoryTree::new(alloc);
-    tree.make_folder(&Path::parse(alloc, "log")?)?;
+    writer.append(0, 0, HEAP, &body_of(block))?;
+    Ok(writer)
+}
+
+// A tree with that log.
+fn tree_with(alloc: Global, block: u32) -> Result<MemoryTree, Fail> {
+    let writer = writer_of(alloc, block)?;
+    let mut tree = tree_of(alloc, "d log")?;
     let file = Path::parse(alloc, "log/000000010000000000000001")?;
-    tree.make_file(&file)?;
-    tree.write_at(&file, 0, writer.bytes())?;
+    put_file(&mut tree, &file, writer.bytes())?;
     Ok(tree)
 }
 
-// A cursor that has read that record.
-fn cursor_with(alloc: Global, block: u32) -> Result<RecordCursor, Fail> {
+/// Where the log lies.
+fn path_of(alloc: Global) -> Result<LogPath, Fail>
+    ensures { IfOk result (λ log. length log.folder.parts ≤ 63) }
+{
     let log = LogPath {
         folder: Path::parse(alloc, "log")?,
         spans: Spans::one(alloc, 1)?,
@@ -51,19 +65,32 @@ fn cursor_with(alloc: Global, block: u32) -> Result<RecordCursor, Fail> {
     if log.folder.len() > 63 {
         return Err("too deep".into());
     }
-    let mut tree = log_with(alloc, block)?;
-    let mut cursor = RecordCursor::at(alloc, log, START)?;
+    Ok(log)
+}
+
+// A cursor that has read that record.
+fn cursor_with(alloc: Global, block: u32) -> Result<RecordCursor, Fail> {
+    let mut tree = tree_with(alloc, block)?;
+    let mut cursor = RecordCursor::at(alloc, path_of(alloc)?, START)?;
     let _step = cursor.next(&mut tree)?;
     Ok(cursor)
 }
 
-/// The set of these blocks of relation 16385 of database 5.
+fn add(alloc: Global, set: &mut Touched, block: u32) -> Result<(), Fail> {
+    let cursor = cursor_with(alloc, block)?;
+    let rec = cursor.current().ok_or("no record")?;
+    set.add_record(rec, &split_record(rec)?)?;
+    Ok(())
+}
+
+/// The set of these blocks of relation 16385 of database 5, none for a dash.
 pub(crate) fn touched(alloc: Global, blocks: &str) -> Result<Touched, Fail> {
     let mut set = Touched::new(alloc);
-    for block in blocks.split_whitespace() {
-        let cursor = cursor_with(alloc, block.parse()?)?;
-        let rec = cursor.current().ok_or("no record")?;
-        set.add_record(rec, &split_record(rec)?)?;
+    if blocks == "-" {
+        return Ok(set);
+    }
+    for block in blocks.split(' ') {
+        add(alloc, &mut set, block.parse()?)?;
     }
     Ok(set)
 }

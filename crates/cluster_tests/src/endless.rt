@@ -1,5 +1,6 @@
 //! Walks over a tree that tells nothing and has no end: each folder of it has one name.
-use crate::trees::fault_text;
+use crate::texts::cut_at;
+use crate::walks::fault_text;
 use cluster_tree::{Kind, Names, Path, Tree, TreeFault};
 use file_walk::walk;
 use std::alloc::Global;
@@ -71,7 +72,16 @@ impl Tree for Endless {
     }
 }
 
-// Why a walk over such a tree ends.
+/// Roots, and of how many bytes the path is that is too deep: that of 65 parts with the root's, but 64 at most. A tree that
+/// contradicts itself was changed.
+pub(crate) const ENDLESS: &str = "\
+endless folder . = TooDeep of 127
+endless folder t = TooDeep of 127
+endless folder t/u = TooDeep of 125
+endless folder /t/u/v = TooDeep of 123
+endless none t = File t/d was changed meanwhile";
+
+/// Why a walk over such a tree ends.
 fn end_of(alloc: Global, kind: Kind, root: &str) -> Result<String, Fail> {
     let mut tree = Endless { kind };
     match walk(alloc, &mut tree, &Path::parse(alloc, root)?) {
@@ -80,26 +90,16 @@ fn end_of(alloc: Global, kind: Kind, root: &str) -> Result<String, Fail> {
     }
 }
 
-/// Roots, and of how many parts the path is that is too deep: that of 65 parts with the root's, but
-/// 64 at most.
-const ROOTS: &[(&str, usize)] = &[(".", 64), ("t", 64), ("t/u", 63), ("/t/u/v", 62)];
-
-#[test]
-fn a_path_of_65_parts_is_too_deep(rt: HostRuntime) -> Result<(), Fail> {
-    for &(root, parts) in ROOTS {
-        let told = end_of(rt.alloc(), Kind::Folder, root)?;
-        let path = told
-            .as_str()
-            .strip_prefix("TooDeep d")
-            .ok_or("another fault")?;
-        assert_eq!(rt; path.len(), 2 * (parts - 1), "{root}");
+/// `folder ROOT` or `none ROOT`: why a walk ends where each path is so.
+pub(crate) fn of_endless(alloc: Global, words: &str) -> Result<String, Fail> {
+    let (kind, root) = cut_at(words, " ");
+    let kind = match kind {
+        "folder" => Kind::Folder,
+        _ => Kind::Absent,
+    };
+    let told = end_of(alloc, kind, root)?;
+    match told.as_str().strip_prefix("TooDeep ") {
+        Some(path) if path.starts_with("d") => Ok(format!(in alloc; "TooDeep of {}", path.len())?),
+        _ => Ok(told),
     }
-    Ok(())
-}
-
-#[test]
-fn a_tree_that_contradicts_itself_was_changed(rt: HostRuntime) -> Result<(), Fail> {
-    let told = end_of(rt.alloc(), Kind::Absent, "t")?;
-    assert_eq!(rt; told.as_str(), "File t/d was changed meanwhile");
-    Ok(())
 }

@@ -1,0 +1,88 @@
+//! Control files from the fields that differ: each its offset, its width, its value, and maybe its name.
+use crate::texts::{cut_at, long};
+use std::test::Fail;
+use wal_base::Crc32c;
+
+/// The fields of a cluster that was shut down on timeline 1, for surveys.
+const SURVEYED: &str = "\
+0 8 7300000000000000001 sysid, 8 4 1300 version, 12 4 202307071 catalog, 16 4 1 state, 48 4 1 \
+    cp.tli, 52 4 1 cp.prevTli, 176 1 1 walLogHints, 204 4 8 maxAlign, 208 8 4698053236609777664 \
+    floatFormat, 216 4 8192 blcksz, 220 4 131072 relseg, 224 4 8192 walBlcksz, 228 4 1048576 \
+    walSegSize";
+
+/// The sum of that file. That of another one stands in its row; they come from a script of its own (tests/pg_control.py).
+const SURVEYED_SUM: u32 = 0x9520_8C9A;
+
+/// The fields of a cluster that was shut down on timeline 1, for resets.
+const RESET: &str = "\
+0 8 7300000000000000001 sysid, 8 4 1300 version, 12 4 202307071 catalog, 16 4 1 state, 24 8 \
+    1600000000 time, 32 8 1048800 checkPoint, 40 8 1048800 cp.redo, 48 4 1 cp.tli, 52 4 1 \
+    cp.prevTli, 56 1 1 cp.fpw, 64 8 21474837181 cp.nextXid, 72 4 16385 cp.nextOid, 76 4 1 \
+    cp.nextMulti, 84 4 700 cp.oldestXid, 88 4 1 cp.oldestXidDb, 92 4 1 cp.oldestMulti, 96 4 1 \
+    cp.oldestMultiDb, 104 8 1600000000 cp.time, 112 4 11 cp.oldestCommitTs, 116 4 12 \
+    cp.newestCommitTs, 120 4 9 cp.oldestActiveXid, 128 8 77 unloggedLsn, 136 8 8738 \
+    minRecoveryPoint, 144 4 1 minRecoveryPointTli, 152 8 5 backupStart, 160 8 6 backupEnd, 168 1 1 \
+    endRequired, 172 4 2 walLevel, 176 1 1 walLogHints, 180 4 200 maxConnections, 184 4 9 \
+    maxWorkers, 188 4 11 maxSenders, 192 4 3 maxPrepared, 196 4 65 maxLocks, 200 1 1 \
+    trackCommitTs, 204 4 8 maxAlign, 208 8 4698053236609777664 floatFormat, 216 4 8192 blcksz, 220 \
+    4 131072 relseg, 224 4 8192 walBlcksz, 228 4 1048576 walSegSize, 232 4 64 nameLen, 236 4 32 \
+    indexKeys, 240 4 1996 toastChunk, 244 4 2048 loBlock, 248 1 1 float8ByVal, 252 4 0 \
+    checksumVersion";
+
+fn put(file: &mut [u8; 8192], at: usize, width: usize, value: u64) {
+    let places = file.iter_mut().skip(at).take(width);
+    for (place, byte) in places.zip(value.to_le_bytes()) {
+        *place = byte;
+    }
+}
+
+fn put_field(file: &mut [u8; 8192], field: &str) -> Result<(), Fail> {
+    let (at, behind) = cut_at(field, " ");
+    let (width, behind) = cut_at(behind, " ");
+    let (value, _name) = cut_at(behind, " ");
+    let (at, width) = (long(at)? as usize, long(width)? as usize);
+    put(file, at, width, long(value)?);
+    Ok(())
+}
+
+fn put_fields(file: &mut [u8; 8192], fields: &str) -> Result<(), Fail> {
+    for field in fields.split(", ") {
+        put_field(file, field)?;
+    }
+    Ok(())
+}
+
+/// The control file of a survey: `plain`, or `FIELD, ..: SUM`.
+pub(crate) fn surveyed(text: &str) -> Result<[u8; 8192], Fail> {
+    let mut file = [0; 8192];
+    put_fields(&mut file, SURVEYED)?;
+    put(&mut file, 288, 4, u64::from(SURVEYED_SUM));
+    if let Some((fields, sum)) = text.split_once(": ") {
+        put_fields(&mut file, fields)?;
+        put(&mut file, 288, 4, long(sum)?);
+    }
+    Ok(file)
+}
+
+/// The sum of the first bytes of some, so many.
+pub(crate) fn sum_of(bytes: &[u8], size: usize) -> u32 {
+    let mut sum = Crc32c::new();
+    sum.add(bytes.get(..size).unwrap_or(&[]));
+    sum.value()
+}
+
+/// The control file of a reset, with its sum: `plain`, or the fields that differ.
+pub(crate) fn reset(edits: &str) -> Result<[u8; 8192], Fail> {
+    let mut file = [0; 8192];
+    put_fields(&mut file, RESET)?;
+    // the nonce
+    for (place, byte) in file.iter_mut().skip(256).take(32).zip(0..=255) {
+        *place = byte;
+    }
+    if edits != "plain" {
+        put_fields(&mut file, edits)?;
+    }
+    let sum = sum_of(&file, 288);
+    put(&mut file, 288, 4, u64::from(sum));
+    Ok(file)
+}

@@ -1,0 +1,37 @@
+//! Tests of what rewinds and resets of clusters are made of: rows of texts for one driver.
+#![tactic(auto)]
+
+#[cfg(test)]
+mod controls;
+#[cfg(test)]
+mod endless;
+#[cfg(test)]
+mod faults;
+#[cfg(test)]
+mod kinds;
+#[cfg(test)]
+mod labels;
+#[cfg(test)]
+mod numbers;
+#[cfg(test)]
+mod options;
+#[cfg(test)]
+mod paths;
+#[cfg(test)]
+mod plans;
+#[cfg(test)]
+mod refusals;
+#[cfg(test)]
+mod resets;
+#[cfg(test)]
+mod rows;
+#[cfg(test)]
+mod surveys;
+#[cfg(test)]
+mod texts;
+#[cfg(test)]
+mod touching;
+#[cfg(test)]
+mod trees;
+#[cfg(test)]
+mod walks;

@@ -1,0 +1,129 @@
+//! The numbers of resets of clusters in memory. The names, positions and checksums that are wanted come
+//! from a script of its own that follows the formats (the checksum of the first 288 bytes of the control
+//! file).
+ghost use Rattle.std.specs.Prelude.{◌*◌, ◌<◌, ◌^◌};
+ghost use Rattle.wal_base.specs.Segment.{bytes_of};
+ghost use Rattle.control_file.specs.Admission.{IsControl};
+
+use crate::resets::cluster;
+use crate::controls::sum_of;
+use crate::options::options_of;
+use crate::texts::cut_at;
+use cluster_tree::{MemoryTree, Path, Tree};
+use clusters::control_at;
+use control_file::{Control, write_control};
+use reset_numbers::{ResetOptions, is_fit, is_segment, is_status, new_control, new_segment};
+use std::alloc::Global;
+use std::test::Fail;
+use wal_base::{Lsn, Segment};
+
+/// Options, the fields of the control file that differ, and files: the new segment's timeline and number, its
+/// checkpoint's place, and the checksum of the new control file.
+pub(crate) const NUMBERS: &str = "\
+numbers - | plain | NAMES = 1 4 0/400028 B40D4A1B
+numbers s 16 | plain | NAMES = 1 1 0/1000028 20409FD8
+numbers l 2 0 16 | plain | NAMES = 2 16 0/1000028 2771EE8B
+numbers l 1 0 2 | plain | NAMES = 1 4 0/400028 B40D4A1B
+numbers c 0 20 | plain | NAMES = 1 4 0/400028 EEE6DAC9
+numbers c 21 0 | plain | NAMES = 1 4 0/400028 27DCD0A5
+numbers e 7 | plain | NAMES = 1 4 0/400028 EB85D42E
+numbers x 1000 | plain | NAMES = 1 4 0/400028 58F4FD99
+numbers e 8, x 2000 | plain | NAMES = 1 4 0/400028 9CE3A02F
+numbers u 600 | plain | NAMES = 1 4 0/400028 9A2398D3
+numbers m 50 40 | plain | NAMES = 1 4 0/400028 FD7A19D0
+numbers o 20000 | plain | NAMES = 1 4 0/400028 B1E51A13
+numbers O 123 | plain | NAMES = 1 4 0/400028 12E7BF67";
+
+/// A segment that is given lies below the limit.
+pub(crate) const LIMITS: &str = "\
+numbers l 2 2147483647 4095 | plain | NAMES = 2 8796093022207 7FFFFFFF/FFF00028 C8FDECBF
+numbers l 2 0 4096 | plain | NAMES = none
+numbers l 2 2147483648 0 | plain | NAMES = none";
+
+/// The new segment is behind all others.
+pub(crate) const BEHIND: &str = "\
+numbers s 1 | 228 4 67108864, 40 8 67108904 | h t/pg_wal/000000010000000000000002 78, h t/pg_wal/x \
+    78 = 1 192 0/C000028 ED9C7A2F
+numbers - | 40 8 9437224 | NAMES = 1 10 0/A00028 56FA596F";
+
+/// Options fit unless they are faulty words.
+pub(crate) const FIT: &str = "\
+fit c 1 2 = false
+fit c 2 1 = false
+fit x 2 = false
+fit u 0 = false
+fit m 0 1 = false
+fit m 1 0 = false
+fit o 0 = false
+fit O 4294967295 = false
+fit l 1 4294967296 0 = false
+fit l 1 0 4294967296 = false
+fit s 0 = false
+fit s 3 = false
+fit s 2048 = false
+fit s 4097 = false
+fit c 0 2 = true
+fit x 3 = true
+fit u 3 = true
+fit m 1 1 = true
+fit o 1 = true
+fit O 4294967294 = true
+fit l 0 4294967295 4294967295 = true
+fit s 1 = true
+fit s 1024 = true";
+
+/// Names are told apart.
+pub(crate) const NAMES: &str = "\
+segment 0000000100000000000000AF = true
+segment 0000000100000000000000AF.partial = true
+segment 0000000100000000000000af = false
+segment 00000001.history = false
+status 0000000100000000000000AF.ready = true
+status 0000000100000000000000AF.partial.done = true
+status 00000001.history.done = false
+status 0000000100000000000000AF = false";
+
+fn numbers_of(
+    alloc: Global,
+    options: &ResetOptions,
+    old: &Control,
+    segment: Segment,
+) -> Result<String, Fail>
+    requires control { IsControl old.now }
+    requires low { segment.number * bytes_of segment.size < 2 ^ 63 }
+{
+    let at = segment.start().0.saturating_add(40);
+    let control = new_control(options, 1700000000, at, segment.size, old);
+    let mut bytes = [0; 8192];
+    write_control(&control, &mut bytes);
+    let sum = sum_of(&bytes, 288);
+    Ok(format!(in alloc; "{} {} {} {sum:08X}", segment.tli, segment.number, Lsn(at))?)
+}
+
+fn told(alloc: Global, tree: &mut MemoryTree, options: &ResetOptions) -> Result<String, Fail> {
+    let root = Path::parse(alloc, "t")?;
+    if root.len() > 61 || !is_fit(options) {
+        return Err("unfit".into());
+    }
+    let old = control_at(alloc, tree, &root)?;
+    let names = tree.list(alloc, &Path::parse(alloc, "t/pg_wal")?)?;
+    match new_segment(options, &old, &names) {
+        Some(segment) => numbers_of(alloc, options, &old, segment),
+        None => Ok(String::from_str(alloc, "none")?),
+    }
+}
+
+/// `numbers OPTIONS | CONTROL | FILES`, `fit OPTIONS`, `segment NAME` or `status NAME`.
+pub(crate) fn of_numbers(alloc: Global, verb: &str, words: &str) -> Result<String, Fail> {
+    let (options, behind) = cut_at(words, " | ");
+    match verb {
+        "numbers" => {
+            let (control, files) = cut_at(behind, " | ");
+            let mut tree = cluster(alloc, control, files)?;
+            told(alloc, &mut tree, &options_of(options)?)
+        }
+        "fit" => Ok(format!(in alloc; "{}", is_fit(&options_of(options)?))?),
+        "segment" => Ok(format!(in alloc; "{}", is_segment(words.as_bytes()))?),
+        _ => Ok(format!(in alloc; "{}", is_status(words.as_bytes()))?),
+    }
+}

@@ -1,0 +1,173 @@
+//! Each answer of a survey over trees in memory: `READ | TARGET | SOURCE | LINE, ..`, where the read of a number fails (none
+//! for 0), a control file is `none`, `plain`, `short` by a byte, or fields and a sum, and lines stand beside them.
+use crate::controls::surveyed;
+use crate::texts::{cut_at, number};
+use crate::trees::{put_all, put_file, tree_of};
+use cluster_tree::{FailPlan, FailingTree, MemoryTree, Path, Tree};
+use clusters::{Found, read_whole};
+use rewind_survey::{RewindFault, Surveyed, survey};
+use std::alloc::Global;
+use std::test::Fail;
+
+/// Two control files are fit, or refused.
+pub(crate) const CONTROLS: &str = "\
+survey 0 | plain | plain | - = nothing on one timeline
+survey 0 | 176 1 0, 252 4 1: 2352294678 | plain | - = nothing on one timeline
+survey 0 | plain | 176 1 0: 3220803754 | - = nothing on one timeline
+survey 0 | 100 1 1: 2501938330 | plain | - = the control file of t has the checksum 95208C9A and \
+    not A4E9CA92
+survey 0 | plain | 8 4 1500: 1777312656 | - = the control file of s has version 1500
+survey 0 | 12 4 202209061: 3897876793 | plain | - = the control file of t has catalog version \
+    202209061
+survey 0 | 16 4 7: 3052519196 | plain | - = the control file of t has 7 as State
+survey 0 | plain | 220 4 65536, 228 4 2097152: 2759380836 | - = the control file of s has 65536 as \
+    Relseg
+survey 0 | plain | 228 4 2097152, 0 8 7300000000000000002: 2949494289 | - = the control file of s \
+    has 2097152 as WalSegSize
+survey 0 | plain | 0 8 7300000000000000002, 16 4 4: 90921017 | - = the target is of system \
+    7300000000000000001 and the source of system 7300000000000000002
+survey 0 | 176 1 0, 16 4 4: 2403351279 | plain | - = t did not log hints
+survey 0 | 16 4 4: 2778277599 | 16 4 6: 1183704562 | - = t was not shut down cleanly: its state is 4
+survey 0 | plain | 16 4 2: 2236093785 | - = s was not shut down cleanly: its state is 2
+survey 0 | plain | 48 4 2: 2426670369 | - = s has no history of timeline 2
+survey 0 | 144 4 2: 1744931850 | 48 4 2: 2426670369 | - = nothing on one timeline";
+
+/// What the history of the source's timeline 2 says decides about a target on timeline 1 that has no log.
+pub(crate) const HISTORIES: &str = "\
+survey 0 | plain | 48 4 2: 2426670369 | d s/pg_wal, h s/pg_wal/00000002.history 780a = line 1 of \
+    the history of timeline 2 of s is no entry
+survey 0 | plain | 48 4 2: 2426670369 | d s/pg_wal, h s/pg_wal/00000002.history \
+    3109302f31300a3109302f32300a = line 2 of the history of timeline 2 of s doesn't rise
+survey 0 | plain | 48 4 2: 2426670369 | d s/pg_wal, h s/pg_wal/00000002.history 23206e6f6e650a = \
+    the histories of target and source have nothing in common
+survey 0 | plain | 48 4 2: 2426670369 | d s/pg_wal, h s/pg_wal/00000002.history \
+    3109302f3130303041300970726f6d6f7465640a = the target's log ends at 0/28: NoSegment";
+
+/// A mark of any kind is refused.
+pub(crate) const MARKS: &str = "\
+survey 0 | plain | plain | d s/pg_rewind.unfinished = an unfinished run left s/pg_rewind.unfinished
+survey 0 | plain | plain | d s/pg_rewind.unfinished, f t/pg_resetwal.unfinished 0 = an unfinished \
+    run left t/pg_resetwal.unfinished
+survey 0 | plain | plain | d s/pg_rewind.unfinished, f t/pg_resetwal.unfinished 0, f \
+    t/pg_walreplay.unfinished 0 = an unfinished run left t/pg_walreplay.unfinished";
+
+/// A control file is missing or of another size.
+pub(crate) const MISSING: &str = "\
+survey 0 | none | none | - = t has no control file
+survey 0 | plain | none | d s/global/pg_control = s has no control file
+survey 0 | short | none | - = the control file of t has 8191 bytes";
+
+/// A read that fails is told: six marks, and a size and a read for each control file.
+pub(crate) const FAILING: &str = "\
+survey 1 | plain | plain | - = a read failed
+survey 2 | plain | plain | - = a read failed
+survey 3 | plain | plain | - = a read failed
+survey 4 | plain | plain | - = a read failed
+survey 5 | plain | plain | - = a read failed
+survey 6 | plain | plain | - = a read failed
+survey 7 | plain | plain | - = a read failed
+survey 8 | plain | plain | - = a read failed
+survey 9 | plain | plain | - = a read failed
+survey 10 | plain | plain | - = a read failed
+survey 11 | plain | plain | - = nothing on one timeline";
+
+/// Files `a` of the bytes `abc` and `b` that isn't there, read as a whole.
+pub(crate) const WHOLE: &str = "\
+whole a 3 = [97, 98, 99]
+whole a 2 = Some(OtherSize(3))
+whole b 3 = Some(Missing)";
+
+// Puts the control file of a cluster.
+fn put_control(alloc: Global, tree: &mut MemoryTree, file: &str, control: &str) -> Result<(), Fail> {
+    if control == "none" {
+        return Ok(());
+    }
+    let path = Path::parse(alloc, file)?;
+    let bytes = surveyed(control)?;
+    let size = if control == "short" { 8191 } else { 8192 };
+    put_file(tree, &path, &bytes[..size])?;
+    Ok(())
+}
+
+// A target `t` and a source `s` with these control files, and lines beside them.
+fn clusters_of(
+    alloc: Global,
+    target: &str,
+    source: &str,
+    lines: &str,
+) -> Result<MemoryTree, Fail> {
+    let mut tree = tree_of(alloc, "d t, d t/global, d s, d s/global")?;
+    put_control(alloc, &mut tree, "t/global/pg_control", target)?;
+    put_control(alloc, &mut tree, "s/global/pg_control", source)?;
+    if lines != "-" {
+        put_all(alloc, &mut tree, lines)?;
+    }
+    Ok(tree)
+}
+
+fn told(alloc: Global, answer: Result<Surveyed, RewindFault>) -> Result<String, Fail> {
+    Ok(match answer {
+        Ok(Surveyed::SameTimeline) => String::from_str(alloc, "nothing on one timeline")?,
+        Ok(Surveyed::EndsAtFork(fork)) => format!(in alloc; "nothing past {fork:?}")?,
+        Ok(Surveyed::Parted(found)) => format!(in alloc; "{:?}", found.told)?,
+        Err(fault) => format!(in alloc; "{fault}")?,
+    })
+}
+
+// What the target `t` needs to follow `s`.
+fn said<F: Tree>(alloc: Global, tree: &mut F) -> Result<String, Fail> {
+    let target = Path::parse(alloc, "t")?;
+    let source = Path::parse(alloc, "s")?;
+    let target_holds = target.holds(&source);
+    let source_holds = source.holds(&target);
+    if target.len() > 61 || source.len() > 61 || target_holds || source_holds {
+        return Err("no two clusters".into());
+    }
+    told(alloc, survey(alloc, tree, &target, &source))
+}
+
+fn plan_of(read: &str) -> Result<FailPlan, Fail> {
+    match number(read)? {
+        0 => Ok(FailPlan::Never),
+        read => Ok(FailPlan::At(u64::from(read))),
+    }
+}
+
+// What a survey says, which has to leave the tree as it is.
+fn surveyed_tree(alloc: Global, tree: MemoryTree, plan: FailPlan) -> Result<String, Fail> {
+    let before = tree.changes();
+    let mut tree = FailingTree::new(tree, plan);
+    let told = said(alloc, &mut tree)?;
+    if tree.into_inner().changes() != before {
+        return Err("it was changed".into());
+    }
+    Ok(told)
+}
+
+fn whole_of(alloc: Global, tree: &mut MemoryTree, path: Path, size: u32) -> Result<String, Fail> {
+    let mut three = [0; 3];
+    let into = three.get_mut(..size as usize).ok_or("too large")?;
+    match read_whole(tree, path, into).ok() {
+        Some(Found::Filled) => Ok(format!(in alloc; "{three:?}")?),
+        other => Ok(format!(in alloc; "{other:?}")?),
+    }
+}
+
+fn whole(alloc: Global, words: &str) -> Result<String, Fail> {
+    let (file, size) = cut_at(words, " ");
+    let mut tree = tree_of(alloc, "h a 616263")?;
+    whole_of(alloc, &mut tree, Path::parse(alloc, file)?, number(size)?)
+}
+
+/// `survey READ | TARGET | SOURCE | LINE, ..`, or `whole FILE SIZE`.
+pub(crate) fn of_survey(alloc: Global, verb: &str, words: &str) -> Result<String, Fail> {
+    if verb == "whole" {
+        return whole(alloc, words);
+    }
+    let (read, behind) = cut_at(words, " | ");
+    let (target, behind) = cut_at(behind, " | ");
+    let (source, lines) = cut_at(behind, " | ");
+    let plan = plan_of(read)?;
+    let tree = clusters_of(alloc, target, source, lines)?;
+    surveyed_tree(alloc, tree, plan)
+}
