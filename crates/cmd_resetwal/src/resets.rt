@@ -1,10 +1,11 @@
 // A reset of a cluster's log.
-ghost use Rattle.std.specs.Prelude.{◌≡◌, ◌≢◌, ◌⊎◌, ℕ, Bool, [], ◌∷◌, false, true, is_some, Err, IfErr, IfOk, IsErrOf, IsTrue, MatchResult};
+ghost use Rattle.std.specs.Prelude.{◌≡◌, ◌≢◌, ◌⊎◌, ℕ, Bool, [], ◌∷◌, false, true, is_some, Err, IfErr, IfOk, IsErrOf, IsTrue, MatchResult, None, OnOk};
 ghost use Rattle.cluster_tree.specs.Causes.{Rose};
 ghost use Rattle.cluster_tree.specs.Frame.{Came, Reads, moment_of};
 ghost use Rattle.cluster_tree.specs.PathValue.{PathValue};
 ghost use Rattle.cluster_tree.specs.Stops.{LeavesOnly};
 ghost use Rattle.commands.specs.Fit.{IsFitResetwal};
+ghost use Rattle.marked_runs.specs.Moments.{StandsSynced};
 ghost use Rattle.acts.specs.Acts.{Print, Sunk, seen, sunk};
 ghost use Rattle.run_acts.specs.Answers.{Blames, Carries, does, refused};
 ghost use Rattle.run_acts.specs.Causes.{IsFree, IsOfLook, cause_of, is_of_files};
@@ -106,6 +107,8 @@ fn reset<F: Tree, O: Sink>(
     ensures stops { IsTrue F.tells → LeavesOnly
         (IsLeftByReset words.now now (moment_of F.Tree tree.old)) (F.stops tree.old)
         (F.stops tree.new) }
+    ensures synced { IsTrue F.tells → words.now.options.dry ≡ None → OnOk result
+        (StandsSynced (F.contents tree.new) (moment_of F.Tree tree.new)) }
     ensures only { IfErr result (λ e. IsTrue (is_of_files e) ⊎ (e ≡ Cause.WriteFault)) }
     ensures changed { IsTrue F.tells → (p : PathValue) → result ≢ Err (Cause.Changed p) }
     ensures frame { Came F.Tree tree.old tree.new }
@@ -145,10 +148,12 @@ pub fn resetwal<F: Tree, O: Sink>(
         (sunk (O.written out.old) (O.failed_writes out.old)) err)
         (seen (F.contents tree.new) (F.calls tree.new)
         (sunk (O.written out.new) (O.failed_writes out.new)) err) }
-    // a stop at any moment leaves the files untouched, marked or reset
+    // a stop at any moment leaves the files untouched, marked or reset; once they are reset, what stands
     ensures stops { IsTrue F.tells → LeavesOnly
         (IsLeftByReset words.now now (moment_of F.Tree tree.old)) (F.stops tree.old)
         (F.stops tree.new) }
+    ensures synced { IsTrue F.tells → words.now.options.dry ≡ None → OnOk result
+        (StandsSynced (F.contents tree.new) (moment_of F.Tree tree.new)) }
     ensures blames { (n : ℕ) → Blames (cause_of result)
         (F.failed_reads tree.old) (F.failed_reads tree.new)
         (F.failed_changes tree.old) (F.failed_changes tree.new)

@@ -172,7 +172,7 @@ after-reset c d root options now reset control tree dry meant told size left =
       others = λ p off off_control off_new. at.others p off (λ e. off_control (e ∙ sym (control_path-is root))) off_new;
     })
 
-not_dry : (c : Contents) (root : PathValue) (options : ResetOptions) (now : ℤ) (p : Prepared) → IsTree c → options.dry ≡ None → reset_of c root options now ≡ Ok (reset_by p) → IsDry p → ⊥
+pub not_dry : (c : Contents) (root : PathValue) (options : ResetOptions) (now : ℤ) (p : Prepared) → IsTree c → options.dry ≡ None → reset_of c root options now ≡ Ok (reset_by p) → IsDry p → ⊥
 not_dry c root options now p tree dry meant is =
     let s = seen c root options now (reset_by p) meant in
     let control = control_after options now s.segment s.old in

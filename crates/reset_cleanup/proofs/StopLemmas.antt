@@ -1,5 +1,5 @@
 -- What a stop at any moment of a reset may leave, part by part.
-use Rattle.std.proofs.Common.{◌≡◌, ◌∙◌, ◌++◌, ℤ, IsTrue, List, false, true, length, codes, None, refl, sym, ap, subst, inl, inr, ⊎_elim, Ok, Err}
+use Rattle.std.proofs.Common.{◌≡◌, ◌∙◌, ◌++◌, ℤ, IsTrue, List, false, true, length, codes, None, OnOk, refl, sym, ap, subst, inl, inr, ⊎_elim, Result, Ok, Err}
 use Rattle.std.specs.FinMap.{remove}
 use Rattle.std.specs.List.{list_any}
 use Rattle.cluster_tree.specs.Change.{Change, all_changed, first_refusal, is_on}
@@ -15,7 +15,7 @@ use Rattle.cluster_tree.proofs.RunLemmas.{course_of}
 use Rattle.control_file.specs.Writing.{control_bytes}
 use Rattle.control_file.specs.declared.control.Control.{Control}
 use Rattle.marked_runs.specs.Carried.{Carries}
-use Rattle.marked_runs.specs.Moments.{IsBegun, IsEnded, IsMarked, IsUntouched, StandsMarked}
+use Rattle.marked_runs.specs.Moments.{IsBegun, IsEnded, IsMarked, IsUntouched, StandsMarked, StandsSynced}
 use Rattle.marked_runs.specs.Performed.{Performs}
 use Rattle.marked_runs.specs.Runs.{begun, ended}
 use Rattle.marked_runs.specs.declared.faults.PerformFault.{PerformFault}
@@ -48,6 +48,31 @@ module _ {F : Type 0} (tree : Ghosts F) (mark : PathValue) (body : List Change) 
       leaves_on P (moment_of tree a) (moment_of tree b) (moment_of tree d) (course_of tree a b came) (course_of tree b d more)
       (leaves_weaker (IsMarked mark) P (tree.stops a) (tree.stops b) (λ c m. inl m) (body-left mark body (moment_of tree a) (moment_of tree b) true stands (course_of tree a b came) ran off))
       (leaves_weaker (IsEnded mark (remove (tree.contents b) mark)) P (tree.stops b) (tree.stops d) (λ c. ⊎_elim (λ m. inl m) (λ e. inr (e ∙ all))) (left (body-stands mark body (moment_of tree a) (moment_of tree b) true stands (course_of tree a b came) ran off)))
+
+-- ---- once they are done, a stop leaves what stands
+
+standing : (synced : Contents) (moment : Moment) (r : Result (Unit {0}) PerformFault) → OnOk r (StandsSynced synced moment) → OnOk r (StandsSynced moment.state.contents moment)
+standing synced moment (Ok u) stands = record { now = refl; left = λ c image. stands.left c image ∙ sym stands.now }
+standing synced moment (Err e) stands = tt
+
+pub body-synced : {F : Type 0} (tree : Ghosts F) (mark : PathValue) (body : List Change) (told : IsTrue tree.tells) (a b d : F) (u : Unit {0}) (r : Result (Unit {0}) PerformFault)
+    → first_refusal (tree.contents a) (body ++ ended mark) ≡ None → Performs tree body a b (Ok u)
+    → (first_refusal (tree.contents b) (ended mark) ≡ None → OnOk r (StandsSynced (remove (tree.contents b) mark) (moment_of tree d))) → OnOk r (StandsSynced (tree.contents d) (moment_of tree d))
+body-synced tree mark body told a b d u r none performs synced =
+    let two = both_unrefused (tree.contents a) body (ended mark) none in
+    let after : tree.contents b ≡ all_changed (tree.contents a) body = (performs told two.0).runs.after refl in
+    standing (remove (tree.contents b) mark) (moment_of tree d) r (synced (ap (λ c. first_refusal c (ended mark)) after ∙ two.1))
+
+-- what holds where the rest isn't refused behind the mark
+pub plan-synced : {F : Type 0} (tree : Ghosts F) (plan : Plan) (told : IsTrue tree.tells) (a b : F) (u : Unit {0}) (P : Type 0)
+    → first_refusal (tree.contents a) (plan_changes plan) ≡ None → Carries tree (begun plan.mark (codes "pg_resetwal 1\n")) a b (Ok u)
+    → (first_refusal (tree.contents b) (body_changes plan.body ++ ended plan.mark) ≡ None → P) → P
+plan-synced tree plan told a b u P none carries held =
+    let first = begun plan.mark (codes "pg_resetwal 1\n") in
+    let rest = body_changes plan.body ++ ended plan.mark in
+    let two = both_unrefused (tree.contents a) first rest none in
+    let after : tree.contents b ≡ all_changed (tree.contents a) first = (carries told two.0).runs.after refl in
+    held (ap (λ c. first_refusal c rest) after ∙ two.1)
 
 -- ---- before them the mark
 
@@ -92,6 +117,9 @@ pub ready-left : {F : Type 0} (tree : Ghosts F) (p : Prepared) (plan : Plan) (a 
     → first_refusal (tree.contents a) (reset_by p).changes ≡ None → IsOffMark p → LeavesOnly (IsPreparedLeft p (moment_of tree a)) (tree.stops a) (tree.stops b)
 ready-left tree p plan a b is left =
     subst (λ (q : Prepared). first_refusal (tree.contents a) (reset_by q).changes ≡ None → IsOffMark q → LeavesOnly (IsPreparedLeft q (moment_of tree a)) (tree.stops a) (tree.stops b)) (sym is) left
+
+pub ready-synced : (P : Type 0) (c : Contents) (p : Prepared) (plan : Plan) → p ≡ Ready plan → (first_refusal c (plan_changes plan) ≡ None → P) → first_refusal c (reset_by p).changes ≡ None → P
+ready-synced P c p plan is held = subst (λ (q : Prepared). first_refusal c (reset_by q).changes ≡ None → P) (sym is) held
 
 -- ---- and what is meant
 

@@ -8,7 +8,7 @@ ghost use Rattle.cluster_tree.specs.Frame.{Came, moment_of};
 ghost use Rattle.cluster_tree.specs.Stops.{LeavesOnly};
 ghost use Rattle.control_file.specs.Admission.{IsControl};
 ghost use Rattle.control_file.specs.Writing.{control_bytes};
-ghost use Rattle.marked_runs.specs.Moments.{IsEnded, StandsMarked};
+ghost use Rattle.marked_runs.specs.Moments.{IsEnded, StandsMarked, StandsSynced};
 ghost use Rattle.marked_runs.specs.Performed.{Performs};
 ghost use Rattle.marked_runs.specs.Runs.{ended};
 ghost use Rattle.reset_plan.specs.Plan.{body_changes, files_changes, padded, plan_changes};
@@ -155,6 +155,8 @@ fn unmark<F: Tree>(tree: &mut F, mark: Path) -> Result<(), PerformFault>
     ensures stops { IsTrue F.tells → StandsMarked mark (moment_of F.Tree tree.old) →
         LeavesOnly (IsEnded mark (remove (F.contents tree.old) mark)) (F.stops tree.old)
         (F.stops tree.new) }
+    ensures synced { IsTrue F.tells → first_refusal (F.contents tree.old) (ended mark) ≡ None →
+        OnOk result (StandsSynced (remove (F.contents tree.old) mark) (moment_of F.Tree tree.new)) }
     ensures frame { Came F.Tree tree.old tree.new }
     ensures read_fault { result ≢ Err PerformFault.ReadFault }
     ensures write_fault { IsErrOf result PerformFault.WriteFault →
@@ -176,6 +178,9 @@ fn put_marked<F: Tree>(tree: &mut F, mark: Path, body: Body) -> Result<(), Perfo
         StandsMarked mark (moment_of F.Tree tree.old) → LeavesOnly (IsEnded mark
         (all_changed (F.contents tree.old) (body_changes body ++ ended mark)))
         (F.stops tree.old) (F.stops tree.new) }
+    ensures synced { IsTrue F.tells →
+        first_refusal (F.contents tree.old) (body_changes body ++ ended mark) ≡ None →
+        OnOk result (StandsSynced (F.contents tree.new) (moment_of F.Tree tree.new)) }
     ensures size { length (control_bytes body.control) ≡ 8192 }
     ensures frame { Came F.Tree tree.old tree.new }
     ensures read_fault { result ≢ Err PerformFault.ReadFault }
@@ -194,11 +199,13 @@ fn put_marked<F: Tree>(tree: &mut F, mark: Path, body: Body) -> Result<(), Perfo
 pub(crate) fn perform<F: Tree>(tree: &mut F, plan: Plan) -> Result<(), PerformFault>
     requires { IsControl plan.body.control }
     ensures performs { Performs F.Tree (plan_changes plan) tree.old tree.new result }
-    // a stop leaves all untouched, the mark, or all that was to be
+    // a stop leaves all untouched, the mark, or all that was to be; once all is done, what stands
     ensures stops { IsTrue F.tells → first_refusal (F.contents tree.old) (plan_changes plan) ≡ None →
         list_any (is_on plan.mark) (body_changes plan.body) ≡ false →
         LeavesOnly (IsPerformed plan (moment_of F.Tree tree.old)) (F.stops tree.old)
         (F.stops tree.new) }
+    ensures synced { IsTrue F.tells → first_refusal (F.contents tree.old) (plan_changes plan) ≡ None →
+        OnOk result (StandsSynced (F.contents tree.new) (moment_of F.Tree tree.new)) }
     ensures size { OnOk result (length (control_bytes plan.body.control) ≡ 8192) }
     ensures frame { Came F.Tree tree.old tree.new }
     ensures read_fault { result ≢ Err PerformFault.ReadFault }

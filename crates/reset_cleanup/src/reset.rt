@@ -8,6 +8,7 @@ ghost use Rattle.cluster_tree.specs.PathValue.{PathValue};
 ghost use Rattle.cluster_tree.specs.Stops.{LeavesOnly};
 ghost use Rattle.control_file.specs.Admission.{IsControl};
 ghost use Rattle.control_file.specs.Writing.{control_bytes};
+ghost use Rattle.marked_runs.specs.Moments.{StandsSynced};
 ghost use Rattle.marked_runs.specs.Runs.{Runs};
 ghost use Rattle.reset_numbers.specs.Options.{IsFit};
 ghost use Rattle.reset_plan.specs.Plan.{body_changes, plan_changes};
@@ -53,6 +54,8 @@ fn carry_out<F: Tree>(tree: &mut F, plan: Plan) -> Result<Control, ResetFault>
         list_any (is_on plan.mark) (body_changes plan.body) ≡ false →
         LeavesOnly (IsPerformed plan (moment_of F.Tree tree.old)) (F.stops tree.old)
         (F.stops tree.new) }
+    ensures synced { IsTrue F.tells → first_refusal (F.contents tree.old) (plan_changes plan) ≡ None →
+        OnOk result (StandsSynced (F.contents tree.new) (moment_of F.Tree tree.new)) }
     ensures frame { Came F.Tree tree.old tree.new }
     ensures write_fault { IsErrOf result ResetFault.WriteFault →
         Rose (F.failed_changes tree.old) (F.failed_changes tree.new) }
@@ -82,6 +85,10 @@ fn reset_prepared<F: Tree>(tree: &mut F, prepared: Prepared) -> Result<Control, 
         first_refusal (F.contents tree.old) (reset_by prepared).changes ≡ None →
         IsOffMark prepared → LeavesOnly (IsPreparedLeft prepared (moment_of F.Tree tree.old))
         (F.stops tree.old) (F.stops tree.new) }
+    ensures synced { IsTrue F.tells →
+        first_refusal (F.contents tree.old) (reset_by prepared).changes ≡ None →
+        (IsDry prepared → ⊥) →
+        OnOk result (StandsSynced (F.contents tree.new) (moment_of F.Tree tree.new)) }
     ensures dry { IsDry prepared → Reads F.Tree tree.old tree.new }
     ensures frame { Came F.Tree tree.old tree.new }
     ensures write_fault { IsErrOf result ResetFault.WriteFault →
@@ -132,6 +139,9 @@ pub fn reset_log<F: Tree>(
     ensures stops { IsTrue F.tells → LeavesOnly
         (IsLeft root.now options.now now (moment_of F.Tree tree.old)) (F.stops tree.old)
         (F.stops tree.new) }
+    // and once it is done, it leaves what stands
+    ensures synced { IsTrue F.tells → options.now.dry ≡ None → OnOk result
+        (StandsSynced (F.contents tree.new) (moment_of F.Tree tree.new)) }
 
     // a refusal and want of memory come before the first change
     ensures unchanged { IfErr result (λ e. e ≢ ResetFault.WriteFault →

@@ -2,7 +2,7 @@ use Rattle.std.proofs.Common.{◌++◌, ap, codes, Err}
 use Rattle.marked_runs.specs.Runs.{begun, ended}
 use Rattle.reset_plan.specs.Plan.{body_changes}
 use Rattle.marked_runs.proofs.CarriedLemmas.{performs-broken, performs-done, performs-front, performs-then}
-use Rattle.reset_cleanup.proofs.StopLemmas.{plan-broken, plan-left}
+use Rattle.reset_cleanup.proofs.StopLemmas.{plan-broken, plan-left, plan-synced}
 use Rattle.reset_cleanup.proofs.performing.perform.Goals as goal
 
 pub returns-in-Ok-clause-performs : goal.returns-in-Ok-clause-performs
@@ -22,3 +22,6 @@ returns-in-Ok-clause-stops g c told none off =
 
 pub returns-in-Err-clause-stops : goal.returns-in-Err-clause-stops
 returns-in-Err-clause-stops g c told none off = plan-broken g.F.Tree c.args.plan told _ _ none (c.begin.ensures.any_moment told)
+
+pub returns-in-Ok-clause-synced : goal.returns-in-Ok-clause-synced
+returns-in-Ok-clause-synced g c told none = plan-synced g.F.Tree c.args.plan told _ _ _ _ none c.in-Ok.ensures.carries (c.put_marked.ensures.synced told)

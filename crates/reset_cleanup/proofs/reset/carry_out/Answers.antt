@@ -29,3 +29,6 @@ returns-in-Ok-clause-stops g c told none off = c.perform.ensures.stops told none
 
 pub returns-in-Err-clause-stops : goal.returns-in-Err-clause-stops
 returns-in-Err-clause-stops g c told none off = c.perform.ensures.stops told none off
+
+pub returns-in-Ok-clause-synced : goal.returns-in-Ok-clause-synced
+returns-in-Ok-clause-synced g c told none = c.in-Ok.ensures.synced told none

@@ -4,7 +4,7 @@ use Rattle.cluster_tree.specs.Frame.{moment_of}
 use Rattle.reset_plan.specs.ResetFaults.{IsFree}
 use Rattle.reset_plan.specs.Prepared.{IsOfNames, reset_by}
 use Rattle.reset_plan.specs.Reset.{control_told, reset_of}
-use Rattle.reset_cleanup.proofs.MeantLemmas.{after-prepared, unrefused-by}
+use Rattle.reset_cleanup.proofs.MeantLemmas.{after-prepared, not_dry, unrefused-by}
 use Rattle.reset_cleanup.proofs.ResetLemmas.{control-by, err-not_read, forms-of, meets-of, no-write, only-change, only-of, refused-told, runs-broken, runs-from, told-at}
 use Rattle.reset_cleanup.specs.Stopping.{IsLeft}
 use Rattle.reset_cleanup.proofs.StopLemmas.{meant-left, off-mark, reads-leave}
@@ -91,3 +91,13 @@ returns-in-Ok-clause-stops g c told =
 
 pub returns-in-Err-clause-stops : goal.returns-in-Err-clause-stops
 returns-in-Err-clause-stops g c told = reads-leave g.F.Tree (IsLeft c.args.root.now c.args.options.now c.args.now (moment_of g.F.Tree c.args.tree.now)) _ _ c.prepare.ensures.reads (λ x untouched. inl untouched)
+
+pub returns-in-Ok-clause-synced : goal.returns-in-Ok-clause-synced
+returns-in-Ok-clause-synced g c told dry =
+    let tree = g.met.F.Tree.is_tree told c.args.tree.now in
+    let fits : FitsSigned w64 c.args.now = search rules in
+    let same = to_z-of_z w64 c.args.now fits in
+    let meant = told-at (g.F.Tree.contents c.args.tree.now) c.args.root.now c.args.options.now _ c.args.now _ same (c.in-Ok.ensures.exact told) in
+    c.reset_prepared.ensures.synced told
+    (unrefused-by _ _ c.args.root.now c.args.options.now c.args.now c.in-Ok.prepared tree meant c.prepare.ensures.reads.same)
+    (not_dry (g.F.Tree.contents c.args.tree.now) c.args.root.now c.args.options.now c.args.now c.in-Ok.prepared tree dry meant)

@@ -1,9 +1,9 @@
 use Rattle.std.proofs.Common.{subst, sym, true}
 use Rattle.marked_runs.specs.Runs.{Runs}
-use Rattle.reset_plan.specs.Prepared.{reset_by}
+use Rattle.reset_plan.specs.Prepared.{IsDry, reset_by}
 use Rattle.reset_plan.specs.declared.plan.Prepared.{Prepared}
 use Rattle.reset_cleanup.proofs.ResetLemmas.{runs-nothing}
-use Rattle.reset_cleanup.proofs.StopLemmas.{dry-left, ready-left}
+use Rattle.reset_cleanup.proofs.StopLemmas.{dry-left, ready-left, ready-synced}
 use Rattle.reset_cleanup.proofs.reset.reset_prepared.Goals as goal
 
 pub returns-in-Dry-clause-runs : goal.returns-in-Dry-clause-runs
@@ -17,3 +17,9 @@ returns-in-Dry-clause-stops g c told none off = dry-left g.F.Tree c.args.prepare
 
 pub returns-in-Ready-clause-stops : goal.returns-in-Ready-clause-stops
 returns-in-Ready-clause-stops g c told = ready-left g.F.Tree c.args.prepared c.in-Ready.plan _ _ c.in-Ready.is (c.carry_out.ensures.stops told)
+
+pub returns-in-Dry-clause-synced : goal.returns-in-Dry-clause-synced
+returns-in-Dry-clause-synced g c told none wet = absurd (wet (subst IsDry (sym c.in-Dry.is) tt))
+
+pub returns-in-Ready-clause-synced : goal.returns-in-Ready-clause-synced
+returns-in-Ready-clause-synced g c told none wet = ready-synced _ _ c.args.prepared c.in-Ready.plan c.in-Ready.is (c.carry_out.ensures.synced told) none
