@@ -15,9 +15,10 @@ use Rattle.control_file.specs.declared.control.Control.{Control}
 use Rattle.replay_profile.specs.Profile.{first_outside}
 use Rattle.replay_profile.specs.declared.fault.ProfileFault.{ProfileFault}
 use Rattle.replay_start.specs.Checked.{Start, checksums_on, from_control, from_label, in_log, label_at, log_with, no_hints, start_of}
-use Rattle.replay_start.specs.Faults.{of_cluster, of_profile, told_by}
+use Rattle.replay_start.specs.Faults.{of_profile, told_by}
 use Rattle.replay_start.specs.Scanned.{log_refusal}
 use Rattle.replay_start.specs.declared.fault.ReplayFault.{ReplayFault}
+use Rattle.replay_start.specs.declared.fault.ReplayFault.TheVariants as fault
 use Rattle.wal_base.specs.Segment.{bytes_of}
 use Rattle.wal_base.specs.SizeOfBytes.{size_of_bytes}
 use Rattle.wal_base.specs.declared.seg_size.SegSize.{SegSize}
@@ -90,6 +91,6 @@ module _ (c : Contents) (root : PathValue) (start : Start) (holds : HoldsBytes c
   pub start-taken : start_of c root ≡ Ok start → Taken start
   unfolding start_of
   start-taken e =
-      let read = not-refused (option_map of_cluster (unfinished c root)) (given (told_by (control_at c root)) (from_control c root)) start e in
+      let read = not-refused (option_map fault.Cluster (unfinished c root)) (given (told_by (control_at c root)) (from_control c root)) start e in
       let control = given-ok (told_by (control_at c root)) (from_control c root) start read.1 in
       control_taken control.0 control.2
