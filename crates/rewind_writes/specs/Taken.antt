@@ -1,12 +1,12 @@
 -- What steps do to a tree that holds what they read. Own: "The plan of a rewind".
-use Rattle.std.specs.Prelude.{◌≡◌, false, IsTrue, List, [], ◌∷◌, ◌++◌, None, Result}
+use Rattle.std.specs.Prelude.{◌≡◌, false, IsTrue, List, [], ◌∷◌, ◌++◌, None, OnOk, Result}
 use Rattle.std.specs.List.{list_any}
 use Rattle.cluster_tree.specs.Change.{all_changed, first_refusal, is_on}
 use Rattle.cluster_tree.specs.Contents.{Contents, entry_at}
 use Rattle.cluster_tree.specs.Frame.{moment_of}
 use Rattle.cluster_tree.specs.Stops.{LeavesOnly}
 use Rattle.cluster_tree.specs.declared.tree.Tree.{Ghosts}
-use Rattle.marked_runs.specs.Moments.{IsEnded, StandsMarked}
+use Rattle.marked_runs.specs.Moments.{IsEnded, StandsMarked, StandsSynced}
 use Rattle.marked_runs.specs.Performed.{Performs}
 use Rattle.marked_runs.specs.Runs.{ended}
 use Rattle.marked_runs.specs.declared.faults.PerformFault.{PerformFault}
@@ -57,3 +57,10 @@ EndsMarked tree c plan old new =
     → first_refusal (tree.contents old) (body_changes c plan ++ ended plan.mark) ≡ None → list_any (is_on plan.mark) (body_changes c plan) ≡ false
     → StandsMarked plan.mark (moment_of tree old)
     → LeavesOnly (IsEnded plan.mark (all_changed (tree.contents old) (body_changes c plan ++ ended plan.mark))) (tree.stops old) (tree.stops new)
+
+-- and once all are done, whatever they are on, a stop leaves what stands
+abbrev pub SyncsMarked : {F : Type 0} → Ghosts F → Contents → Plan → F → F → Result (Unit {0}) PerformFault → Type 0
+SyncsMarked tree c plan old new result =
+    IsTrue tree.tells → FindAll c (body_changes c plan ++ ended plan.mark) plan.steps.items → AllAreAsFound c (tree.contents old) plan.steps.items
+    → first_refusal (tree.contents old) (body_changes c plan ++ ended plan.mark) ≡ None
+    → OnOk result (StandsSynced (tree.contents new) (moment_of tree new))

@@ -1,5 +1,5 @@
 // A rewind that was planned, carried out under its mark.
-ghost use Rattle.std.specs.Prelude.{◌≡◌, ◌≢◌, [], ◌∷◌, Err, false, IsErrOf, IsTrue, None};
+ghost use Rattle.std.specs.Prelude.{◌≡◌, ◌≢◌, [], ◌∷◌, Err, false, IsErrOf, IsTrue, None, OnOk};
 ghost use Rattle.std.specs.FinMap.{remove};
 ghost use Rattle.std.specs.List.{list_any};
 ghost use Rattle.cluster_tree.specs.Causes.{Rose};
@@ -7,12 +7,12 @@ ghost use Rattle.cluster_tree.specs.Change.{MakesFile, Writes, all_changed, firs
 ghost use Rattle.cluster_tree.specs.Contents.{Contents};
 ghost use Rattle.cluster_tree.specs.Frame.{Came, moment_of};
 ghost use Rattle.cluster_tree.specs.Stops.{LeavesOnly};
-ghost use Rattle.marked_runs.specs.Moments.{IsEnded, IsSafe, StandsMarked};
+ghost use Rattle.marked_runs.specs.Moments.{IsEnded, IsSafe, StandsMarked, StandsSynced};
 ghost use Rattle.marked_runs.specs.Performed.{Performs};
 ghost use Rattle.marked_runs.specs.Runs.{ended};
 ghost use Rattle.rewind_writes.specs.Plan.{IsFound, body_changes, closing_changes, plan_changes};
 ghost use Rattle.rewind_writes.specs.Steps.{AllAreFit};
-ghost use Rattle.rewind_writes.specs.Taken.{EndsMarked, TakesBody, TakesMarked};
+ghost use Rattle.rewind_writes.specs.Taken.{EndsMarked, SyncsMarked, TakesBody, TakesMarked};
 
 use crate::Step;
 use crate::stepping::take_all;
@@ -96,6 +96,8 @@ fn unmark<F: Tree>(tree: &mut F, mark: Path) -> Result<(), PerformFault>
     ensures performs { Performs F.Tree (ended mark) tree.old tree.new result }
     ensures stops { IsTrue F.tells → StandsMarked mark (moment_of F.Tree tree.old) → LeavesOnly
         (IsEnded mark (remove (F.contents tree.old) mark)) (F.stops tree.old) (F.stops tree.new) }
+    ensures synced { IsTrue F.tells → first_refusal (F.contents tree.old) (ended mark) ≡ None →
+        OnOk result (StandsSynced (remove (F.contents tree.old) mark) (moment_of F.Tree tree.new)) }
     ensures frame { Came F.Tree tree.old tree.new }
     ensures read_fault { result ≢ Err PerformFault.ReadFault }
     ensures write_fault { IsErrOf result PerformFault.WriteFault →
@@ -134,6 +136,7 @@ fn perform_marked<F: Tree>(tree: &mut F, plan: Plan) -> Result<(), PerformFault>
     requires fit { AllAreFit plan.steps.items }
     ensures takes { (c : Contents) → TakesMarked F.Tree c plan tree.old tree.new result }
     ensures stops { (c : Contents) → EndsMarked F.Tree c plan tree.old tree.new }
+    ensures synced { (c : Contents) → SyncsMarked F.Tree c plan tree.old tree.new result }
     ensures frame { Came F.Tree tree.old tree.new }
     ensures read_fault { IsErrOf result PerformFault.ReadFault →
         Rose (F.failed_reads tree.old) (F.failed_reads tree.new) }
@@ -159,7 +162,8 @@ fn perform_marked<F: Tree>(tree: &mut F, plan: Plan) -> Result<(), PerformFault>
 /// the tree has counted, and `Changed` never where the tree tells, holds what the steps read, and would
 /// refuse none of the changes in its turn: then these changes ran, all of them where it is done, else
 /// the first ones, of the last perhaps a part. Where none of them but those of the mark is on it, a stop
-/// at any moment leaves what one could have left at the start, the mark, or all that was to be.
+/// at any moment leaves what one could have left at the start, the mark, or all that was to be. Once it
+/// is done, a stop leaves what stands.
 pub fn perform<F: Tree>(tree: &mut F, plan: Plan) -> Result<(), PerformFault>
     requires fit { AllAreFit plan.steps.items }
     ensures performs { IsFound (F.contents tree.old) plan →
@@ -170,6 +174,9 @@ pub fn perform<F: Tree>(tree: &mut F, plan: Plan) -> Result<(), PerformFault>
         (IsSafe plan.mark (moment_of F.Tree tree.old)
         (all_changed (F.contents tree.old) (plan_changes (F.contents tree.old) plan)))
         (F.stops tree.old) (F.stops tree.new) }
+    ensures synced { IsTrue F.tells → IsFound (F.contents tree.old) plan →
+        first_refusal (F.contents tree.old) (plan_changes (F.contents tree.old) plan) ≡ None →
+        OnOk result (StandsSynced (F.contents tree.new) (moment_of F.Tree tree.new)) }
     ensures frame { Came F.Tree tree.old tree.new }
     ensures read_fault { IsErrOf result PerformFault.ReadFault →
         Rose (F.failed_reads tree.old) (F.failed_reads tree.new) }

@@ -3,7 +3,7 @@ use Rattle.marked_runs.specs.Runs.{begun, ended}
 use Rattle.marked_runs.proofs.CarriedLemmas.{performs-broken, performs-front}
 use Rattle.rewind_writes.specs.Plan.{body_changes}
 use Rattle.rewind_writes.proofs.StepLemmas.{plan-taken}
-use Rattle.rewind_writes.proofs.StopLemmas.{safe-broken, safe-on}
+use Rattle.rewind_writes.proofs.StopLemmas.{safe-broken, safe-on, synced-on}
 use Rattle.rewind_writes.proofs.plan.perform.Goals as goal
 
 pub returns-in-Ok-clause-performs : goal.returns-in-Ok-clause-performs
@@ -21,3 +21,6 @@ returns-in-Ok-clause-stops g c =
 
 pub returns-in-Err-clause-stops : goal.returns-in-Err-clause-stops
 returns-in-Err-clause-stops g c = safe-broken g.F.Tree c.args.plan _ _ c.in-Err.ensures.any_moment
+
+pub returns-in-Ok-clause-synced : goal.returns-in-Ok-clause-synced
+returns-in-Ok-clause-synced g c = synced-on g.F.Tree c.args.plan _ _ _ _ _ c.in-Ok.ensures.carries (c.perform_marked.ensures.synced (g.F.Tree.contents c.args.tree.now))

@@ -1,5 +1,5 @@
 use Rattle.rewind_writes.proofs.StepLemmas.{marked-broken, marked-taken}
-use Rattle.rewind_writes.proofs.StopLemmas.{ends-broken, ends-marked}
+use Rattle.rewind_writes.proofs.StopLemmas.{ends-broken, ends-marked, syncs-marked}
 use Rattle.rewind_writes.proofs.plan.perform_marked.Goals as goal
 
 pub returns-in-Ok-clause-takes : goal.returns-in-Ok-clause-takes
@@ -13,3 +13,6 @@ returns-in-Ok-clause-stops g c = λ d. ends-marked g.F.Tree d c.args.plan _ _ _ 
 
 pub returns-in-Err-clause-stops : goal.returns-in-Err-clause-stops
 returns-in-Err-clause-stops g c = λ d. ends-broken g.F.Tree d c.args.plan _ _ c.in-Err.fault (c.in-Err.ensures.takes d) c.in-Err.ensures.frame
+
+pub returns-in-Ok-clause-synced : goal.returns-in-Ok-clause-synced
+returns-in-Ok-clause-synced g c = λ d. syncs-marked g.F.Tree d c.args.plan _ _ _ _ _ (c.in-Ok.ensures.takes d) c.unmark.ensures.synced
