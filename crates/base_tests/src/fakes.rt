@@ -2,7 +2,8 @@
 use crate::callers::{VERBS, ended, rewrite};
 use crate::trees::small_tree;
 use cluster_tree::{
-    FailPlan, FailingTree, FileFault, MemorySink, Path, PathFault, Sink, SinkFailed, Tree, TreeFault,
+    FailPlan, FailingTree, FileFault, MemorySink, Path, PathFault, Sink, SinkFailed, Tree,
+    TreeFault,
 };
 use std::test::Fail;
 

@@ -44,10 +44,7 @@ fn hints(alloc: Global, bits: &str) -> Result<String, Fail> {
     let shown = u16::from_le_bytes([bytes[8188], bytes[8189]]);
     Ok(format!(in alloc;
         "{shown} {} {} {} {}",
-        bytes[8175],
-        bytes[8176],
-        bytes[8179],
-        bytes[8180]
+        bytes[8175], bytes[8176], bytes[8179], bytes[8180]
     )?)
 }
 

@@ -76,7 +76,11 @@ fn mark(alloc: Global, tree: &mut MemoryTree) -> Result<&'static str, Fail> {
 // The letter of the control file, or nothing.
 fn control(alloc: Global, tree: &mut MemoryTree) -> Result<&'static str, Fail> {
     let bytes = bytes_of(alloc, tree, "t/global/pg_control")?;
-    Ok(if sum_of(&bytes, 288) == 0xB40D_4A1B { "c" } else { "" })
+    Ok(if sum_of(&bytes, 288) == 0xB40D_4A1B {
+        "c"
+    } else {
+        ""
+    })
 }
 
 fn standing(alloc: Global, tree: &mut MemoryTree) -> Result<String, Fail> {

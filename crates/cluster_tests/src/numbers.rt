@@ -5,9 +5,9 @@ ghost use Rattle.std.specs.Prelude.{◌*◌, ◌<◌, ◌^◌};
 ghost use Rattle.wal_base.specs.Segment.{bytes_of};
 ghost use Rattle.control_file.specs.Admission.{IsControl};
 
-use crate::resets::cluster;
 use crate::controls::sum_of;
 use crate::options::options_of;
+use crate::resets::cluster;
 use crate::texts::cut_at;
 use cluster_tree::{MemoryTree, Path, Tree};
 use clusters::control_at;

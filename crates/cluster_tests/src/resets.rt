@@ -146,7 +146,12 @@ fn new_sum(
 ) -> Result<u32, Fail> {
     let folder = Path::parse(alloc, "t/pg_wal")?;
     let file = folder.join(alloc, names.get(1).ok_or("no new segment")?)?;
-    page_sum(alloc, tree, &file, u64::from(megabytes).saturating_mul(1048576))
+    page_sum(
+        alloc,
+        tree,
+        &file,
+        u64::from(megabytes).saturating_mul(1048576),
+    )
 }
 
 // Names in a row.
@@ -168,18 +173,15 @@ fn holds(alloc: Global, tree: &mut MemoryTree, folder: &str, meant: &str) -> Res
 // Whether the other folders have what they should.
 fn others_stay(alloc: Global, tree: &mut MemoryTree) -> Result<bool, Fail> {
     let said = "t/pg_wal/archive_status";
-    Ok(holds(alloc, tree, "t", "global pg_wal")?
-        && holds(alloc, tree, "t/global", "pg_control")?
-        && holds(alloc, tree, said, "00000001.history.done")?)
+    Ok(
+        holds(alloc, tree, "t", "global pg_wal")?
+            && holds(alloc, tree, "t/global", "pg_control")?
+            && holds(alloc, tree, said, "00000001.history.done")?,
+    )
 }
 
 // What a reset left, behind what it said.
-fn left(
-    alloc: Global,
-    tree: &mut MemoryTree,
-    told: &str,
-    megabytes: u32,
-) -> Result<String, Fail> {
+fn left(alloc: Global, tree: &mut MemoryTree, told: &str, megabytes: u32) -> Result<String, Fail> {
     if !others_stay(alloc, tree)? {
         return Err("other folders".into());
     }
@@ -195,7 +197,12 @@ fn reset(alloc: Global, options: &str) -> Result<String, Fail> {
     let options = options_of(options)?;
     let mut tree = cluster(alloc, "plain", LOG)?;
     let told = said(alloc, &mut tree, &options)?;
-    left(alloc, &mut tree, told.as_str(), options.segment_mb.unwrap_or(1))
+    left(
+        alloc,
+        &mut tree,
+        told.as_str(),
+        options.segment_mb.unwrap_or(1),
+    )
 }
 
 // What a reset says, which has to `change` the tree, or to `keep` it.

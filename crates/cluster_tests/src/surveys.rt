@@ -78,7 +78,12 @@ whole a 2 = Some(OtherSize(3))
 whole b 3 = Some(Missing)";
 
 // Puts the control file of a cluster.
-fn put_control(alloc: Global, tree: &mut MemoryTree, file: &str, control: &str) -> Result<(), Fail> {
+fn put_control(
+    alloc: Global,
+    tree: &mut MemoryTree,
+    file: &str,
+    control: &str,
+) -> Result<(), Fail> {
     if control == "none" {
         return Ok(());
     }
@@ -90,12 +95,7 @@ fn put_control(alloc: Global, tree: &mut MemoryTree, file: &str, control: &str) 
 }
 
 // A target `t` and a source `s` with these control files, and lines beside them.
-fn clusters_of(
-    alloc: Global,
-    target: &str,
-    source: &str,
-    lines: &str,
-) -> Result<MemoryTree, Fail> {
+fn clusters_of(alloc: Global, target: &str, source: &str, lines: &str) -> Result<MemoryTree, Fail> {
     let mut tree = tree_of(alloc, "d t, d t/global, d s, d s/global")?;
     put_control(alloc, &mut tree, "t/global/pg_control", target)?;
     put_control(alloc, &mut tree, "s/global/pg_control", source)?;

@@ -71,7 +71,13 @@ fn images_told(alloc: Global, rec: &Record, parts: &Parts) -> Result<String, Fai
     let mut room = [0xAA; 8193];
     let made = image_page(rec, parts, 0, &mut room);
     let stays = room.iter().all(|byte| *byte == 0xAA);
-    write_told(alloc, made, stays, image_page(rec, parts, 4, &mut room), &room)
+    write_told(
+        alloc,
+        made,
+        stays,
+        image_page(rec, parts, 4, &mut room),
+        &room,
+    )
 }
 
 fn write_told(

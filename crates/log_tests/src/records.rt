@@ -80,8 +80,10 @@ fn is_row(alloc: Global, log: &str, row: &str) -> Result<bool, Fail> {
     let (bytes, start) = cut_at(behind, " ");
     let start = position(start)?;
     let mut tree = put_over(alloc, log, at, bytes)?;
-    Ok(is_read(alloc, &mut tree, start, Way::Anew, wanted)?
-        && is_read(alloc, &mut tree, start, Way::Unchanged, wanted)?)
+    Ok(
+        is_read(alloc, &mut tree, start, Way::Anew, wanted)?
+            && is_read(alloc, &mut tree, start, Way::Unchanged, wanted)?,
+    )
 }
 
 fn check<R: AllocGlobal + Abort>(rt: &R, log: &str, rows: &str) -> Result<(), Fail> {
@@ -136,7 +138,10 @@ fn a_stored_checkpoint_is_read(rt: HostRuntime) -> Result<(), Fail> {
     assert!(rt; cursor.current().is_none());
     assert_eq!(rt; cursor.next(&mut tree), Ok(Step::Record));
     let shown = shown(rt.alloc(), cursor.current().ok_or("no record")?)?;
-    assert_eq!(rt; shown.as_str(), "0/100028 0/1000A0 0/10009A 114 AE66BC71 true");
+    assert_eq!(rt;
+        shown.as_str(),
+        "0/100028 0/1000A0 0/10009A 114 AE66BC71 true"
+    );
     Ok(())
 }
 

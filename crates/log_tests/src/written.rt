@@ -115,8 +115,10 @@ fn is_so(alloc: Global, records: &[New], wanted: &str) -> Result<bool, Fail> {
     let read = if records.is_empty() { "none" } else { last };
     let read = format!(in alloc; "{read}, {end}")?;
     let mut tree = log_tree(alloc, records)?;
-    Ok(is_read(alloc, &mut tree, FIRST, Way::Anew, read.as_str())?
-        && is_read(alloc, &mut tree, FIRST, Way::Unchanged, read.as_str())?)
+    Ok(
+        is_read(alloc, &mut tree, FIRST, Way::Anew, read.as_str())?
+            && is_read(alloc, &mut tree, FIRST, Way::Unchanged, read.as_str())?,
+    )
 }
 
 #[test]

@@ -80,12 +80,7 @@ fn mapped(alloc: Global, rec: &Record, parts: &Parts, commands: &str) -> Result<
 }
 
 /// What a call says of a record and the words behind it.
-pub(crate) fn effect(
-    alloc: Global,
-    rec: &Record,
-    call: &str,
-    words: &str,
-) -> Result<String, Fail> {
+pub(crate) fn effect(alloc: Global, rec: &Record, call: &str, words: &str) -> Result<String, Fail> {
     let parts = split_record(rec)?;
     match call {
         "gone" => gone(alloc, rec, &parts, words),

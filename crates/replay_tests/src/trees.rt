@@ -140,7 +140,12 @@ fn runs(alloc: Global, block: &[u8]) -> Result<String, Fail> {
 }
 
 // The bytes of a block of a file.
-fn block_of(alloc: Global, tree: &mut MemoryTree, path: &Path, block: u32) -> Result<Vec<u8>, Fail> {
+fn block_of(
+    alloc: Global,
+    tree: &mut MemoryTree,
+    path: &Path,
+    block: u32,
+) -> Result<Vec<u8>, Fail> {
     let mut into = vec![in alloc; 0; 8192]?;
     tree.read_at(path, u64::from(block) * BLOCK, &mut into)?;
     Ok(into)
@@ -209,7 +214,7 @@ fn is_entry_so(
         "none" => Ok(tree.kind(path) == Ok(Kind::Absent)),
         "folder" => Ok(tree.kind(path) == Ok(Kind::Folder)),
         "size" => Ok(tree.size(path) == Ok(long(words)?)),
-        "blocks" => Ok(tree.size(path) == Ok(long(words)? * BLOCK)),
+        "blocks" => Ok(tree.size(path) == Ok(u64::from(number(words)?) * BLOCK)),
         "at" => has_bytes(alloc, tree, path, at, &bytes_of(alloc, behind)?),
         "run" => has_bytes(alloc, tree, path, at, &filled(alloc, behind)?),
         "block" => has_runs(alloc, tree, path, words),

@@ -3,10 +3,10 @@ ghost use Rattle.std.specs.Prelude.{◌≡◌, IfOk};
 ghost use Rattle.cluster_tree.specs.Contents.{Contents};
 ghost use Rattle.wal_records.specs.Cursor.{Knows};
 
-use crate::touched::bodies::body_of;
 use crate::logs;
 use crate::logs::FIRST_NAME;
 use crate::texts::{byte, cut_at, position};
+use crate::touched::bodies::body_of;
 use crate::touched::walk_rows::HINTED;
 use cluster_tree::{MemoryTree, Path, Tree};
 use std::alloc::Global;

@@ -43,12 +43,7 @@ fn common(alloc: Global, fork: &str, cells: &str) -> Result<String, Fail> {
 }
 
 /// How many chunks, cuts and databases a log touches, with their set, or what refuses it.
-fn touched(
-    alloc: Global,
-    set: &mut Touched,
-    words: &str,
-    cells: &str,
-) -> Result<String, Fail> {
+fn touched(alloc: Global, set: &mut Touched, words: &str, cells: &str) -> Result<String, Fail> {
     let (redo, end) = cut_at(words, " ");
     let (redo, end) = (Lsn(position(redo)?), Lsn(position(end)?));
     let mut tree = tree_of(alloc, cells)?;
