@@ -1,11 +1,12 @@
 -- What a stop may leave of what pg_rewind does.
-use Rattle.std.proofs.Common.{◌≡◌, ℤ, false, Ok, inl, inr, ⊎_elim, refl, subst, sym}
+use Rattle.std.proofs.Common.{◌≡◌, ℤ, false, Result, Ok, Err, OnOk, inl, inr, ⊎_elim, refl, subst, sym}
+use Rattle.cluster_tree.specs.Contents.{Contents}
 use Rattle.cluster_tree.specs.Frame.{Reads, moment_of}
 use Rattle.cluster_tree.specs.Run.{Moment}
 use Rattle.cluster_tree.specs.Stops.{LeavesOnly}
 use Rattle.cluster_tree.specs.declared.tree.Tree.{Ghosts}
 use Rattle.cluster_tree.proofs.Images.{holds_first, leaves_only}
-use Rattle.marked_runs.specs.Moments.{IsUntouched}
+use Rattle.marked_runs.specs.Moments.{IsUntouched, StandsSynced}
 use Rattle.marked_runs.proofs.StopLemmas.{leaves_weaker}
 use Rattle.commands.specs.declared.rewind.RewindWords.{RewindWords}
 use Rattle.rewind_core.specs.Fits.{IsPlanFor}
@@ -13,7 +14,8 @@ use Rattle.rewind_core.specs.Planned.{Needing, Needs, planned_of}
 use Rattle.rewind_core.specs.Stops.{IsLeftBy, IsUnderway}
 use Rattle.rewind_core.specs.declared.outcome.Plan.{Plan}
 use Rattle.rewind_core.proofs.StopLemmas.{reads-leave, reads-on}
-use Rattle.cmd_rewind.specs.Rewind.{IsLeftByRewind}
+use Rattle.run_acts.specs.declared.cause.Cause.{Cause}
+use Rattle.cmd_rewind.specs.Rewind.{IsDurable, IsLeftByRewind}
 use Rattle.cmd_rewind.proofs.BelowLemmas.{Aims, planned-aims}
 
 -- no call at all leaves all untouched
@@ -34,3 +36,8 @@ module _ {F : Type 0} (tree : Ghosts F) (words : RewindWords) (now : ℤ) (a b :
       leaves_weaker (IsLeftBy n (moment_of tree a)) (IsLeftByRewind words now (moment_of tree a)) (tree.stops a) (tree.stops d)
       (λ c. ⊎_elim (λ untouched. inl untouched) (λ underway. inr (n, wet, found, subst (λ r. IsUnderway r (tree.contents a) n c) root underway)))
       (reads-on tree (IsLeftBy n) a b d reads (left n there))
+
+-- and once it is made, what stands
+pub durable-by : (r : Result (Unit {0}) Cause) (words : RewindWords) (now : ℤ) (c : Contents) (moment : Moment) → OnOk r (StandsSynced moment.state.contents moment) → OnOk r (IsDurable words now c moment)
+durable-by (Ok u) words now c moment stands = λ n wet needed. stands
+durable-by (Err e) words now c moment stands = tt

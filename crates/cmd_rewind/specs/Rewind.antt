@@ -6,7 +6,7 @@ use Rattle.cluster_tree.specs.Change.{Change, all_changed, call_of}
 use Rattle.cluster_tree.specs.Contents.{Contents}
 use Rattle.cluster_tree.specs.PathValue.{PathValue}
 use Rattle.cluster_tree.specs.Run.{Moment}
-use Rattle.marked_runs.specs.Moments.{IsUntouched}
+use Rattle.marked_runs.specs.Moments.{IsUntouched, StandsSynced}
 use Rattle.wal_base.specs.Lsn.{lsn_text}
 use Rattle.timeline_history.specs.declared.ancestor.Divergence.{Divergence}
 use Rattle.rewind_survey.specs.declared.fault.RewindFault.{RewindFault}
@@ -100,3 +100,8 @@ abbrev pub IsLeftByRewind : RewindWords → ℤ → Moment → Contents → Type
 IsLeftByRewind words now first c =
     IsUntouched first c
     ⊎ ((n : Needing) × (words.dry_run ≡ false) × (planned_of first.state.contents words.target words.source now ≡ Ok (Needs n)) × IsUnderway words.target first.state.contents n c)
+
+-- once a rewind that is needed is made, a stop leaves what stands
+abbrev pub IsDurable : RewindWords → ℤ → Contents → Moment → Type 0
+IsDurable words now c moment =
+    (n : Needing) → words.dry_run ≡ false → planned_of c words.target words.source now ≡ Ok (Needs n) → StandsSynced moment.state.contents moment

@@ -12,7 +12,7 @@ ghost use Rattle.rewind_core.specs.Planned.{planned_of};
 ghost use Rattle.run_acts.specs.Answers.{Blames, does, refused};
 ghost use Rattle.run_acts.specs.Causes.{IsFree, IsOfLook, cause_of, is_deep, is_of_files};
 ghost use Rattle.run_acts.specs.Unseen.{CarriesUnseen};
-ghost use Rattle.cmd_rewind.specs.Rewind.{IsLeftByRewind, IsRewind, LeavesRewound, rewind_answer};
+ghost use Rattle.cmd_rewind.specs.Rewind.{IsDurable, IsLeftByRewind, IsRewind, LeavesRewound, rewind_answer};
 ghost use Rattle.cmd_rewind.specs.Tasks.{IsFitTask, IsTaskFor, IsWet, task_acts};
 
 use crate::makes::make_told;
@@ -88,7 +88,7 @@ fn check<F: Tree>(alloc: Global, tree: &mut F, words: &RewindWords, now: i64) ->
 /// where a call of that device failed, which it has counted, and `Changed` never where the tree tells
 /// its contents. Where a change failed the target has its mark, and a later run answers `Unfinished`;
 /// a first line that failed leaves it untouched, and a last one rewound. A stop at any moment leaves it
-/// untouched, with its mark, or rewound.
+/// untouched, with its mark, or rewound, and once a rewind is done as it stands.
 pub fn rewind<F: Tree, E: Sink>(
     alloc: Global,
     tree: &mut F,
@@ -109,10 +109,12 @@ pub fn rewind<F: Tree, E: Sink>(
     // a rewind that is done leaves the rewound tree
     ensures rewound { IsTrue F.tells →
         OnOk result (LeavesRewound words.now now (F.contents tree.old) (F.contents tree.new)) }
-    // a stop at any moment leaves it untouched, marked or rewound
+    // a stop at any moment leaves it untouched, marked or rewound; once a rewind is done, what stands
     ensures stops { IsTrue F.tells → LeavesOnly
         (IsLeftByRewind words.now now (moment_of F.Tree tree.old)) (F.stops tree.old)
         (F.stops tree.new) }
+    ensures synced { IsTrue F.tells → OnOk result
+        (IsDurable words.now now (F.contents tree.old) (moment_of F.Tree tree.new)) }
     ensures blames { (n : ℕ) → Blames (cause_of result)
         (F.failed_reads tree.old) (F.failed_reads tree.new)
         (F.failed_changes tree.old) (F.failed_changes tree.new) n n

@@ -1,5 +1,5 @@
 -- What a stop may leave of a rewind.
-use Rattle.std.proofs.Common.{◌≡◌, Result, Ok, inl, inr, ⊎_elim, refl, sym, ap, ◌∙◌, subst}
+use Rattle.std.proofs.Common.{◌≡◌, Result, Ok, Err, IfOk, OnOk, inl, inr, ⊎_elim, refl, sym, ap, ◌∙◌, subst}
 use Rattle.cluster_tree.specs.Change.{all_changed}
 use Rattle.cluster_tree.specs.Contents.{Contents}
 use Rattle.cluster_tree.specs.Frame.{Reads, moment_of}
@@ -9,16 +9,18 @@ use Rattle.cluster_tree.specs.Run.{Moment}
 use Rattle.cluster_tree.specs.Stops.{LeavesOnly, Stops}
 use Rattle.cluster_tree.specs.declared.tree.Tree.{Ghosts}
 use Rattle.cluster_tree.proofs.Images.{Within, holds_first, leaves_only}
-use Rattle.marked_runs.specs.Moments.{IsMarked, IsSafe, IsUntouched}
+use Rattle.marked_runs.specs.Moments.{IsMarked, IsSafe, IsUntouched, StandsSynced}
 use Rattle.marked_runs.proofs.StopLemmas.{leaves_weaker}
 use Rattle.rewind_writes.specs.Plan.{plan_changes}
 use Rattle.rewind_survey.specs.declared.fault.RewindFault.{RewindFault}
 use Rattle.rewind_core.specs.Fits.{IsMadeBetween, IsPlanBetween, IsPlanFor}
 use Rattle.rewind_core.specs.Planned.{Meant, Needing, Needs}
-use Rattle.rewind_core.specs.Stops.{IsLeft, IsLeftBy}
+use Rattle.rewind_core.specs.Stops.{IsLeft, IsLeftBy, IsSyncedBy}
 use Rattle.rewind_core.specs.declared.outcome.Plan.{Plan}
 use Rattle.rewind_core.specs.declared.outcome.Planned.{Planned}
 use Rattle.rewind_core.specs.declared.outcome.Planned.TheVariants as planned
+use Rattle.rewind_core.specs.declared.outcome.RewindDone.{RewindDone}
+use Rattle.rewind_core.specs.declared.outcome.RewindDone.TheVariants as done
 use Rattle.rewind_core.proofs.PerformLemmas.{left-by}
 
 -- a call that only reads leaves all untouched
@@ -55,3 +57,9 @@ pub planned-left : {F : Type 0} (tree : Ghosts F) (meant : Result Meant RewindFa
 planned-left tree meant target source a b d n plan v reads found is same made left =
     needed-left meant target source (moment_of tree a) (tree.stops d) n plan found is (subst (IsMadeBetween target source) same made)
     (reads-on tree (IsLeftBy n) a b d reads (left (subst (λ c. IsPlanFor c n plan) (sym reads.same) is)))
+
+-- once it is carried out, a stop leaves what stands
+pub synced-by : (moment : Moment) (r : Result RewindDone RewindFault) → OnOk r (StandsSynced moment.state.contents moment) → IfOk r (λ d. IsSyncedBy d moment)
+synced-by moment (Ok (done.NotNeeded fork)) stands = tt
+synced-by moment (Ok (done.Rewound told)) stands = stands
+synced-by moment (Err e) stands = tt

@@ -4,6 +4,7 @@ ghost use Rattle.cluster_tree.specs.Causes.{Rose};
 ghost use Rattle.cluster_tree.specs.Frame.{Came, moment_of};
 ghost use Rattle.cluster_tree.specs.PathValue.{PathValue};
 ghost use Rattle.cluster_tree.specs.Stops.{LeavesOnly};
+ghost use Rattle.marked_runs.specs.Moments.{StandsSynced};
 ghost use Rattle.marked_runs.specs.Runs.{Runs, is_done};
 ghost use Rattle.rewind_writes.specs.Plan.{plan_changes};
 ghost use Rattle.rewind_writes.specs.Steps.{AllAreFit};
@@ -34,6 +35,9 @@ pub fn perform<F: Tree>(tree: &mut F, plan: Plan) -> Result<(), PerformFault>
     // a stop at any moment leaves it untouched, marked or rewound
     ensures stops { IsTrue F.tells → (n : Needing) → IsPlanFor (F.contents tree.old) n plan →
         LeavesOnly (IsLeftBy n (moment_of F.Tree tree.old)) (F.stops tree.old) (F.stops tree.new) }
+    // and once it is done, what stands
+    ensures synced { IsTrue F.tells → (n : Needing) → IsPlanFor (F.contents tree.old) n plan →
+        OnOk result (StandsSynced (F.contents tree.new) (moment_of F.Tree tree.new)) }
     ensures changed { IsTrue F.tells → (n : Needing) → IsPlanFor (F.contents tree.old) n plan →
         (p : PathValue) → result ≢ Err (PerformFault.Changed p) }
     ensures frame { Came F.Tree tree.old tree.new }

@@ -6,13 +6,14 @@ ghost use Rattle.cluster_tree.specs.Frame.{Came, moment_of};
 ghost use Rattle.cluster_tree.specs.PathValue.{PathValue};
 ghost use Rattle.cluster_tree.specs.Run.{state_by};
 ghost use Rattle.cluster_tree.specs.Stops.{LeavesOnly};
+ghost use Rattle.marked_runs.specs.Moments.{StandsSynced};
 ghost use Rattle.marked_runs.specs.Runs.{Runs};
 ghost use Rattle.rewind_writes.specs.Plan.{plan_changes};
 ghost use Rattle.rewind_writes.specs.Steps.{AllAreFit};
 ghost use Rattle.rewind_core.specs.Fits.{IsCause, IsDone, IsPlanFor, IsRewound, Went};
 ghost use Rattle.rewind_core.specs.Planned.{Needing, planned_of};
 ghost use Rattle.clusters.specs.declared.fault.ClusterFault.TheVariants as cluster;
-ghost use Rattle.rewind_core.specs.Stops.{IsLeft, IsLeftBy};
+ghost use Rattle.rewind_core.specs.Stops.{IsLeft, IsLeftBy, IsSyncedBy};
 
 use crate::faults::of_perform;
 use crate::outcome::{Plan, Planned, RewindDone};
@@ -33,6 +34,8 @@ fn carry_out<F: Tree>(tree: &mut F, plan: Plan) -> Result<RewindDone, RewindFaul
         OnOk result (IsRewound (F.contents tree.old) n (F.contents tree.new)) }
     ensures stops { IsTrue F.tells → (n : Needing) → IsPlanFor (F.contents tree.old) n plan →
         LeavesOnly (IsLeftBy n (moment_of F.Tree tree.old)) (F.stops tree.old) (F.stops tree.new) }
+    ensures synced { IsTrue F.tells → (n : Needing) → IsPlanFor (F.contents tree.old) n plan →
+        OnOk result (StandsSynced (F.contents tree.new) (moment_of F.Tree tree.new)) }
     ensures only { IfErr result (λ e. (e ≡ RewindFault.Cluster cluster.ReadFault)
         ⊎ (e ≡ RewindFault.WriteFault)
         ⊎ ((p : PathValue) × (e ≡ RewindFault.Cluster (cluster.Changed p)))) }
@@ -71,10 +74,12 @@ pub fn rewind<F: Tree>(
     ensures went { IsTrue F.tells → Went (planned_of (F.contents tree.old) target.now source.now now)
         (state_by F.contents F.calls tree.old) (state_by F.contents F.calls tree.new) (is_ok result) }
     // a stop at any moment leaves the target untouched, and only where a rewind is needed marked or
-    // rewound
+    // rewound; once it is rewound, it leaves what stands
     ensures stops { IsTrue F.tells → LeavesOnly
         (IsLeft (planned_of (F.contents tree.old) target.now source.now now) target.now
         (moment_of F.Tree tree.old)) (F.stops tree.old) (F.stops tree.new) }
+    ensures synced { IsTrue F.tells →
+        IfOk result (λ done. IsSyncedBy done (moment_of F.Tree tree.new)) }
     ensures changed { IsTrue F.tells → (p : PathValue) →
         result ≢ Err (RewindFault.Cluster (cluster.Changed p)) }
     ensures frame { Came F.Tree tree.old tree.new }

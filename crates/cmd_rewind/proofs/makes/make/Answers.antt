@@ -24,3 +24,6 @@ pub returns-in-Err-clause-changed : goal.returns-in-Err-clause-changed
 returns-in-Err-clause-changed g c t p is =
     c.in-Err.ensures.changed t (c.requires.planned t).0 (c.requires.planned t).1 p
     (ap Err (changed_by c.in-Err.fault p (sym c.perform_cause.ensures ∙ let same : c.perform_cause.result ≡ cause.Changed p = cc is in same)))
+
+pub returns-in-Ok-clause-synced : goal.returns-in-Ok-clause-synced
+returns-in-Ok-clause-synced g c t n is = on_ok c.tell.result (c.in-Ok.ensures.synced t n is)

@@ -3,12 +3,13 @@ use Rattle.std.proofs.lemmas.Int.{to_z-of_z}
 use Rattle.run_acts.proofs.AnswerSteps.{carries_acts, carries_look, last_exact}
 use Rattle.run_acts.proofs.UnseenSteps.{told_wet, unseen_acts, unseen_by, unseen_still}
 use Rattle.cluster_tree.specs.Contents.{Contents}
+use Rattle.cluster_tree.specs.Frame.{moment_of}
 use Rattle.rewind_core.specs.Fits.{IsPlanFor}
 use Rattle.cmd_rewind.specs.Tasks.{reported, task_acts}
 use Rattle.cmd_rewind.specs.declared.tasks.Task.TheVariants as task
 use Rattle.cmd_rewind.proofs.FormLemmas.{answer-form, answer-looks, form_as, known_as, passes_at, task_as, wet_as}
 use Rattle.cmd_rewind.proofs.MakeLemmas.{leaves, lines_as}
-use Rattle.cmd_rewind.proofs.StopLemmas.{looks-left, makes-left}
+use Rattle.cmd_rewind.proofs.StopLemmas.{durable-by, looks-left, makes-left}
 use Rattle.cmd_rewind.proofs.rewinds.rewind.Goals as goal
 
 pub returns-in-Err-clause-carries : goal.returns-in-Err-clause-carries
@@ -70,3 +71,12 @@ returns-in-Ok-Rewind-clause-stops g c told =
     (wet_as c.args.words.now.dry_run c.in-Ok-Rewind.field-0-is c.in-Ok-Rewind.ensures.wet)
     (task_as contents c.args.words.now (to_z-of_z w64 c.args.now fits) c.in-Ok-Rewind.field-0-is (c.in-Ok-Rewind.ensures.planned told))
     (c.make_told.ensures.stops told)
+
+pub returns-in-Ok-Rewind-clause-synced : goal.returns-in-Ok-Rewind-clause-synced
+returns-in-Ok-Rewind-clause-synced g c told =
+    let fits : FitsSigned w64 c.args.now = search rules in
+    let contents = g.F.Tree.contents c.args.tree.now in
+    let found = task_as contents c.args.words.now (to_z-of_z w64 c.args.now fits) c.in-Ok-Rewind.field-0-is (c.in-Ok-Rewind.ensures.planned told) in
+    let P : Contents → Type 0 = λ x. IsPlanFor x found.0 c.in-Ok-Rewind.plan in
+    durable-by c.make_told.result c.args.words.now c.args.now contents (moment_of g.F.Tree c.make_told.new.tree)
+    (c.make_told.ensures.synced told found.0 (subst P (sym c.check.ensures.reads.same) found.2))

@@ -20,3 +20,6 @@ pub returns-clause-stops : goal.returns-clause-stops
 returns-clause-stops g c told n is =
     performs-left (moment_of g.F.Tree c.args.tree.now) _ n c.args.plan is
     (c.perform.ensures.stops told (found _ n c.args.plan is) (unrefused _ n c.args.plan is) (unmarked _ n c.args.plan is))
+
+pub returns-clause-synced : goal.returns-clause-synced
+returns-clause-synced g c told n is = c.perform.ensures.synced told (found _ n c.args.plan is) (unrefused _ n c.args.plan is)
