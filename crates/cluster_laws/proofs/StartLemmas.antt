@@ -37,7 +37,7 @@ use Rattle.relation_files.proofs.NameLemmas.{both_free}
 use Rattle.replay_laws.proofs.WorldLemmas.{given-ok, not-refused}
 use Rattle.replay_profile.specs.Profile.{first_outside}
 use Rattle.replay_start.specs.Checked.{Start, checksums_on, from_control, from_label, in_log, label_at, label_in, log_with, no_hints, start_of, with_label, with_records}
-use Rattle.replay_start.specs.Faults.{of_cluster, of_profile, told_by}
+use Rattle.replay_start.specs.Faults.{of_profile, told_by}
 use Rattle.replay_start.specs.Scanned.{ends_too_soon, is_labelled, log_refusal, unlabelled}
 use Rattle.replay_start.specs.declared.fault.ReplayFault.{ReplayFault}
 use Rattle.replay_start.specs.declared.fault.ReplayFault.TheVariants as fault
@@ -334,17 +334,17 @@ module _ (per : ℕ) (root other : PathValue) (c d : Contents) (both : AlikeClus
       ∙ ap (λ r. given r (from_label d other v)) (label_same places.0 places.1))
       (label_start v places.0 s places.2)
 
-  mapped_none : (o : Option ClusterFault) → option_map of_cluster o ≡ None → o ≡ None
+  mapped_none : (o : Option ClusterFault) → option_map fault.Cluster o ≡ None → o ≡ None
   mapped_none None h = refl
   mapped_none (Some e) h = absurd cc
 
   from_start : (s : Start) → start_of c root ≡ Ok s → From s (start_of d other)
   unfolding start_of
   from_start s h =
-      let marks = not-refused (option_map of_cluster (unfinished c root)) (given (told_by (control_at c root)) (from_control c root)) s h in
+      let marks = not-refused (option_map fault.Cluster (unfinished c root)) (given (told_by (control_at c root)) (from_control c root)) s h in
       let read = given-ok (told_by (control_at c root)) (from_control c root) s marks.1 in
       as_by s (start_of d other) (from_control d other read.0)
-      (ap (λ o. unless (option_map of_cluster o) (given (told_by (control_at d other)) (from_control d other))) (unfinished_same (mapped_none (unfinished c root) marks.0))
+      (ap (λ o. unless (option_map fault.Cluster o) (given (told_by (control_at d other)) (from_control d other))) (unfinished_same (mapped_none (unfinished c root) marks.0))
       ∙ ap (λ r. given (told_by r) (from_control d other)) (control_same read.0 (told_ok root other (control_at c root) read.0 read.1)))
       (control_start read.0 s read.2)
 
