@@ -19,9 +19,10 @@ use Rattle.control_file.specs.declared.fault.ControlFault.{ControlFault}
 use Rattle.control_file.specs.declared.fault.ControlFault.TheVariants as control
 use Rattle.replay_laws.proofs.WorldLemmas.{given-ok, not-refused}
 use Rattle.replay_start.specs.Checked.{Start, checksums_on, from_control, from_label, in_log, label_at, log_with, no_hints, start_of}
-use Rattle.replay_start.specs.Faults.{of_cluster, told_by}
+use Rattle.replay_start.specs.Faults.{told_by}
 use Rattle.replay_start.specs.Scanned.{log_refusal}
 use Rattle.replay_start.specs.declared.fault.ReplayFault.{ReplayFault}
+use Rattle.replay_start.specs.declared.fault.ReplayFault.TheVariants as fault
 use Rattle.rewind_core.specs.Planned.{Aim, Needing}
 use Rattle.rewind_plan.specs.Sides.{control_parts}
 use Rattle.rewound_tree.specs.Rewound.{whole_copy}
@@ -96,7 +97,7 @@ module _ (c : Contents) (root : PathValue) (s : Start) where
   start_control : start_of c root ≡ Ok s → control_at c root ≡ Ok s.control
   unfolding start_of
   start_control h =
-      let read = not-refused (option_map of_cluster (unfinished c root)) (given (told_by (control_at c root)) (from_control c root)) s h in
+      let read = not-refused (option_map fault.Cluster (unfinished c root)) (given (told_by (control_at c root)) (from_control c root)) s h in
       let v = given-ok (told_by (control_at c root)) (from_control c root) s read.1 in
       told_ok (control_at c root) v.0 v.1 ∙ ap (λ x. Ok x) (sym (from_control_is v.0 v.2))
 

@@ -14,7 +14,7 @@ use Rattle.file_walk.specs.declared.pair.Pair.{Pair}
 use Rattle.rewind_plan.specs.Checks.{first_difference}
 use Rattle.rewind_plan.specs.Planned.{Between}
 use Rattle.rewind_plan.specs.Room.{first_lacking}
-use Rattle.rewind_survey.specs.Faults.{of_cluster, told_by}
+use Rattle.rewind_survey.specs.Faults.{told_by}
 use Rattle.rewind_survey.specs.Fitness.{no_hints, not_clean, other_sizes, pair_points, systems_differ}
 use Rattle.rewind_survey.specs.Survey.{Parting, Survey, from_controls, survey_of}
 use Rattle.rewind_survey.specs.Survey as survey
@@ -67,8 +67,8 @@ module _ (c : Contents) (target source : PathValue) where
   survey_sized : (t s : Control) (v : Survey) → told_by (control_at c target) ≡ Ok t → told_by (control_at c source) ≡ Ok s → survey_of c target source ≡ Ok v → s.relseg ≡ t.relseg
   unfolding from_controls
   survey_sized t s v read other h =
-      let one = unless_ok (option_map of_cluster (unfinished c target)) _ v h in
-      let two = unless_ok (option_map of_cluster (unfinished c source)) _ v one.1 in
+      let one = unless_ok (option_map fault.Cluster (unfinished c target)) _ v h in
+      let two = unless_ok (option_map fault.Cluster (unfinished c source)) _ v one.1 in
       let three : given (told_by (control_at c source)) (λ x. from_controls c target source t x) ≡ Ok v =
       sym (ap (λ r. given r (λ y. given (told_by (control_at c source)) (λ x. from_controls c target source y x))) read) ∙ two.1 in
       let four : from_controls c target source t s ≡ Ok v = sym (ap (λ r. given r (λ x. from_controls c target source t x)) other) ∙ three in
