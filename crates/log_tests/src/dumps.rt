@@ -27,12 +27,18 @@ const ALL: Selection = Selection {
 const LINE: &str = "rmgr: XLOG        len (rec/tot):     24/    24, tx:          0, \
     lsn: 0/00100028, prev 0/00000000, desc: NOOP \n";
 
-/// A log with a record on its first page, and one of 8200 main bytes that goes on to the second; both are of the manager
-/// XLOG and say nothing.
-fn two_records(alloc: Global) -> Result<LogWriter, Fail> {
-    let mut writer = writer_of(alloc, (0x20, 0), &[])?;
+/// The body of a record of 8200 main bytes.
+fn long_body(alloc: Global) -> Result<Vec<u8>, Fail> {
     let mut body = vec![in alloc; 0; 8205]?;
     body.as_mut_slice()[..5].copy_from_slice(&[254, 0x08, 0x20, 0, 0]);
+    Ok(body)
+}
+
+/// A log with a record on its first page, and one that goes on to the second; both are of the manager XLOG and say
+/// nothing.
+fn two_records(alloc: Global) -> Result<LogWriter, Fail> {
+    let body = long_body(alloc)?;
+    let mut writer = writer_of(alloc, (0x20, 0), &[])?;
     append(&mut writer, 0, (0x20, 0), &body)?;
     Ok(writer)
 }

@@ -10,7 +10,7 @@ use std::alloc::Global;
 use std::process::Abort;
 use std::test::*;
 use wal_base::{Lsn, SegSize, Spans};
-use wal_records::{LogFault, Record, RecordCursor, Step};
+use wal_records::{LogFault, Record, RecordCursor, Step, Why};
 
 /// A cursor over the log of timeline 1.
 pub fn cursor_at(alloc: Global, start: u64) -> Result<RecordCursor, Fail>
@@ -37,19 +37,31 @@ fn lent(alloc: Global, cursor: &RecordCursor) -> Result<String, Fail> {
     }
 }
 
+/// The next step of a cursor, in a way.
+fn step(cursor: &mut RecordCursor, tree: &mut MemoryTree, way: Way) -> Result<Step, LogFault> {
+    match way {
+        Way::Anew => cursor.next(tree),
+        Way::Unchanged => cursor.next_unchanged(tree),
+    }
+}
+
+/// Where the last record starts and ends, if there is one, where the log ends, and why.
+fn ended(alloc: Global, last: Option<(Lsn, Lsn)>, at: Lsn, why: Why) -> Result<String, Fail> {
+    match last {
+        Some((start, end)) => Ok(format!(in alloc; "{start} {end}, {at} {why:?}")?),
+        None => Ok(format!(in alloc; "none, {at} {why:?}")?),
+    }
+}
+
 /// Of up to nine records that a cursor gives: where the last one starts and ends, if there is one, where the log
 /// ends, and why.
 fn read_all(alloc: Global, tree: &mut MemoryTree, start: u64, way: Way) -> Result<String, Fail> {
     let mut cursor = cursor_at(alloc, start)?;
-    let mut last = String::from_str(alloc, "none")?;
+    let mut last = None;
     for _ in 0..10 {
-        let step = match way {
-            Way::Anew => cursor.next(tree)?,
-            Way::Unchanged => cursor.next_unchanged(tree)?,
-        };
-        match step {
-            Step::Record => last = lent(alloc, &cursor)?,
-            Step::End(at, why) => return Ok(format!(in alloc; "{}, {at} {why:?}", last.as_str())?),
+        match step(&mut cursor, tree, way)? {
+            Step::Record => last = cursor.current().map(|rec| (rec.start(), rec.end())),
+            Step::End(at, why) => return ended(alloc, last, at, why),
         }
     }
     Err("no end".into())
