@@ -23,7 +23,8 @@ use Rattle.pair_maker.specs.Files.{control_with, history_bytes, pair_label, segm
 use Rattle.pair_maker.specs.Logs.{common_place, last_checkpoint, last_place, made_at, origin_of, records_of}
 use Rattle.pair_maker.specs.declared.side.Side.TheVariants.{Source}
 use Rattle.replay_start.specs.Checked.{checksums_on, from_control, from_label, in_log, label_at, label_in, log_with, no_hints, start_of, with_label, with_records}
-use Rattle.replay_start.specs.Faults.{of_cluster, told_by}
+use Rattle.replay_start.specs.Faults.{told_by}
+use Rattle.replay_start.specs.declared.fault.ReplayFault.TheVariants as fault
 use Rattle.rewound_tree.specs.RewoundControl.{rewound_control}
 use Rattle.wal_base.specs.Hex.{hex_digits, is_long_name}
 use Rattle.wal_base.specs.Segment.{name_of}
@@ -154,7 +155,7 @@ module _ (other : PathValue) (seed blocks : ℕ) (c : Contents) (few : blocks �
   copy-passes : start_of c other ≡ Ok (copy_start other seed blocks)
   unfolding start_of
   copy-passes =
-      ap (λ o. unless (option_map of_cluster o) (given (told_by (control_at c other)) (from_control c other))) copy-finished
+      ap (λ o. unless (option_map fault.Cluster o) (given (told_by (control_at c other)) (from_control c other))) copy-finished
       ∙ ap (λ r. given (told_by r) (from_control c other)) control-said
       ∙ control-passes
 

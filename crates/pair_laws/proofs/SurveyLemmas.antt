@@ -8,9 +8,10 @@ use Rattle.clusters.specs.RootControl.{control_at}
 use Rattle.clusters.specs.RootHistory.{history_at}
 use Rattle.clusters.specs.RootLog.{log_at}
 use Rattle.control_file.specs.declared.control.Control.{Control}
-use Rattle.rewind_survey.specs.Faults.{of_cluster, told_by}
+use Rattle.rewind_survey.specs.Faults.{told_by}
 use Rattle.rewind_survey.specs.Fitness.{no_hints, not_clean, other_sizes, systems_differ}
 use Rattle.rewind_survey.specs.Survey.{Parted, fork_in, from_controls, from_histories, in_log, survey_of, target_log}
+use Rattle.rewind_survey.specs.declared.fault.RewindFault.TheVariants as fault
 use Rattle.timeline_history.specs.Ancestor.{divergence_of}
 use Rattle.wal_records.specs.Again.{log_records}
 use Rattle.wal_records.specs.Further.{pages_of}
@@ -70,8 +71,8 @@ module _ (root : PathValue) (seed blocks : ℕ) (c : Contents) (pair : HasPair r
 
   pub survey-found : survey_of c target source ≡ Ok (Parted (pair_parting seed blocks))
   survey-found =
-      ap (λ o. unless (option_map of_cluster o) (unless (option_map of_cluster (unfinished c source)) (given_read (told_by (control_at c target)) (λ t. given_read (told_by (control_at c source)) (λ s. from_controls c target source t s))))) (target-finished root seed blocks c pair.stands)
-      ∙ ap (λ o. unless (option_map of_cluster o) (given_read (told_by (control_at c target)) (λ t. given_read (told_by (control_at c source)) (λ s. from_controls c target source t s)))) (source-finished root seed blocks c pair.stands)
+      ap (λ o. unless (option_map fault.Cluster o) (unless (option_map fault.Cluster (unfinished c source)) (given_read (told_by (control_at c target)) (λ t. given_read (told_by (control_at c source)) (λ s. from_controls c target source t s))))) (target-finished root seed blocks c pair.stands)
+      ∙ ap (λ o. unless (option_map fault.Cluster o) (given_read (told_by (control_at c target)) (λ t. given_read (told_by (control_at c source)) (λ s. from_controls c target source t s)))) (source-finished root seed blocks c pair.stands)
       ∙ ap (λ r. given_read (told_by r) (λ t. given_read (told_by (control_at c source)) (λ s. from_controls c target source t s))) target-read
       ∙ ap (λ r. given_read (told_by r) (λ s. from_controls c target source t s)) source-read
       ∙ controls_pass
