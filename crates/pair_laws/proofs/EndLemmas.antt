@@ -65,7 +65,7 @@ pub pairs-end : PairsEndTheSame
 pairs-end root seed blocks c c' target copy pair tried =
     let stays : StaysBut (target_of root) c target.files = λ path out. tried.target_alone path out ∙ tried.rewound.elsewhere path out in
     let has : HasCopy root (copy_of root) seed blocks target.files =
-    record { room = (own-copy root seed blocks c pair).room; tree = tried.tree; bytes = tried.bytes; stands = copy-stays root seed blocks c target.files pair stays } in
+    record { room = (own-copy root seed blocks c pair).room; tree = tried.tree; stands = copy-stays root seed blocks c target.files pair stays } in
     let both = pairs-follow root (copy_of root) seed blocks c c' target.files pair has tried.rewound in
     let one : both.after ≡ copy = ok_same both.after copy (sym both.ends ∙ tried.copy_ends) in
     let other : both.alike.after ≡ target = ok_same both.alike.after target (sym both.alike.ends ∙ tried.target_ends) in

@@ -42,6 +42,7 @@ use Rattle.pair_laws.proofs.SmallLemmas.{last_low}
 use Rattle.pair_laws.proofs.StartLemmas.{copy-starts}
 use Rattle.pair_laws.proofs.StateLemmas.{page-there, rel-same}
 use Rattle.pair_laws.proofs.SurveyLemmas.{pair-names, survey-found}
+use Rattle.pair_laws.proofs.WalLemmas.{copy-log_bytes}
 
 pub pair-parted : PairHasParted
 pair-parted root seed blocks c pair = survey-found root seed blocks c pair (target-log_read root seed blocks c pair) (last_low Source seed blocks pair.few)
@@ -112,7 +113,7 @@ module _ (root : PathValue) (seed blocks : ℕ) (c : Contents) (pair : HasPair r
   grew_from other name main = record { life = (pair-lives seed blocks name pair.few main).0; source = source_fits name main; target = λ some unwanted. target_matches name main unwanted }
 
   pub own-copy : HasCopy root (copy_of root) seed blocks c
-  own-copy = record { room = omega (arith, length-append root.parts (codes "c" ∷ [])); tree = pair.tree; bytes = pair.bytes; stands = pair-at-c root seed blocks c pair.stands }
+  own-copy = record { room = omega (arith, length-append root.parts (codes "c" ∷ [])); tree = pair.tree; stands = pair-at-c root seed blocks c pair.stands }
 
   module _ (other : PathValue) (d : Contents) (copy : HasCopy root other seed blocks d) where
     copy_room : length other.parts ≤ 61
@@ -125,7 +126,7 @@ module _ (root : PathValue) (seed blocks : ℕ) (c : Contents) (pair : HasPair r
     pair-grew =
         let bytes = relation_bytes Source seed blocks in
         let long = relation-long Source seed blocks in record {
-          log = record { tree = copy.tree; bytes = copy.bytes; starts = copy-starts other seed blocks d pair.few copy.stands; enough = pair-enough seed blocks pair.few };
+          log = record { tree = copy.tree; bytes = copy-log_bytes other seed blocks d copy.stands; starts = copy-starts other seed blocks d pair.few copy.stands; enough = pair-enough seed blocks pair.few };
           files = record {
             kinds = cluster-kinds c (source_of root) bytes blocks pair.few long source_is;
             no_gap = λ rel fork rels. cluster-no_gap c (source_of root) bytes blocks pair.few long source_is rel fork rels;

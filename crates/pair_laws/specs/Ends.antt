@@ -5,7 +5,6 @@ use Rattle.cluster_compare.specs.Same.{IsSameCluster}
 use Rattle.cluster_tree.specs.Contents.{Contents, IsTree, entry_at}
 use Rattle.cluster_tree.specs.PathValue.{Holds, PathValue}
 use Rattle.replay_core.specs.Replayed.{After, after_replay}
-use Rattle.replay_laws.specs.Log.{HoldsBytes}
 use Rattle.rewind_core.specs.Fits.{IsRewound}
 use Rattle.pair_laws.specs.Grew.{pair_rewind}
 use Rattle.pair_laws.specs.Stands.{CopyStands, HasPair, copy_of, target_of}
@@ -24,7 +23,6 @@ pub record IsTried (root : PathValue) (seed blocks : ℕ) (c c' : Contents) (tar
   pub target_ends : after_replay c' (target_of root) ≡ Ok target
   pub target_alone : StaysBut (target_of root) c' target.files
   pub tree : IsTree target.files
-  pub bytes : HoldsBytes target.files
   pub copy_ends : after_replay target.files (copy_of root) ≡ Ok copy
   pub copy_alone : StaysBut (copy_of root) target.files copy.files
 
