@@ -1,6 +1,7 @@
-use Rattle.std.proofs.Common.{FitsSigned, Ok, map, rules, string_bytes, w64}
+use Rattle.std.proofs.Common.{FitsSigned, Ok, map, rules, string_bytes, subst, w64}
 use Rattle.std.proofs.lemmas.Int.{to_z-of_z}
 use Rattle.tool_words.specs.Command.{command_of}
+use Rattle.wal_tools.specs.Words.{MayChange}
 use Rattle.wal_tools.proofs.RunLemmas.{at_time, no_words, of_command, stays_refused, stays_unmade, words_refused}
 use Rattle.wal_tools.proofs.program.answer.Goals as goal
 
@@ -22,3 +23,6 @@ returns-in-Err-OutOfMemory-clause-stays g c t = stays_unmade (command_of (map st
 pub returns-in-Err-clause-stays : goal.returns-in-Err-clause-stays
 returns-in-Err-clause-stays g c t =
     stays_refused c.in-Err.fault (command_of (map string_bytes c.args.words.now)) (g.F.Tree.contents c.args.tree.now) c.words_cause.ensures c.in-Err.ensures.answer
+
+pub returns-in-Ok-clause-reads : goal.returns-in-Ok-clause-reads
+returns-in-Ok-clause-reads g c unmade = c.carry_out.ensures.reads (subst (λ asked. MayChange asked → ⊥) c.in-Ok.ensures.answer unmade)
