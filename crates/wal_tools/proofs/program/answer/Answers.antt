@@ -1,7 +1,8 @@
-use Rattle.std.proofs.Common.{FitsSigned, Ok, map, rules, string_bytes, w64}
+use Rattle.std.proofs.Common.{FitsSigned, Ok, map, rules, string_bytes, subst, w64}
 use Rattle.std.proofs.lemmas.Int.{to_z-of_z}
 use Rattle.cluster_tree.specs.Frame.{moment_of}
 use Rattle.tool_words.specs.Command.{command_of}
+use Rattle.wal_tools.specs.Words.{MayChange}
 use Rattle.wal_tools.proofs.RunLemmas.{at_time, no_words, of_command, stays_refused, stays_unmade, words_refused}
 use Rattle.wal_tools.proofs.StopLemmas.{durable_command, left_at, left_of_command, still_left}
 use Rattle.wal_tools.proofs.program.answer.Goals as goal
@@ -40,3 +41,6 @@ pub returns-in-Ok-clause-durable : goal.returns-in-Ok-clause-durable
 returns-in-Ok-clause-durable g c t =
     let fits : FitsSigned w64 c.args.now = search rules in
     durable_command c.carry_out.result _ _ _ c.in-Ok.ensures.answer (to_z-of_z w64 c.args.now fits) (c.carry_out.ensures.durable t)
+
+pub returns-in-Ok-clause-reads : goal.returns-in-Ok-clause-reads
+returns-in-Ok-clause-reads g c unmade = c.carry_out.ensures.reads (subst (λ asked. MayChange asked → ⊥) c.in-Ok.ensures.answer unmade)
