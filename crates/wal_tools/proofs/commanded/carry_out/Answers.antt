@@ -97,35 +97,35 @@ returns-in-Walcompare-clause-leaves g c t =
 pub returns-in-Rewind-clause-stops : goal.returns-in-Rewind-clause-stops
 returns-in-Rewind-clause-stops g c t =
     let fits : FitsSigned w64 c.args.now = search rules in
-    left_of_rewind (moment_of g.F.Tree c.args.tree.now) _ _ c.in-Rewind.is (to_z-of_z w64 c.args.now fits) (c.rewind.ensures.stops t)
+    left_of_rewind (moment_of g.F.Tree c.args.tree.now) (g.F.Tree.stops c.args.tree.now) (g.F.Tree.stops c.rewind.new.tree) c.in-Rewind.is (to_z-of_z w64 c.args.now fits) (c.rewind.ensures.stops t)
 
 pub returns-in-Controldata-clause-stops : goal.returns-in-Controldata-clause-stops
-returns-in-Controldata-clause-stops g c t = read_left g.F.Tree _ _ c.args.tree.now c.controldata.new.tree c.controldata.ensures.reads
+returns-in-Controldata-clause-stops g c t = read_left g.F.Tree (Ok c.args.command.now) c.args.now c.args.tree.now c.controldata.new.tree c.controldata.ensures.reads
 
 pub returns-in-Waldump-clause-stops : goal.returns-in-Waldump-clause-stops
-returns-in-Waldump-clause-stops g c t = read_left g.F.Tree _ _ c.args.tree.now c.waldump.new.tree c.waldump.ensures.reads
+returns-in-Waldump-clause-stops g c t = read_left g.F.Tree (Ok c.args.command.now) c.args.now c.args.tree.now c.waldump.new.tree c.waldump.ensures.reads
 
 pub returns-in-Resetwal-clause-stops : goal.returns-in-Resetwal-clause-stops
 returns-in-Resetwal-clause-stops g c t =
     let fits : FitsSigned w64 c.args.now = search rules in
-    left_of_reset (moment_of g.F.Tree c.args.tree.now) _ _ c.in-Resetwal.is (to_z-of_z w64 c.args.now fits) (c.resetwal.ensures.stops t)
+    left_of_reset (moment_of g.F.Tree c.args.tree.now) (g.F.Tree.stops c.args.tree.now) (g.F.Tree.stops c.resetwal.new.tree) c.in-Resetwal.is (to_z-of_z w64 c.args.now fits) (c.resetwal.ensures.stops t)
 
 pub returns-in-Archivecleanup-clause-stops : goal.returns-in-Archivecleanup-clause-stops
-returns-in-Archivecleanup-clause-stops g c t = left_of_cleanup _ _ _ _ c.in-Archivecleanup.is
+returns-in-Archivecleanup-clause-stops g c t = left_of_cleanup c.args.now (moment_of g.F.Tree c.args.tree.now) (g.F.Tree.stops c.args.tree.now) (g.F.Tree.stops c.archivecleanup.new.tree) c.in-Archivecleanup.is
 
 pub returns-in-Walreplay-clause-stops : goal.returns-in-Walreplay-clause-stops
-returns-in-Walreplay-clause-stops g c t = left_of_replay _ _ _ _ c.in-Walreplay.is (c.walreplay.ensures.stops t)
+returns-in-Walreplay-clause-stops g c t = left_of_replay c.args.now (moment_of g.F.Tree c.args.tree.now) (g.F.Tree.stops c.args.tree.now) (g.F.Tree.stops c.walreplay.new.tree) c.in-Walreplay.is (c.walreplay.ensures.stops t)
 
 pub returns-in-Walcompare-clause-stops : goal.returns-in-Walcompare-clause-stops
-returns-in-Walcompare-clause-stops g c t = read_left g.F.Tree _ _ c.args.tree.now c.walcompare.new.tree c.walcompare.ensures.reads
+returns-in-Walcompare-clause-stops g c t = read_left g.F.Tree (Ok c.args.command.now) c.args.now c.args.tree.now c.walcompare.new.tree c.walcompare.ensures.reads
 
 pub returns-in-Rewind-clause-durable : goal.returns-in-Rewind-clause-durable
 returns-in-Rewind-clause-durable g c t =
     let fits : FitsSigned w64 c.args.now = search rules in
-    durable_rewind c.rewind.result _ _ c.in-Rewind.is (to_z-of_z w64 c.args.now fits) (c.rewind.ensures.synced t)
+    durable_rewind c.rewind.result (g.F.Tree.contents c.args.tree.now) (moment_of g.F.Tree c.rewind.new.tree) c.in-Rewind.is (to_z-of_z w64 c.args.now fits) (c.rewind.ensures.synced t)
 
 pub returns-in-Resetwal-clause-durable : goal.returns-in-Resetwal-clause-durable
-returns-in-Resetwal-clause-durable g c t = durable_reset c.resetwal.result _ _ _ c.in-Resetwal.is (c.resetwal.ensures.synced t)
+returns-in-Resetwal-clause-durable g c t = durable_reset c.resetwal.result c.args.now (g.F.Tree.contents c.args.tree.now) (moment_of g.F.Tree c.resetwal.new.tree) c.in-Resetwal.is (c.resetwal.ensures.synced t)
 
 pub returns-in-Walreplay-clause-durable : goal.returns-in-Walreplay-clause-durable
-returns-in-Walreplay-clause-durable g c t = durable_replay c.walreplay.result _ _ _ c.in-Walreplay.is (c.walreplay.ensures.synced t)
+returns-in-Walreplay-clause-durable g c t = durable_replay c.walreplay.result c.args.now (g.F.Tree.contents c.args.tree.now) (moment_of g.F.Tree c.walreplay.new.tree) c.in-Walreplay.is (c.walreplay.ensures.synced t)

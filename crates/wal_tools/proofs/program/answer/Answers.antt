@@ -29,18 +29,19 @@ returns-in-Err-clause-stays g c t =
 pub returns-in-Ok-clause-stops : goal.returns-in-Ok-clause-stops
 returns-in-Ok-clause-stops g c t =
     let fits : FitsSigned w64 c.args.now = search rules in
-    left_of_command _ _ _ _ _ c.in-Ok.ensures.answer (left_at (Ok c.in-Ok.command) _ _ _ (to_z-of_z w64 c.args.now fits) (c.carry_out.ensures.stops t))
+    left_of_command (command_of (map string_bytes c.args.words.now)) c.args.now (moment_of g.F.Tree c.args.tree.now) (g.F.Tree.stops c.args.tree.now) (g.F.Tree.stops c.carry_out.new.tree) c.in-Ok.ensures.answer
+    (left_at (Ok c.in-Ok.command) (moment_of g.F.Tree c.args.tree.now) (g.F.Tree.stops c.args.tree.now) (g.F.Tree.stops c.carry_out.new.tree) (to_z-of_z w64 c.args.now fits) (c.carry_out.ensures.stops t))
 
 pub returns-in-Err-OutOfMemory-clause-stops : goal.returns-in-Err-OutOfMemory-clause-stops
-returns-in-Err-OutOfMemory-clause-stops g c t = still_left _ _ (moment_of g.F.Tree c.args.tree.now)
+returns-in-Err-OutOfMemory-clause-stops g c t = still_left (command_of (map string_bytes c.args.words.now)) c.args.now (moment_of g.F.Tree c.args.tree.now)
 
 pub returns-in-Err-clause-stops : goal.returns-in-Err-clause-stops
-returns-in-Err-clause-stops g c t = still_left _ _ (moment_of g.F.Tree c.args.tree.now)
+returns-in-Err-clause-stops g c t = still_left (command_of (map string_bytes c.args.words.now)) c.args.now (moment_of g.F.Tree c.args.tree.now)
 
 pub returns-in-Ok-clause-durable : goal.returns-in-Ok-clause-durable
 returns-in-Ok-clause-durable g c t =
     let fits : FitsSigned w64 c.args.now = search rules in
-    durable_command c.carry_out.result _ _ _ c.in-Ok.ensures.answer (to_z-of_z w64 c.args.now fits) (c.carry_out.ensures.durable t)
+    durable_command c.carry_out.result (command_of (map string_bytes c.args.words.now)) (g.F.Tree.contents c.args.tree.now) (moment_of g.F.Tree c.carry_out.new.tree) c.in-Ok.ensures.answer (to_z-of_z w64 c.args.now fits) (c.carry_out.ensures.durable t)
 
 pub returns-in-Ok-clause-reads : goal.returns-in-Ok-clause-reads
 returns-in-Ok-clause-reads g c unmade = c.carry_out.ensures.reads (subst (λ asked. MayChange asked → ⊥) c.in-Ok.ensures.answer unmade)

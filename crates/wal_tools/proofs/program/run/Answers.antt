@@ -1,6 +1,7 @@
 use Rattle.std.proofs.Common.{FitsSigned, map, refl, rules, string_bytes, subst, w64}
 use Rattle.std.proofs.lemmas.Int.{to_z-of_z}
 use Rattle.acts.specs.Acts.{seen, sunk}
+use Rattle.cluster_tree.specs.Frame.{moment_of}
 use Rattle.run_acts.proofs.UnseenSteps.{unseen_grow, unseen_told}
 use Rattle.tool_words.specs.Command.{command_of}
 use Rattle.cause_lines.specs.Lines.{line_of}
@@ -53,10 +54,10 @@ returns-clause-stays g c t =
 pub returns-clause-stops : goal.returns-clause-stops
 returns-clause-stops g c t =
     let fits : FitsSigned w64 c.args.now = search rules in
-    left_at (command_of (map string_bytes c.args.words.now)) _ _ _ (to_z-of_z w64 c.args.now fits) (c.answer-outcome.ensures.stops t)
+    left_at (command_of (map string_bytes c.args.words.now)) (moment_of g.F.Tree c.args.tree.now) (g.F.Tree.stops c.args.tree.now) (g.F.Tree.stops c.answer-outcome.new.tree) (to_z-of_z w64 c.args.now fits) (c.answer-outcome.ensures.stops t)
 
 pub returns-clause-durable : goal.returns-clause-durable
 returns-clause-durable g c t done =
     let fits : FitsSigned w64 c.args.now = search rules in
-    durable_done c.answer-outcome.result (command_of (map string_bytes c.args.words.now)) _ _ c.answer-outcome.ensures.undone c.cause_of.ensures c.finish.ensures.cause done
+    durable_done c.answer-outcome.result (command_of (map string_bytes c.args.words.now)) (g.F.Tree.contents c.args.tree.now) (moment_of g.F.Tree c.answer-outcome.new.tree) c.answer-outcome.ensures.undone c.cause_of.ensures c.finish.ensures.cause done
     (to_z-of_z w64 c.args.now fits) (c.answer-outcome.ensures.durable t)
