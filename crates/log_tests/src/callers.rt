@@ -79,14 +79,18 @@ fn written_xids<F: Tree>(
     xids_of(&mut cursor, tree, xids)
 }
 
+/// What is read back of a writer's log from a tree that has it.
+fn read_back(alloc: Global, writer: &LogWriter, xids: &mut Vec<u32>) -> Result<(u64, Why), Fail> {
+    let mut tree = FailingTree::new(tree_with(alloc, writer)?, FailPlan::Never);
+    let log = path_of(alloc, Spans::one(alloc, 1)?, Some(SYSTEM))?;
+    Ok(written_xids(alloc, writer, log, Lsn(FIRST), &mut tree, xids)?)
+}
+
 #[test]
 fn what_a_writer_wrote_is_given_once(rt: HostRuntime) -> Result<(), Fail> {
     let (writer, _) = log_of(rt.alloc(), &[(0, 10, 50), (0, 10, 24)])?;
-    let tree = tree_with(rt.alloc(), &writer)?;
-    let mut tree = FailingTree::new(tree, FailPlan::Never);
-    let log = path_of(rt.alloc(), Spans::one(rt.alloc(), 1)?, Some(SYSTEM))?;
     let mut xids = Vec::new(rt.alloc());
-    let end = written_xids(rt.alloc(), &writer, log, Lsn(FIRST), &mut tree, &mut xids)?;
+    let end = read_back(rt.alloc(), &writer, &mut xids)?;
     assert_eq!(rt; end, (0x10_0078, Why::ZeroLength));
     assert_eq!(rt; xids.as_slice(), [700, 701].as_slice());
     Ok(())

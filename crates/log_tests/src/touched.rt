@@ -14,14 +14,20 @@ use std::alloc::Global;
 use std::process::Abort;
 use std::test::Fail;
 use touched_blocks::Touched;
+use wal_records::RecordCursor;
 use walks::walked;
 
-/// Adds a record, by its manager, its `info` and its body; what refuses it, if something does.
-fn add(alloc: Global, set: &mut Touched, words: &str) -> Result<Option<String>, Fail> {
+/// A cursor that has read a record, by its manager, its `info` and its body.
+fn cursor_of(alloc: Global, words: &str) -> Result<RecordCursor, Fail> {
     let (manager, behind) = cut_at(words, " ");
     let (info, body) = cut_at(behind, " ");
     let body = body_of(alloc, body)?;
-    let cursor = cursor_over(alloc, byte(manager)?, byte(info)?, &body)?;
+    cursor_over(alloc, byte(manager)?, byte(info)?, &body)
+}
+
+/// Adds a record; what refuses it, if something does.
+fn add(alloc: Global, set: &mut Touched, words: &str) -> Result<Option<String>, Fail> {
+    let cursor = cursor_of(alloc, words)?;
     let rec = cursor.current().ok_or("no record")?;
     let parts = split_record(rec)?;
     match set.add_record(rec, &parts) {

@@ -8,21 +8,38 @@ use crate::touched::walk_control::control;
 use crate::touched::walk_logs::{cursor, size, tree_of};
 use crate::touched::walk_rows::HINTED;
 use cluster_tree::{FailingTree, Tree};
-use log_walk::{LogWalkFault, common_checkpoint, end_of_target, touch_log};
+use log_walk::{CommonCheckpoint, LogWalkFault, common_checkpoint, end_of_target, touch_log};
 use std::alloc::Global;
 use std::test::Fail;
 use touched_blocks::Touched;
 use wal_base::{Lsn, SegSize};
 use wal_records::RecordCursor;
 
+fn end_text(alloc: Global, answer: Result<Lsn, LogWalkFault>) -> Result<String, Fail> {
+    match answer {
+        Ok(end) => Ok(format!(in alloc; "{end}")?),
+        Err(fault) => Ok(format!(in alloc; "{fault:?}")?),
+    }
+}
+
 /// Where the target's log ends.
 fn end(alloc: Global, words: &str, cells: &str) -> Result<String, Fail> {
     let (checkpoint, least) = cut_at(words, " ");
     let control = control(position(checkpoint)?, position(least)?);
-    let mut tree = tree_of(alloc, cells)?;
     let mut cursor = cursor(alloc, size()?)?;
-    match end_of_target(&mut cursor, &mut tree, &control) {
-        Ok(end) => Ok(format!(in alloc; "{end}")?),
+    let mut tree = tree_of(alloc, cells)?;
+    end_text(alloc, end_of_target(&mut cursor, &mut tree, &control))
+}
+
+fn common_text(
+    alloc: Global,
+    answer: Result<CommonCheckpoint, LogWalkFault>,
+) -> Result<String, Fail> {
+    match answer {
+        Ok(found) => {
+            let redo = Lsn(found.checkpoint.redo);
+            Ok(format!(in alloc; "{} {redo}", found.start)?)
+        }
         Err(fault) => Ok(format!(in alloc; "{fault:?}")?),
     }
 }
@@ -31,12 +48,20 @@ fn end(alloc: Global, words: &str, cells: &str) -> Result<String, Fail> {
 fn common(alloc: Global, fork: &str, cells: &str) -> Result<String, Fail> {
     let size = size()?;
     let fork = Lsn(position(fork)?);
-    let mut tree = tree_of(alloc, cells)?;
     let mut cursor = cursor(alloc, size)?;
-    match common_checkpoint(&mut cursor, &mut tree, size, fork) {
+    let mut tree = tree_of(alloc, cells)?;
+    common_text(alloc, common_checkpoint(&mut cursor, &mut tree, size, fork))
+}
+
+fn touched_text(
+    alloc: Global,
+    set: &mut Touched,
+    answer: Result<Touched, LogWalkFault>,
+) -> Result<String, Fail> {
+    match answer {
         Ok(found) => {
-            let redo = Lsn(found.checkpoint.redo);
-            Ok(format!(in alloc; "{} {redo}", found.start)?)
+            *set = found;
+            counted(alloc, set)
         }
         Err(fault) => Ok(format!(in alloc; "{fault:?}")?),
     }
@@ -46,15 +71,10 @@ fn common(alloc: Global, fork: &str, cells: &str) -> Result<String, Fail> {
 fn touched(alloc: Global, set: &mut Touched, words: &str, cells: &str) -> Result<String, Fail> {
     let (redo, end) = cut_at(words, " ");
     let (redo, end) = (Lsn(position(redo)?), Lsn(position(end)?));
-    let mut tree = tree_of(alloc, cells)?;
     let mut cursor = cursor(alloc, size()?)?;
-    match touch_log(alloc, &mut cursor, &mut tree, redo, end) {
-        Ok(found) => {
-            *set = found;
-            counted(alloc, set)
-        }
-        Err(fault) => Ok(format!(in alloc; "{fault:?}")?),
-    }
+    let mut tree = tree_of(alloc, cells)?;
+    let answer = touch_log(alloc, &mut cursor, &mut tree, redo, end);
+    touched_text(alloc, set, answer)
 }
 
 /// How many chunks the log with the hint touches, by the three walks on one cursor.
