@@ -1,3 +1,4 @@
 pub mod Archivecleanup
 pub mod Steps
+pub mod Left
 pub mod Laws

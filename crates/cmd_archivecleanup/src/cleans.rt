@@ -2,14 +2,17 @@
 ghost use Rattle.std.specs.Prelude.{◌≡◌, ◌≢◌, ◌⊎◌, ℕ, Bool, false, true, Err, IfErr, IfOk, IsErrOf, IsTrue, MatchResult};
 ghost use Rattle.cluster_tree.specs.Causes.{Rose};
 ghost use Rattle.cluster_tree.specs.Contents.{Contents};
-ghost use Rattle.cluster_tree.specs.Frame.{Came, Reads};
+ghost use Rattle.cluster_tree.specs.Frame.{Came, Reads, moment_of};
 ghost use Rattle.cluster_tree.specs.PathValue.{PathValue};
+ghost use Rattle.cluster_tree.specs.Stops.{LeavesOnly};
 ghost use Rattle.commands.specs.Fit.{IsFitArchivecleanup};
 ghost use Rattle.acts.specs.Acts.{Sunk, seen, sunk};
 ghost use Rattle.run_acts.specs.Answers.{Blames, Carries, does, refused};
 ghost use Rattle.run_acts.specs.Causes.{IsFree, IsOfLook, cause_of, is_of_files};
 ghost use Rattle.run_acts.specs.Unseen.{CarriesUnseen};
 ghost use Rattle.cmd_archivecleanup.specs.Archivecleanup.{AreFiles, IsArchivecleanup, archivecleanup_answer, printed, removals};
+ghost use Rattle.cmd_archivecleanup.specs.Left.{IsLeftByCleanup, leaving};
+ghost use Rattle.cmd_archivecleanup.specs.Steps.{paths_of};
 
 use crate::archive::gone;
 use crate::names::{path_lines, print_text};
@@ -59,6 +62,8 @@ fn planned<F: Tree>(
     ensures form { IfOk result (λ queue. (contents : Contents) →
         IsArchivecleanup words.now (does (removals contents queue.items))) }
     ensures files { IsTrue F.tells → IfOk result (λ queue. AreFiles (F.contents tree.old) queue.items) }
+    ensures leaving { IsTrue F.tells → IfOk result (λ queue.
+        paths_of queue.items ≡ leaving (F.contents tree.old) words.now) }
     ensures look { IfErr result IsOfLook }
     ensures only { IfErr result (λ e. IsTrue (is_of_files e)) }
     ensures reads { Reads F.Tree tree.old tree.new }
@@ -92,6 +97,9 @@ fn name_files<F: Tree, O: Sink>(
         (sunk (O.written out.old) (O.failed_writes out.old)) err)
         (seen (F.contents tree.new) (F.calls tree.new)
         (sunk (O.written out.new) (O.failed_writes out.new)) err) }
+    ensures stops { IsTrue F.tells → LeavesOnly
+        (IsLeftByCleanup words.now (moment_of F.Tree tree.old)) (F.stops tree.old)
+        (F.stops tree.new) }
     ensures blames { (n : ℕ) → Blames (cause_of result)
         (F.failed_reads tree.old) (F.failed_reads tree.new)
         (F.failed_changes tree.old) (F.failed_changes tree.new)
@@ -123,6 +131,9 @@ fn remove_files<F: Tree, E: Sink>(
         (sunk (E.written err.old) (E.failed_writes err.old)))
         (seen (F.contents tree.new) (F.calls tree.new) out
         (sunk (E.written err.new) (E.failed_writes err.new))) }
+    ensures stops { IsTrue F.tells → LeavesOnly
+        (IsLeftByCleanup words.now (moment_of F.Tree tree.old)) (F.stops tree.old)
+        (F.stops tree.new) }
     ensures blames { (n : ℕ) → Blames (cause_of result)
         (F.failed_reads tree.old) (F.failed_reads tree.new)
         (F.failed_changes tree.old) (F.failed_changes tree.new) n n
@@ -164,6 +175,10 @@ pub fn archivecleanup<F: Tree, O: Sink, E: Sink>(
         (seen (F.contents tree.new) (F.calls tree.new)
         (sunk (O.written out.new) (O.failed_writes out.new))
         (sunk (E.written err.new) (E.failed_writes err.new))) }
+    // a stop at any moment leaves the files as they were, less some of those that go
+    ensures stops { IsTrue F.tells → LeavesOnly
+        (IsLeftByCleanup words.now (moment_of F.Tree tree.old)) (F.stops tree.old)
+        (F.stops tree.new) }
     ensures blames { Blames (cause_of result)
         (F.failed_reads tree.old) (F.failed_reads tree.new)
         (F.failed_changes tree.old) (F.failed_changes tree.new)

@@ -1,5 +1,5 @@
 // The removals, carried out.
-ghost use Rattle.std.specs.Prelude.{◌≡◌, ◌≢◌, ◌≤◌, ◌⊎◌, Bool, [], ◌∷◌, None, Some, true, Err, IfErr, IsErrOf, IsTrue, OnErr, OnOk};
+ghost use Rattle.std.specs.Prelude.{◌≡◌, ◌≢◌, ◌≤◌, ◌⊎◌, Bool, [], ◌∷◌, None, Some, true, map, Err, IfErr, IsErrOf, IsTrue, OnErr, OnOk};
 ghost use Rattle.cluster_tree.specs.Causes.{Rose};
 ghost use Rattle.cluster_tree.specs.Change.{Removes};
 ghost use Rattle.cluster_tree.specs.Contents.{entry_at, is_file};
@@ -10,7 +10,7 @@ ghost use Rattle.acts.specs.Acts.{Sunk, seen, sunk};
 ghost use Rattle.run_acts.specs.Causes.{cause_of};
 ghost use Rattle.run_acts.specs.Unseen.{PerformsUnseen};
 ghost use Rattle.cmd_archivecleanup.specs.Archivecleanup.{AreFiles, removals};
-ghost use Rattle.cmd_archivecleanup.specs.Steps.{IsOfRemoval, Breaks, Tells};
+ghost use Rattle.cmd_archivecleanup.specs.Steps.{IsOfRemoval, Breaks, Tells, paths_of};
 
 use crate::plan::Removal;
 use cluster_tree::{Path, Sink, Tree};
@@ -70,6 +70,9 @@ pub(crate) fn remove_all<F: Tree, E: Sink>(
         (sunk (E.written err.old) (E.failed_writes err.old)))
         (seen (F.contents tree.new) (F.calls tree.new) out
         (sunk (E.written err.new) (E.failed_writes err.new))) }
+    ensures runs { IsTrue F.tells → Runs (map Removes (paths_of queue.items))
+        (F.calls tree.old) (F.calls tree.new) (F.contents tree.old) (F.contents tree.new)
+        (is_done result) }
     ensures only { IfErr result (λ e. (e ≡ Cause.SinkFault) ⊎ IsOfRemoval e) }
     ensures changed { IsTrue F.tells → (p : PathValue) → result ≢ Err (Cause.Changed p) }
     ensures frame { Came F.Tree tree.old tree.new }
