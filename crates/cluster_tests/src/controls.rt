@@ -1,17 +1,14 @@
 //! Control files from the fields that differ: each its offset, its width, its value, and maybe its name.
-use crate::texts::{cut_at, long};
-use std::test::Fail;
-use wal_base::Crc32c;
+use crate::texts::cut_at;
+use wal_base::{Crc32c, decimal_u64};
 
-/// The fields of a cluster that was shut down on timeline 1, for surveys.
+/// The fields of a cluster that was shut down on timeline 1, for surveys, and the sum of that file. That of another one
+/// stands in its row; they come from a script of its own (tests/pg_control.py).
 const SURVEYED: &str = "\
 0 8 7300000000000000001 sysid, 8 4 1300 version, 12 4 202307071 catalog, 16 4 1 state, 48 4 1 \
     cp.tli, 52 4 1 cp.prevTli, 176 1 1 walLogHints, 204 4 8 maxAlign, 208 8 4698053236609777664 \
     floatFormat, 216 4 8192 blcksz, 220 4 131072 relseg, 224 4 8192 walBlcksz, 228 4 1048576 \
-    walSegSize";
-
-/// The sum of that file. That of another one stands in its row; they come from a script of its own (tests/pg_control.py).
-const SURVEYED_SUM: u32 = 0x9520_8C9A;
+    walSegSize, 288 4 2501938330 crc";
 
 /// The fields of a cluster that was shut down on timeline 1, for resets.
 const RESET: &str = "\
@@ -27,41 +24,43 @@ const RESET: &str = "\
     trackCommitTs, 204 4 8 maxAlign, 208 8 4698053236609777664 floatFormat, 216 4 8192 blcksz, 220 \
     4 131072 relseg, 224 4 8192 walBlcksz, 228 4 1048576 walSegSize, 232 4 64 nameLen, 236 4 32 \
     indexKeys, 240 4 1996 toastChunk, 244 4 2048 loBlock, 248 1 1 float8ByVal, 252 4 0 \
-    checksumVersion";
+    checksumVersion, 256 8 506097522914230528 nonce, 264 8 1084818905618843912 nonce, 272 8 \
+    1663540288323457296 nonce, 280 8 2242261671028070680 nonce";
 
-fn put(file: &mut [u8; 8192], at: usize, width: usize, value: u64) {
+fn put(file: &mut [u8], at: usize, width: usize, value: u64) {
     let places = file.iter_mut().skip(at).take(width);
     for (place, byte) in places.zip(value.to_le_bytes()) {
         *place = byte;
     }
 }
 
-fn put_field(file: &mut [u8; 8192], field: &str) -> Result<(), Fail> {
+fn put_field(file: &mut [u8], field: &str) -> Option<()> {
     let (at, behind) = cut_at(field, " ");
     let (width, behind) = cut_at(behind, " ");
     let (value, _name) = cut_at(behind, " ");
-    let (at, width) = (long(at)? as usize, long(width)? as usize);
-    put(file, at, width, long(value)?);
-    Ok(())
+    let at = decimal_u64(at.as_bytes())?;
+    let width = decimal_u64(width.as_bytes())?;
+    let value = decimal_u64(value.as_bytes())?;
+    put(file, at as usize, width as usize, value);
+    Some(())
 }
 
-fn put_fields(file: &mut [u8; 8192], fields: &str) -> Result<(), Fail> {
+fn put_fields(file: &mut [u8], fields: &str) -> Option<()> {
     for field in fields.split(", ") {
         put_field(file, field)?;
     }
-    Ok(())
+    Some(())
 }
 
 /// The control file of a survey: `plain`, or `FIELD, ..: SUM`.
-pub(crate) fn surveyed(text: &str) -> Result<[u8; 8192], Fail> {
+pub(crate) fn surveyed(text: &str) -> Option<[u8; 8192]> {
     let mut file = [0; 8192];
     put_fields(&mut file, SURVEYED)?;
-    put(&mut file, 288, 4, u64::from(SURVEYED_SUM));
     if let Some((fields, sum)) = text.split_once(": ") {
         put_fields(&mut file, fields)?;
-        put(&mut file, 288, 4, long(sum)?);
+        put(&mut file, 288, 4, decimal_u64(sum.as_bytes())?);
     }
-    Ok(file)
+    Some(file)
 }
 
 /// The sum of the first bytes of some, so many.
@@ -72,17 +71,13 @@ pub(crate) fn sum_of(bytes: &[u8], size: usize) -> u32 {
 }
 
 /// The control file of a reset, with its sum: `plain`, or the fields that differ.
-pub(crate) fn reset(edits: &str) -> Result<[u8; 8192], Fail> {
+pub(crate) fn reset(edits: &str) -> Option<[u8; 8192]> {
     let mut file = [0; 8192];
     put_fields(&mut file, RESET)?;
-    // the nonce
-    for (place, byte) in file.iter_mut().skip(256).take(32).zip(0..=255) {
-        *place = byte;
-    }
     if edits != "plain" {
         put_fields(&mut file, edits)?;
     }
     let sum = sum_of(&file, 288);
     put(&mut file, 288, 4, u64::from(sum));
-    Ok(file)
+    Some(file)
 }

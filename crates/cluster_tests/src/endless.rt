@@ -1,8 +1,7 @@
 //! Walks over a tree that tells nothing and has no end: each folder of it has one name.
 use crate::texts::cut_at;
-use crate::walks::fault_text;
+use crate::walks::tell_walk;
 use cluster_tree::{Kind, Names, Path, Tree, TreeFault};
-use file_walk::walk;
 use std::alloc::Global;
 use std::test::Fail;
 
@@ -81,25 +80,18 @@ endless folder t/u = TooDeep of 125
 endless folder /t/u/v = TooDeep of 123
 endless none t = File t/d was changed meanwhile";
 
-/// Why a walk over such a tree ends.
-fn end_of(alloc: Global, kind: Kind, root: &str) -> Result<String, Fail> {
-    let mut tree = Endless { kind };
-    match walk(alloc, &mut tree, &Path::parse(alloc, root)?) {
-        Ok(_) => Err("it was walked".into()),
-        Err(fault) => fault_text(alloc, &fault),
-    }
-}
-
 /// `folder ROOT` or `none ROOT`: why a walk ends where each path is so.
-pub(crate) fn of_endless(alloc: Global, words: &str) -> Result<String, Fail> {
+pub(crate) fn tell_endless(alloc: Global, out: &mut String, words: &str) -> Result<(), Fail> {
     let (kind, root) = cut_at(words, " ");
     let kind = match kind {
         "folder" => Kind::Folder,
         _ => Kind::Absent,
     };
-    let told = end_of(alloc, kind, root)?;
-    match told.as_str().strip_prefix("TooDeep ") {
-        Some(path) if path.starts_with("d") => Ok(format!(in alloc; "TooDeep of {}", path.len())?),
-        _ => Ok(told),
-    }
+    tell_walk(alloc, out, &mut Endless { kind }, root)?;
+    let size = match out.as_str().strip_prefix("TooDeep ") {
+        Some(path) if path.starts_with("d") => path.len(),
+        _ => return Ok(()),
+    };
+    out.clear();
+    Ok(write!(out, "TooDeep of {size}")?)
 }

@@ -2,10 +2,11 @@
 //! calls before it left, under the mark from the first of them on until the last but one.
 use crate::controls::sum_of;
 use crate::options::options_of;
-use crate::resets::{bytes_of, cluster, said};
+use crate::resets::{CONTROL, cluster, found_in, tell_answer};
 use crate::texts::{cut_at, number};
 use cluster_tree::{ChangeCall, FailPlan, FailingTree, Kind, MemoryTree, Path, Tree};
-use std::alloc::Global;
+use clusters::Found;
+use std::alloc::{AllocError, Global};
 use std::test::Fail;
 
 /// The first and the last call that fails, the answer, and what stands then: `m` the mark, with its text `t`; `c` the new
@@ -65,84 +66,96 @@ fn is_file(alloc: Global, tree: &mut MemoryTree, text: &str) -> Result<bool, Fai
 
 // The letter of the mark, or nothing.
 fn mark(alloc: Global, tree: &mut MemoryTree) -> Result<&'static str, Fail> {
-    if !is_file(alloc, tree, MARK)? {
-        return Ok("");
-    }
-    let bytes = bytes_of(alloc, tree, MARK)?;
-    let whole = bytes.as_slice() == b"pg_resetwal 1\n".as_slice();
-    Ok(if whole { "t" } else { "m" })
+    let mut text = [0; 14];
+    Ok(match found_in(alloc, tree, MARK, &mut text)? {
+        Found::Missing => "",
+        Found::Filled if text == *b"pg_resetwal 1\n" => "t",
+        _ => "m",
+    })
 }
 
 // The letter of the control file, or nothing.
 fn control(alloc: Global, tree: &mut MemoryTree) -> Result<&'static str, Fail> {
-    let bytes = bytes_of(alloc, tree, "t/global/pg_control")?;
-    Ok(if sum_of(&bytes, 288) == 0xB40D_4A1B {
-        "c"
-    } else {
-        ""
-    })
+    let mut bytes = [0; 8192];
+    let found = found_in(alloc, tree, CONTROL, &mut bytes)?;
+    let new = found == Found::Filled && sum_of(&bytes, 288) == 0xB40D_4A1B;
+    Ok(if new { "c" } else { "" })
 }
 
-fn standing(alloc: Global, tree: &mut MemoryTree) -> Result<String, Fail> {
-    let mut text = String::from_str(alloc, mark(alloc, tree)?)?;
-    text.push_str(control(alloc, tree)?)?;
+// Tells what stands.
+fn tell_standing(alloc: Global, out: &mut String, tree: &mut MemoryTree) -> Result<(), Fail> {
+    out.push_str(mark(alloc, tree)?)?;
+    out.push_str(control(alloc, tree)?)?;
     for line in LETTERS.split('\n') {
         let (letter, file) = cut_at(line, " ");
         if is_file(alloc, tree, file)? {
-            text.push_str(letter)?;
+            out.push_str(letter)?;
         }
     }
-    Ok(text)
+    Ok(())
 }
 
-// The answer where the device's call of a number fails, and what stands then.
-fn broken(alloc: Global, number: u32) -> Result<String, Fail> {
+// Tells the answer where the device's call of a number fails, and what stands then.
+fn tell_broken(alloc: Global, out: &mut String, number: u32) -> Result<(), Fail> {
     let tree = cluster(alloc, "plain", FILES)?;
     let mut tree = FailingTree::new(tree, FailPlan::At(u64::from(number)));
-    let told = said(alloc, &mut tree, &options_of("-")?)?;
-    let stands = standing(alloc, &mut tree.into_inner())?;
-    Ok(format!(in alloc; "{} {}", told.as_str(), stands.as_str())?)
+    tell_answer(alloc, out, &mut tree, &options_of("-")?)?;
+    out.push(' ')?;
+    tell_standing(alloc, out, &mut tree.into_inner())
 }
 
-fn change_text(alloc: Global, call: &ChangeCall) -> Result<String, Fail> {
-    Ok(match call {
-        ChangeCall::Write(path, _, _) => format!(in alloc; "write {path}")?,
-        ChangeCall::Cut(path, _) => format!(in alloc; "cut {path}")?,
-        ChangeCall::MakeFile(path) => format!(in alloc; "file {path}")?,
-        ChangeCall::MakeFolder(path) => format!(in alloc; "folder {path}")?,
-        ChangeCall::Remove(path) => format!(in alloc; "remove {path}")?,
-        ChangeCall::Sync => String::from_str(alloc, "sync")?,
-    })
+fn tell_change(out: &mut String, call: &ChangeCall) -> Result<(), AllocError> {
+    let (verb, path) = match call {
+        ChangeCall::Write(path, _, _) => ("write", path),
+        ChangeCall::Cut(path, _) => ("cut", path),
+        ChangeCall::MakeFile(path) => ("file", path),
+        ChangeCall::MakeFolder(path) => ("folder", path),
+        ChangeCall::Remove(path) => ("remove", path),
+        ChangeCall::Sync => return out.push_str("sync"),
+    };
+    write!(out, "{verb} {path}")
 }
 
-// The changing call of a number of a reset.
-fn call(alloc: Global, number: u32) -> Result<String, Fail> {
+// Tells the changing call of a number of a reset.
+fn tell_call(alloc: Global, out: &mut String, number: u32) -> Result<(), Fail> {
     let mut tree = cluster(alloc, "plain", FILES)?;
     let before = tree.changes();
-    said(alloc, &mut tree, &options_of("-")?)?;
+    tell_answer(alloc, out, &mut tree, &options_of("-")?)?;
+    out.clear();
     match tree.change(before.saturating_add(number as usize)) {
-        Some(call) => change_text(alloc, call),
-        None => Ok(String::from_str(alloc, "none")?),
+        Some(call) => Ok(tell_change(out, call)?),
+        None => Ok(out.push_str("none")?),
     }
 }
 
-fn one(alloc: Global, verb: &str, number: u32) -> Result<String, Fail> {
+fn tell_one(alloc: Global, out: &mut String, verb: &str, number: u32) -> Result<(), Fail> {
     match verb {
-        "broken" => broken(alloc, number),
-        _ => call(alloc, number),
+        "broken" => tell_broken(alloc, out, number),
+        _ => tell_call(alloc, out, number),
     }
+}
+
+// Whether the same is told of a number.
+fn is_told(alloc: Global, told: &str, verb: &str, number: u32) -> Result<bool, Fail> {
+    let mut out = String::new(alloc);
+    tell_one(alloc, &mut out, verb, number)?;
+    Ok(out.as_str() == told)
 }
 
 /// `broken FIRST LAST` or `call FIRST LAST`: what is told of each number, which has to be the same.
-pub(crate) fn of_fault(alloc: Global, verb: &str, words: &str) -> Result<String, Fail> {
+pub(crate) fn tell_faults(
+    alloc: Global,
+    out: &mut String,
+    verb: &str,
+    words: &str,
+) -> Result<(), Fail> {
     let (first, last) = cut_at(words, " ");
     let (first, last) = (number(first)?, number(last)?);
-    let told = one(alloc, verb, first)?;
-    for number in first..last {
-        let next = one(alloc, verb, number.saturating_add(1))?;
-        if next.as_str() != told.as_str() {
-            return Ok(next);
+    tell_one(alloc, out, verb, last)?;
+    for other in first..last {
+        if !is_told(alloc, out.as_str(), verb, other)? {
+            return Ok(write!(out, ", but not of {other}")?);
         }
     }
-    Ok(told)
+    Ok(())
 }

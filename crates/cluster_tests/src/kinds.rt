@@ -1,6 +1,6 @@
 //! What stands at a path, as a text.
 use file_walk::EntryKind;
-use std::alloc::Global;
+use std::alloc::AllocError;
 use std::test::Fail;
 
 /// What a text says that stands somewhere: nothing, a folder, or a file of so many bytes.
@@ -12,11 +12,11 @@ pub(crate) fn kind_of(text: &str) -> Result<Option<EntryKind>, Fail> {
     })
 }
 
-/// The text of what stands somewhere.
-pub(crate) fn kind_text(alloc: Global, kind: Option<&EntryKind>) -> Result<String, Fail> {
-    Ok(match kind {
-        None => format!(in alloc; "-")?,
-        Some(EntryKind::Folder) => format!(in alloc; "/")?,
-        Some(EntryKind::File(size)) => format!(in alloc; "{size}")?,
-    })
+/// Tells what stands somewhere.
+pub(crate) fn tell_kind(out: &mut String, kind: Option<&EntryKind>) -> Result<(), AllocError> {
+    match kind {
+        None => out.push('-'),
+        Some(EntryKind::Folder) => out.push('/'),
+        Some(EntryKind::File(size)) => write!(out, "{size}"),
+    }
 }

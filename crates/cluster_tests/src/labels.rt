@@ -1,9 +1,9 @@
 //! Labels, as a script of its own writes and reads them. In rows the end of a line is written as `;`.
-use crate::texts::{cut_at, number};
-use backup_label::{Label, read_label};
+use crate::texts::cut_at;
+use backup_label::{Label, LabelPlaces, read_label};
 use std::alloc::Global;
 use std::test::Fail;
-use wal_base::{Lsn, SegSize};
+use wal_base::{Lsn, SegSize, decimal_u32, decimal_u64};
 
 /// The start, the timeline, the size of segments, the checkpoint and the time; how many bytes the label has, and its text.
 pub(crate) const WRITTEN: &str = "\
@@ -35,50 +35,45 @@ read START WAL LOCATION: 0/1 (file 000000010000000000000001);CHECKPOINT LOCATION
 read START WAL LOCATION: 0/1 (file 000000010000000000000001);CHECKPOINT LOCATION:0/1; = \
     Err(Checkpoint)";
 
-/// A text with one letter in the place of another.
-fn with(alloc: Global, text: &str, letter: char, other: char) -> Result<String, Fail> {
-    let mut with = String::new(alloc);
-    for found in text.chars() {
-        with.push(if found == letter { other } else { found })?;
-    }
-    Ok(with)
-}
-
-fn label_of(words: &str) -> Result<Label, Fail> {
+fn label_of(words: &str) -> Option<Label> {
     let (start, behind) = cut_at(words, " ");
     let (tli, behind) = cut_at(behind, " ");
     let (size, behind) = cut_at(behind, " ");
     let (checkpoint, time) = cut_at(behind, " ");
-    Ok(Label {
-        start: Lsn(start.parse::<u64>()?),
-        tli: number(tli)?,
-        size: SegSize::new(number(size)?).ok_or("no size of segments")?,
-        checkpoint: Lsn(checkpoint.parse::<u64>()?),
-        time: time.parse::<i64>()?,
+    Some(Label {
+        start: Lsn(decimal_u64(start.as_bytes())?),
+        tli: decimal_u32(tli.as_bytes())?,
+        size: SegSize::new(decimal_u32(size.as_bytes())?)?,
+        checkpoint: Lsn(decimal_u64(checkpoint.as_bytes())?),
+        time: time.parse().ok()?,
     })
 }
 
-fn written(alloc: Global, words: &str) -> Result<String, Fail> {
-    let text = label_of(words)?.text(alloc)?;
-    let shown = with(alloc, text.as_str(), '\n', ';')?;
-    Ok(format!(in alloc; "{} {}", text.as_str().len(), shown.as_str())?)
+fn tell_label(alloc: Global, out: &mut String, words: &str) -> Result<(), Fail> {
+    let text = label_of(words).ok_or("no label")?.text(alloc)?;
+    let shown = text.as_str().replace(alloc, '\n', ";")?;
+    Ok(write!(out, "{} {}", text.as_str().len(), shown.as_str())?)
 }
 
-fn read(alloc: Global, words: &str) -> Result<String, Fail> {
-    let text = with(alloc, words, ';', '\n')?;
-    match read_label(text.as_str().as_bytes()) {
-        Ok(places) => {
-            let (start, checkpoint) = (places.start.0, places.checkpoint.0);
-            Ok(format!(in alloc; "Ok(({start}, {checkpoint}))")?)
+fn tell_read(alloc: Global, out: &mut String, words: &str) -> Result<(), Fail> {
+    let text = words.replace(alloc, ';', "\n")?;
+    match read_label(text.as_bytes()) {
+        Ok(LabelPlaces { start, checkpoint }) => {
+            Ok(write!(out, "Ok(({}, {}))", start.0, checkpoint.0)?)
         }
-        Err(fault) => Ok(format!(in alloc; "Err({fault:?})")?),
+        Err(fault) => Ok(write!(out, "Err({fault:?})")?),
     }
 }
 
 /// `label START TIMELINE SIZE CHECKPOINT TIME` or `read TEXT`.
-pub(crate) fn of_label(alloc: Global, verb: &str, words: &str) -> Result<String, Fail> {
+pub(crate) fn tell_labels(
+    alloc: Global,
+    out: &mut String,
+    verb: &str,
+    words: &str,
+) -> Result<(), Fail> {
     match verb {
-        "label" => written(alloc, words),
-        _ => read(alloc, words),
+        "label" => tell_label(alloc, out, words),
+        _ => tell_read(alloc, out, words),
     }
 }

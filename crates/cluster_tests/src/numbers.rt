@@ -9,11 +9,12 @@ use crate::controls::sum_of;
 use crate::options::options_of;
 use crate::resets::cluster;
 use crate::texts::cut_at;
-use cluster_tree::{MemoryTree, Path, Tree};
+use crate::trees::{names_in, root_of};
+use cluster_tree::MemoryTree;
 use clusters::control_at;
 use control_file::{Control, write_control};
 use reset_numbers::{ResetOptions, is_fit, is_segment, is_status, new_control, new_segment};
-use std::alloc::Global;
+use std::alloc::{AllocError, Global};
 use std::test::Fail;
 use wal_base::{Lsn, Segment};
 
@@ -83,12 +84,12 @@ status 0000000100000000000000AF.partial.done = true
 status 00000001.history.done = false
 status 0000000100000000000000AF = false";
 
-fn numbers_of(
-    alloc: Global,
+fn tell_segment(
+    out: &mut String,
     options: &ResetOptions,
     old: &Control,
     segment: Segment,
-) -> Result<String, Fail>
+) -> Result<(), AllocError>
     requires control { IsControl old.now }
     requires low { segment.number * bytes_of segment.size < 2 ^ 63 }
 {
@@ -97,33 +98,49 @@ fn numbers_of(
     let mut bytes = [0; 8192];
     write_control(&control, &mut bytes);
     let sum = sum_of(&bytes, 288);
-    Ok(format!(in alloc; "{} {} {} {sum:08X}", segment.tli, segment.number, Lsn(at))?)
+    write!(
+        out,
+        "{} {} {} {sum:08X}",
+        segment.tli,
+        segment.number,
+        Lsn(at)
+    )
 }
 
-fn told(alloc: Global, tree: &mut MemoryTree, options: &ResetOptions) -> Result<String, Fail> {
-    let root = Path::parse(alloc, "t")?;
-    if root.len() > 61 || !is_fit(options) {
+fn tell_new(
+    alloc: Global,
+    out: &mut String,
+    tree: &mut MemoryTree,
+    options: &ResetOptions,
+) -> Result<(), Fail> {
+    if !is_fit(options) {
         return Err("unfit".into());
     }
-    let old = control_at(alloc, tree, &root)?;
-    let names = tree.list(alloc, &Path::parse(alloc, "t/pg_wal")?)?;
-    match new_segment(options, &old, &names) {
-        Some(segment) => numbers_of(alloc, options, &old, segment),
-        None => Ok(String::from_str(alloc, "none")?),
+    let old = control_at(alloc, tree, &root_of(alloc, "t")?)?;
+    let segment = new_segment(options, &old, &names_in(alloc, tree, "t/pg_wal")?);
+    match segment {
+        Some(segment) => Ok(tell_segment(out, options, &old, segment)?),
+        None => Ok(out.push_str("none")?),
     }
 }
 
 /// `numbers OPTIONS | CONTROL | FILES`, `fit OPTIONS`, `segment NAME` or `status NAME`.
-pub(crate) fn of_numbers(alloc: Global, verb: &str, words: &str) -> Result<String, Fail> {
+pub(crate) fn tell_numbers(
+    alloc: Global,
+    out: &mut String,
+    verb: &str,
+    words: &str,
+) -> Result<(), Fail> {
     let (options, behind) = cut_at(words, " | ");
-    match verb {
+    let yes = match verb {
         "numbers" => {
             let (control, files) = cut_at(behind, " | ");
-            let mut tree = cluster(alloc, control, files)?;
-            told(alloc, &mut tree, &options_of(options)?)
+            let options = options_of(options)?;
+            return tell_new(alloc, out, &mut cluster(alloc, control, files)?, &options);
         }
-        "fit" => Ok(format!(in alloc; "{}", is_fit(&options_of(options)?))?),
-        "segment" => Ok(format!(in alloc; "{}", is_segment(words.as_bytes()))?),
-        _ => Ok(format!(in alloc; "{}", is_status(words.as_bytes()))?),
-    }
+        "fit" => is_fit(&options_of(options)?),
+        "segment" => is_segment(words.as_bytes()),
+        _ => is_status(words.as_bytes()),
+    };
+    Ok(write!(out, "{yes}")?)
 }

@@ -1,7 +1,8 @@
 //! Options of resets as texts.
-use crate::texts::{cut_at, long, number};
+use crate::texts::cut_at;
 use reset_cleanup::ResetOptions;
 use std::test::Fail;
+use wal_base::{decimal_u32, decimal_u64};
 
 /// No option.
 const PLAIN: ResetOptions = ResetOptions {
@@ -18,33 +19,47 @@ const PLAIN: ResetOptions = ResetOptions {
     segment_mb: None,
 };
 
-fn pair(words: &str) -> Result<(u32, u32), Fail> {
+fn pair(words: &str) -> Option<(u32, u32)> {
     let (first, second) = cut_at(words, " ");
-    Ok((number(first)?, number(second)?))
+    Some((
+        decimal_u32(first.as_bytes())?,
+        decimal_u32(second.as_bytes())?,
+    ))
 }
 
-fn place(words: &str) -> Result<(u32, u64, u64), Fail> {
+fn place(words: &str) -> Option<(u32, u64, u64)> {
     let (tli, behind) = cut_at(words, " ");
     let (high, low) = cut_at(behind, " ");
-    Ok((number(tli)?, long(high)?, long(low)?))
+    Some((
+        decimal_u32(tli.as_bytes())?,
+        decimal_u64(high.as_bytes())?,
+        decimal_u64(low.as_bytes())?,
+    ))
 }
 
-fn set(options: &mut ResetOptions, letter: &str, words: &str) -> Result<(), Fail> {
+fn set_number(options: &mut ResetOptions, letter: &str, value: u32) -> Option<()> {
+    match letter {
+        "e" => options.epoch = Some(value),
+        "o" => options.oid = Some(value),
+        "O" => options.multi_offset = Some(value),
+        "u" => options.oldest_xid = Some(value),
+        "x" => options.xid = Some(value),
+        "s" => options.segment_mb = Some(value),
+        _ => return None,
+    }
+    Some(())
+}
+
+fn set(options: &mut ResetOptions, letter: &str, words: &str) -> Option<()> {
     match letter {
         "c" => options.commit_ts = Some(pair(words)?),
-        "e" => options.epoch = Some(number(words)?),
         "f" => options.force = Some(()),
         "l" => options.log = Some(place(words)?),
         "m" => options.multi = Some(pair(words)?),
         "n" => options.dry = Some(()),
-        "o" => options.oid = Some(number(words)?),
-        "O" => options.multi_offset = Some(number(words)?),
-        "u" => options.oldest_xid = Some(number(words)?),
-        "x" => options.xid = Some(number(words)?),
-        "s" => options.segment_mb = Some(number(words)?),
-        _ => return Err("no option".into()),
+        _ => return set_number(options, letter, decimal_u32(words.as_bytes())?),
     }
-    Ok(())
+    Some(())
 }
 
 /// The options of a text: pg_resetwal's letters, or `s` for the size of segments, each with its numbers, with commas
@@ -56,7 +71,7 @@ pub(crate) fn options_of(text: &str) -> Result<ResetOptions, Fail> {
     }
     for option in text.split(", ") {
         let (letter, words) = cut_at(option, " ");
-        set(&mut options, letter, words)?;
+        set(&mut options, letter, words).ok_or("no option")?;
     }
     Ok(options)
 }

@@ -5,7 +5,7 @@ use crate::texts::cut_at;
 use block_refs::RelName;
 use cluster_tree::Path;
 use file_walk::{decide, excluded, is_relation_file};
-use std::alloc::Global;
+use std::alloc::{AllocError, Global};
 use std::test::Fail;
 
 /// A path, what the target and the source have there, and what is done.
@@ -96,28 +96,33 @@ relation . = -
 relation pg_tblspc/5/16385 = -
 relation /base/5/16385 = -";
 
-fn action(alloc: Global, path: &Path, words: &str) -> Result<String, Fail> {
+fn tell_action(out: &mut String, path: &Path, words: &str) -> Result<(), Fail> {
     let (target, source) = cut_at(words, " ");
     let target = kind_of(target)?;
     let source = kind_of(source)?;
     let action = decide(path, target.as_ref(), source.as_ref());
-    Ok(format!(in alloc; "{action:?}")?)
+    Ok(write!(out, "{action:?}")?)
 }
 
-fn relation(alloc: Global, found: Option<(RelName, u32)>) -> Result<String, Fail> {
+fn tell_relation(out: &mut String, found: Option<(RelName, u32)>) -> Result<(), AllocError> {
     match found {
-        None => Ok(String::from_str(alloc, "-")?),
-        Some((rel, segment)) => Ok(format!(in alloc; "{rel} {segment}")?),
+        None => out.push('-'),
+        Some((rel, segment)) => write!(out, "{rel} {segment}"),
     }
 }
 
 /// `action PATH TARGET SOURCE`, `excluded PATH` or `relation PATH`.
-pub(crate) fn of_path(alloc: Global, verb: &str, words: &str) -> Result<String, Fail> {
+pub(crate) fn tell_path(
+    alloc: Global,
+    out: &mut String,
+    verb: &str,
+    words: &str,
+) -> Result<(), Fail> {
     let (path, behind) = cut_at(words, " ");
     let path = Path::parse(alloc, path)?;
     match verb {
-        "action" => action(alloc, &path, behind),
-        "excluded" => Ok(format!(in alloc; "{}", excluded(&path))?),
-        _ => relation(alloc, is_relation_file(&path)),
+        "action" => tell_action(out, &path, behind),
+        "excluded" => Ok(write!(out, "{}", excluded(&path))?),
+        _ => Ok(tell_relation(out, is_relation_file(&path))?),
     }
 }

@@ -7,7 +7,7 @@ use cluster_tree::Path;
 use file_walk::Pair;
 use rewind_plan::{Clusters, first_lacking, steps_of};
 use rewind_writes::Step;
-use std::alloc::Global;
+use std::alloc::{AllocError, Global};
 use std::test::Fail;
 
 /// Paths with what target and source have there, touched blocks of relation 16385, and the steps; `-` for none.
@@ -29,70 +29,71 @@ plan a / -, a/x 1 -, b - /, b-c - 5, b/d - 0, global/pg_control 8192 8192, pg_wa
 
 /// The pair of a path, what the target has there and what the source has.
 fn pair(alloc: Global, words: &str) -> Result<Pair, Fail> {
-    let (path, sides) = words.split_once(" ").ok_or("no sides")?;
-    let (target, source) = sides.split_once(" ").ok_or("one side")?;
+    let (path, sides) = cut_at(words, " ");
+    let (target, source) = cut_at(sides, " ");
+    let target = kind_of(target)?;
+    let source = kind_of(source)?;
     Ok(Pair {
         path: Path::parse(alloc, path)?,
-        target: kind_of(target)?,
-        source: kind_of(source)?,
+        target,
+        source,
     })
 }
 
-fn told(alloc: Global, step: &Step) -> Result<String, Fail> {
-    Ok(match step {
-        Step::Folder(path) => format!(in alloc; "folder {path}")?,
-        Step::Whole { from, to, size } => format!(in alloc; "whole {from} {to} {size}")?,
-        Step::Cut(path, size) => format!(in alloc; "cut {path} {size}")?,
-        Step::Range { from, to, at, size } => {
-            format!(in alloc; "range {from} {to} {at} {size}")?
-        }
-        Step::Remove(path) => format!(in alloc; "remove {path}")?,
-    })
-}
-
-/// The pairs of a text.
-fn pairs_of(alloc: Global, text: &str) -> Result<Vec<Pair>, Fail> {
-    let mut pairs = Vec::new(alloc);
+/// Adds the pairs of a text.
+fn add_pairs(alloc: Global, pairs: &mut Vec<Pair>, text: &str) -> Result<(), Fail> {
     if text == "-" {
-        return Ok(pairs);
+        return Ok(());
     }
     for words in text.split(", ") {
         pairs.push(pair(alloc, words)?)?;
     }
-    Ok(pairs)
-}
-
-fn add_step(alloc: Global, text: &mut String, step: &Step) -> Result<(), Fail> {
-    let gap = if text.is_empty() { "" } else { ", " };
-    let told = told(alloc, step)?;
-    write!(text, "{gap}{}", told.as_str())?;
     Ok(())
 }
 
-/// The steps of such clusters, a dash for none.
-fn steps_told(alloc: Global, clusters: &Clusters<'_>, pairs: &[Pair]) -> Result<String, Fail> {
+fn tell_step(out: &mut String, step: &Step) -> Result<(), AllocError> {
+    if !out.is_empty() {
+        out.push_str(", ")?;
+    }
+    match step {
+        Step::Folder(path) => write!(out, "folder {path}"),
+        Step::Whole { from, to, size } => write!(out, "whole {from} {to} {size}"),
+        Step::Cut(path, size) => write!(out, "cut {path} {size}"),
+        Step::Range { from, to, at, size } => write!(out, "range {from} {to} {at} {size}"),
+        Step::Remove(path) => write!(out, "remove {path}"),
+    }
+}
+
+/// Tells the steps of such clusters, a dash for none.
+fn tell_steps(
+    alloc: Global,
+    out: &mut String,
+    clusters: &Clusters<'_>,
+    pairs: &[Pair],
+) -> Result<(), Fail> {
     if first_lacking(clusters, pairs).is_some() {
         return Err("too deep".into());
     }
-    let mut text = String::new(alloc);
-    for step in steps_of(alloc, clusters, pairs)? {
-        add_step(alloc, &mut text, &step)?;
+    let steps = steps_of(alloc, clusters, pairs)?;
+    if steps.is_empty() {
+        out.push('-')?;
     }
-    if text.is_empty() {
-        text.push('-')?;
+    for step in steps.iter() {
+        tell_step(out, step)?;
     }
-    Ok(text)
+    Ok(())
 }
 
 /// The steps between the roots `t` and `s`, of files of 131072 blocks at most: `PAIR, .. | BLOCK ..`.
-pub(crate) fn of_plan(alloc: Global, words: &str) -> Result<String, Fail> {
-    let (pairs, blocks) = cut_at(words, " | ");
-    let pairs = pairs_of(alloc, pairs)?;
+pub(crate) fn tell_plan(alloc: Global, out: &mut String, words: &str) -> Result<(), Fail> {
+    let (pairs_text, blocks) = cut_at(words, " | ");
+    let mut pairs = Vec::new(alloc);
+    add_pairs(alloc, &mut pairs, pairs_text)?;
     let clusters = Clusters {
         target: &Path::parse(alloc, "t")?,
         source: &Path::parse(alloc, "s")?,
         per_file: 131_072,
         touched: &touched(alloc, blocks)?,
     };
-    steps_told(alloc, &clusters, &pairs)
+    tell_steps(alloc, out, &clusters, &pairs)
 }

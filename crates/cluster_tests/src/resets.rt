@@ -3,11 +3,16 @@ use crate::controls;
 use crate::controls::sum_of;
 use crate::options::options_of;
 use crate::texts::cut_at;
-use crate::trees::{put_all, put_file, tree_of};
+use crate::trees::{names_in, put_all, put_file, root_of, tree_of};
 use cluster_tree::{MemoryTree, Names, Path, Tree};
+use clusters::{Found, read_whole};
 use reset_cleanup::{ResetOptions, is_fit, reset_log};
-use std::alloc::Global;
+use std::alloc::{AllocError, Global};
 use std::test::Fail;
+use wal_base::Lsn;
+
+/// The control file.
+pub(crate) const CONTROL: &str = "t/global/pg_control";
 
 /// Files of the log, of which the third is unfinished.
 const NAMES: &str = "\
@@ -49,8 +54,8 @@ reset O 123 = 0/400028 12E7BF67 506D918B 00000001.history 0000000100000000000000
 fn bare(alloc: Global, control: &str) -> Result<MemoryTree, Fail> {
     let mut tree = tree_of(alloc, "d t, d t/global")?;
     if control != "none" {
-        let path = Path::parse(alloc, "t/global/pg_control")?;
-        put_file(&mut tree, &path, &controls::reset(control)?)?;
+        let bytes = controls::reset(control).ok_or("no control file")?;
+        put_file(alloc, &mut tree, CONTROL, &bytes)?;
     }
     Ok(tree)
 }
@@ -58,9 +63,7 @@ fn bare(alloc: Global, control: &str) -> Result<MemoryTree, Fail> {
 /// A cluster `t` with these fields of its control file and these entries beside it.
 pub(crate) fn cluster_of(alloc: Global, control: &str, lines: &str) -> Result<MemoryTree, Fail> {
     let mut tree = bare(alloc, control)?;
-    if lines != "-" {
-        put_all(alloc, &mut tree, lines)?;
-    }
+    put_all(alloc, &mut tree, lines)?;
     Ok(tree)
 }
 
@@ -72,69 +75,58 @@ pub(crate) fn cluster(alloc: Global, control: &str, files: &str) -> Result<Memor
     Ok(tree)
 }
 
-/// What a reset of `t` in November 2023 answers: the place of the new checkpoint, or the fault.
-pub(crate) fn said<F: Tree>(
+/// Tells what a reset of `t` in November 2023 answers: the place of the new checkpoint, or the fault.
+pub(crate) fn tell_answer<F: Tree>(
     alloc: Global,
+    out: &mut String,
     tree: &mut F,
     options: &ResetOptions,
-) -> Result<String, Fail> {
-    let root = Path::parse(alloc, "t")?;
-    if root.len() > 61 || !is_fit(options) {
+) -> Result<(), Fail> {
+    if !is_fit(options) {
         return Err("unfit".into());
     }
-    match reset_log(alloc, tree, &root, options, 1700000000) {
-        Ok(control) => {
-            let at = control.checkPoint;
-            let high = at >> 32;
-            let low = at % 0x1_0000_0000;
-            Ok(format!(in alloc; "{high:X}/{low:X}")?)
-        }
-        Err(fault) => Ok(format!(in alloc; "{fault}")?),
+    let answer = reset_log(alloc, tree, &root_of(alloc, "t")?, options, 1700000000);
+    match answer {
+        Ok(control) => Ok(write!(out, "{}", Lsn(control.checkPoint))?),
+        Err(fault) => Ok(write!(out, "{fault}")?),
     }
 }
 
-// The bytes of a file from an offset on, so many, and none where it has none.
-fn part_of(
+/// Fills with the bytes of a file, which has to have as many.
+pub(crate) fn found_in(
     alloc: Global,
     tree: &mut MemoryTree,
-    file: &Path,
-    at: u64,
-    size: u64,
-) -> Result<Vec<u8>, Fail> {
-    let mut bytes = vec![in alloc; 0; size as usize]?;
-    if tree.read_at(file, at, &mut bytes).is_err() {
-        bytes.clear();
-    }
-    Ok(bytes)
+    file: &str,
+    into: &mut [u8],
+) -> Result<Found, Fail> {
+    Ok(read_whole(tree, Path::parse(alloc, file)?, into)?)
 }
 
-/// The bytes of a file, none where there is no file.
-pub(crate) fn bytes_of(alloc: Global, tree: &mut MemoryTree, text: &str) -> Result<Vec<u8>, Fail> {
-    let file = Path::parse(alloc, text)?;
-    let size = tree.size(&file).unwrap_or(0);
-    part_of(alloc, tree, &file, 0, size)
+fn are_zeros(bytes: &[u8]) -> bool {
+    bytes.iter().all(|byte| *byte == 0)
 }
 
 // The checksum of the control file, which has to say it, before zeros.
 fn sealed(alloc: Global, tree: &mut MemoryTree) -> Result<u32, Fail> {
-    let bytes = bytes_of(alloc, tree, "t/global/pg_control")?;
+    let mut bytes = [0; 8192];
+    let found = found_in(alloc, tree, CONTROL, &mut bytes)?;
     let sum = sum_of(&bytes, 288);
     let said = bytes.get(288..292) == Some(&sum.to_le_bytes()[..]);
-    let zeros = bytes.iter().skip(292).all(|byte| *byte == 0);
-    if bytes.len() != 8192 || !said || !zeros {
+    let zeros = bytes.get(292..).is_some_and(are_zeros);
+    if found != Found::Filled || !said || !zeros {
         return Err("not sealed".into());
     }
     Ok(sum)
 }
 
 // The checksum of a new segment's first page, where it has this size and ends in zeros.
-fn page_sum(alloc: Global, tree: &mut MemoryTree, file: &Path, size: u64) -> Result<u32, Fail> {
-    let last = part_of(alloc, tree, file, size.saturating_sub(8192), 8192)?;
-    let zeros = last.iter().all(|byte| *byte == 0);
-    if tree.size(file) != Ok(size) || last.len() != 8192 || !zeros {
-        return Err("not a new segment".into());
-    }
-    Ok(sum_of(&part_of(alloc, tree, file, 0, 8192)?, 8192))
+fn page_sum(tree: &mut MemoryTree, file: &Path, size: u64) -> Option<u32> {
+    let mut first = [0; 8192];
+    let mut last = [0; 8192];
+    tree.read_at(file, 0, &mut first).ok()?;
+    tree.read_at(file, size.checked_sub(8192)?, &mut last).ok()?;
+    let fits = tree.size(file) == Ok(size) && are_zeros(&last);
+    fits.then_some(sum_of(&first, 8192))
 }
 
 // The checksum of the new segment, which stands behind the history.
@@ -144,84 +136,87 @@ fn new_sum(
     names: &Names,
     megabytes: u32,
 ) -> Result<u32, Fail> {
-    let folder = Path::parse(alloc, "t/pg_wal")?;
-    let file = folder.join(alloc, names.get(1).ok_or("no new segment")?)?;
-    page_sum(
-        alloc,
-        tree,
-        &file,
-        u64::from(megabytes).saturating_mul(1048576),
-    )
-}
-
-// Names in a row.
-fn joined(alloc: Global, names: &Names) -> Result<String, Fail> {
-    let mut text = String::new(alloc);
-    for at in 0..names.len() {
-        let gap = if at == 0 { "" } else { " " };
-        write!(text, "{gap}{}", names.get(at).unwrap_or(""))?;
+    let name = names.get(1).ok_or("no new segment")?;
+    let file = Path::parse(alloc, "t/pg_wal")?.join(alloc, name)?;
+    let size = u64::from(megabytes).saturating_mul(1048576);
+    match page_sum(tree, &file, size) {
+        Some(sum) => Ok(sum),
+        None => Err("not a new segment".into()),
     }
-    Ok(text)
 }
 
-// Whether these names stand in a folder.
-fn holds(alloc: Global, tree: &mut MemoryTree, folder: &str, meant: &str) -> Result<bool, Fail> {
-    let names = tree.list(alloc, &Path::parse(alloc, folder)?)?;
-    Ok(joined(alloc, &names)?.as_str() == meant)
+// Tells names.
+fn tell_names(out: &mut String, names: &Names) -> Result<(), AllocError> {
+    for at in 0..names.len() {
+        write!(out, " {}", names.get(at).unwrap_or(""))?;
+    }
+    Ok(())
 }
 
-// Whether the other folders have what they should.
-fn others_stay(alloc: Global, tree: &mut MemoryTree) -> Result<bool, Fail> {
-    let said = "t/pg_wal/archive_status";
-    Ok(
-        holds(alloc, tree, "t", "global pg_wal")?
-            && holds(alloc, tree, "t/global", "pg_control")?
-            && holds(alloc, tree, said, "00000001.history.done")?,
-    )
+// One name or two have to stand in a folder, and no other.
+fn check_names(
+    alloc: Global,
+    tree: &mut MemoryTree,
+    folder: &str,
+    first: &str,
+    second: Option<&str>,
+) -> Result<(), Fail> {
+    let names = names_in(alloc, tree, folder)?;
+    if names.get(0) != Some(first) || names.get(1) != second || names.len() > 2 {
+        return Err("other names".into());
+    }
+    Ok(())
 }
 
 // What a reset left, behind what it said.
-fn left(alloc: Global, tree: &mut MemoryTree, told: &str, megabytes: u32) -> Result<String, Fail> {
-    if !others_stay(alloc, tree)? {
-        return Err("other folders".into());
-    }
-    let names = tree.list(alloc, &Path::parse(alloc, "t/pg_wal")?)?;
+fn tell_left(
+    alloc: Global,
+    out: &mut String,
+    tree: &mut MemoryTree,
+    megabytes: u32,
+) -> Result<(), Fail> {
     let sum = sealed(alloc, tree)?;
+    let names = names_in(alloc, tree, "t/pg_wal")?;
     let page = new_sum(alloc, tree, &names, megabytes)?;
-    let shown = joined(alloc, &names)?;
-    Ok(format!(in alloc; "{told} {sum:08X} {page:08X} {}", shown.as_str())?)
+    write!(out, " {sum:08X} {page:08X}")?;
+    Ok(tell_names(out, &names)?)
 }
 
-// A reset of a cluster with a whole log.
-fn reset(alloc: Global, options: &str) -> Result<String, Fail> {
+// Tells of a reset of a cluster with a whole log, which keeps what stands elsewhere.
+fn tell_log(alloc: Global, out: &mut String, options: &str) -> Result<(), Fail> {
     let options = options_of(options)?;
     let mut tree = cluster(alloc, "plain", LOG)?;
-    let told = said(alloc, &mut tree, &options)?;
-    left(
-        alloc,
-        &mut tree,
-        told.as_str(),
-        options.segment_mb.unwrap_or(1),
-    )
+    tell_answer(alloc, out, &mut tree, &options)?;
+    tell_left(alloc, out, &mut tree, options.segment_mb.unwrap_or(1))?;
+    let said = "t/pg_wal/archive_status";
+    check_names(alloc, &mut tree, "t", "global", Some("pg_wal"))?;
+    check_names(alloc, &mut tree, "t/global", "pg_control", None)?;
+    check_names(alloc, &mut tree, said, "00000001.history.done", None)
 }
 
-// What a reset says, which has to `change` the tree, or to `keep` it.
-fn changing(alloc: Global, verb: &str, words: &str) -> Result<String, Fail> {
+// Tells what a reset says, which has to `change` the tree, or to `keep` it.
+fn tell_changing(alloc: Global, out: &mut String, verb: &str, words: &str) -> Result<(), Fail> {
     let (options, behind) = cut_at(words, " | ");
     let (control, lines) = cut_at(behind, " | ");
+    let options = options_of(options)?;
     let mut tree = cluster_of(alloc, control, lines)?;
     let before = tree.changes();
-    let told = said(alloc, &mut tree, &options_of(options)?)?;
+    tell_answer(alloc, out, &mut tree, &options)?;
     if (tree.changes() != before) != (verb == "change") {
         return Err("changed, or not".into());
     }
-    Ok(told)
+    Ok(())
 }
 
 /// `reset OPTIONS`, `keep OPTIONS | CONTROL | LINE, ..` or `change OPTIONS | CONTROL | LINE, ..`.
-pub(crate) fn of_reset(alloc: Global, verb: &str, words: &str) -> Result<String, Fail> {
+pub(crate) fn tell_reset(
+    alloc: Global,
+    out: &mut String,
+    verb: &str,
+    words: &str,
+) -> Result<(), Fail> {
     match verb {
-        "reset" => reset(alloc, words),
-        _ => changing(alloc, verb, words),
+        "reset" => tell_log(alloc, out, words),
+        _ => tell_changing(alloc, out, verb, words),
     }
 }

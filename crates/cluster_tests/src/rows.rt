@@ -1,39 +1,77 @@
 //! Runs the rows of texts. README.md has their forms.
-use crate::endless::of_endless;
-use crate::faults::of_fault;
-use crate::labels::of_label;
-use crate::numbers::of_numbers;
-use crate::paths::of_path;
-use crate::plans::of_plan;
-use crate::resets::of_reset;
-use crate::surveys::of_survey;
+use crate::endless::tell_endless;
+use crate::faults::tell_faults;
+use crate::labels::tell_labels;
+use crate::numbers::tell_numbers;
+use crate::paths::tell_path;
+use crate::plans::tell_plan;
+use crate::resets::tell_reset;
+use crate::surveys::tell_survey;
 use crate::texts::cut_at;
-use crate::walks::of_walk;
+use crate::walks::tell_walks;
 use crate::{endless, faults, labels, numbers, paths, plans, refusals, resets, surveys, walks};
 use std::alloc::Global;
 use std::process::Abort;
 use std::test::Fail;
 
-/// What a row of a rewind is answered.
-fn of_rewind(alloc: Global, verb: &str, words: &str) -> Result<String, Fail> {
+/// The texts of rows of rewinds.
+const REWINDS: [&str; 18] = [
+    paths::ACTIONS,
+    paths::EXCLUDED,
+    paths::RELATIONS,
+    labels::WRITTEN,
+    labels::READ,
+    walks::IN_ORDER,
+    walks::REFUSED,
+    walks::FAILING,
+    walks::COUNTED,
+    walks::PAIRS,
+    endless::ENDLESS,
+    plans::PLANS,
+    surveys::CONTROLS,
+    surveys::HISTORIES,
+    surveys::MARKS,
+    surveys::MISSING,
+    surveys::FAILING,
+    surveys::WHOLE,
+];
+
+/// The texts of rows of resets.
+const RESETS: [&str; 12] = [
+    numbers::NUMBERS,
+    numbers::LIMITS,
+    numbers::BEHIND,
+    numbers::FIT,
+    numbers::NAMES,
+    resets::SEGMENTS,
+    resets::OPTIONS,
+    refusals::REFUSED,
+    refusals::DONE,
+    refusals::DRY_RUNS,
+    faults::BROKEN,
+    faults::CALLS,
+];
+
+/// Tells what a row of a rewind is answered.
+fn tell_rewind(alloc: Global, out: &mut String, verb: &str, words: &str) -> Result<(), Fail> {
     match verb {
-        "action" | "excluded" | "relation" => of_path(alloc, verb, words),
-        "label" | "read" => of_label(alloc, verb, words),
-        "endless" => of_endless(alloc, words),
-        "plan" => of_plan(alloc, words),
-        "survey" | "whole" => of_survey(alloc, verb, words),
-        _ => of_walk(alloc, verb, words),
+        "action" | "excluded" | "relation" => tell_path(alloc, out, verb, words),
+        "label" | "read" => tell_labels(alloc, out, verb, words),
+        "endless" => tell_endless(alloc, out, words),
+        "plan" => tell_plan(alloc, out, words),
+        "survey" | "whole" => tell_survey(alloc, out, verb, words),
+        _ => tell_walks(alloc, out, verb, words),
     }
 }
 
-/// What a row is answered.
-fn told(alloc: Global, row: &str) -> Result<String, Fail> {
+/// Tells what a row is answered.
+fn tell(alloc: Global, out: &mut String, row: &str) -> Result<(), Fail> {
     let (verb, words) = cut_at(row, " ");
     match verb {
-        "numbers" | "fit" | "segment" | "status" => of_numbers(alloc, verb, words),
-        "reset" | "keep" | "change" => of_reset(alloc, verb, words),
-        "broken" | "call" => of_fault(alloc, verb, words),
-        _ => of_rewind(alloc, verb, words),
+        "numbers" | "fit" | "segment" | "status" => tell_numbers(alloc, out, verb, words),
+        "reset" | "keep" | "change" => tell_reset(alloc, out, verb, words),
+        "broken" | "call" => tell_faults(alloc, out, verb, words),
+        _ => tell_rewind(alloc, out, verb, words),
     }
 }
 
@@ -41,7 +79,8 @@ fn told(alloc: Global, row: &str) -> Result<String, Fail> {
 fn check<R: AllocGlobal + Abort>(rt: &R, text: &str) -> Result<(), Fail> {
     for line in text.split('\n') {
         if let Some((row, meant)) = line.split_once(" = ") {
-            let told = told(rt.alloc(), row)?;
+            let mut told = String::new(rt.alloc());
+            tell(rt.alloc(), &mut told, row)?;
             assert_eq!(rt; told.as_str(), meant, "{line}");
         }
     }
@@ -50,26 +89,7 @@ fn check<R: AllocGlobal + Abort>(rt: &R, text: &str) -> Result<(), Fail> {
 
 #[test]
 fn each_row_of_a_rewind_is_answered(rt: HostRuntime) -> Result<(), Fail> {
-    for text in [
-        paths::ACTIONS,
-        paths::EXCLUDED,
-        paths::RELATIONS,
-        labels::WRITTEN,
-        labels::READ,
-        walks::IN_ORDER,
-        walks::REFUSED,
-        walks::FAILING,
-        walks::COUNTED,
-        walks::PAIRS,
-        endless::ENDLESS,
-        plans::PLANS,
-        surveys::CONTROLS,
-        surveys::HISTORIES,
-        surveys::MARKS,
-        surveys::MISSING,
-        surveys::FAILING,
-        surveys::WHOLE,
-    ] {
+    for text in REWINDS {
         check(&rt, text)?;
     }
     Ok(())
@@ -77,20 +97,7 @@ fn each_row_of_a_rewind_is_answered(rt: HostRuntime) -> Result<(), Fail> {
 
 #[test]
 fn each_row_of_a_reset_is_answered(rt: HostRuntime) -> Result<(), Fail> {
-    for text in [
-        numbers::NUMBERS,
-        numbers::LIMITS,
-        numbers::BEHIND,
-        numbers::FIT,
-        numbers::NAMES,
-        resets::SEGMENTS,
-        resets::OPTIONS,
-        refusals::REFUSED,
-        refusals::DONE,
-        refusals::DRY_RUNS,
-        faults::BROKEN,
-        faults::CALLS,
-    ] {
+    for text in RESETS {
         check(&rt, text)?;
     }
     Ok(())

@@ -2,11 +2,11 @@
 //! for 0), a control file is `none`, `plain`, `short` by a byte, or fields and a sum, and lines stand beside them.
 use crate::controls::surveyed;
 use crate::texts::{cut_at, number};
-use crate::trees::{put_all, put_file, tree_of};
+use crate::trees::{plan_of, put_all, put_file, root_of, tree_of};
 use cluster_tree::{FailPlan, FailingTree, MemoryTree, Path, Tree};
 use clusters::{Found, read_whole};
 use rewind_survey::{RewindFault, Surveyed, survey};
-use std::alloc::Global;
+use std::alloc::{AllocError, Global};
 use std::test::Fail;
 
 /// Two control files are fit, or refused.
@@ -87,11 +87,9 @@ fn put_control(
     if control == "none" {
         return Ok(());
     }
-    let path = Path::parse(alloc, file)?;
-    let bytes = surveyed(control)?;
+    let bytes = surveyed(control).ok_or("no control file")?;
     let size = if control == "short" { 8191 } else { 8192 };
-    put_file(tree, &path, &bytes[..size])?;
-    Ok(())
+    put_file(alloc, tree, file, &bytes[..size])
 }
 
 // A target `t` and a source `s` with these control files, and lines beside them.
@@ -99,75 +97,75 @@ fn clusters_of(alloc: Global, target: &str, source: &str, lines: &str) -> Result
     let mut tree = tree_of(alloc, "d t, d t/global, d s, d s/global")?;
     put_control(alloc, &mut tree, "t/global/pg_control", target)?;
     put_control(alloc, &mut tree, "s/global/pg_control", source)?;
-    if lines != "-" {
-        put_all(alloc, &mut tree, lines)?;
-    }
+    put_all(alloc, &mut tree, lines)?;
     Ok(tree)
 }
 
-fn told(alloc: Global, answer: Result<Surveyed, RewindFault>) -> Result<String, Fail> {
-    Ok(match answer {
-        Ok(Surveyed::SameTimeline) => String::from_str(alloc, "nothing on one timeline")?,
-        Ok(Surveyed::EndsAtFork(fork)) => format!(in alloc; "nothing past {fork:?}")?,
-        Ok(Surveyed::Parted(found)) => format!(in alloc; "{:?}", found.told)?,
-        Err(fault) => format!(in alloc; "{fault}")?,
-    })
+fn tell_answer(out: &mut String, answer: &Result<Surveyed, RewindFault>) -> Result<(), AllocError> {
+    match answer {
+        Ok(Surveyed::SameTimeline) => out.push_str("nothing on one timeline"),
+        Ok(Surveyed::EndsAtFork(fork)) => write!(out, "nothing past {fork:?}"),
+        Ok(Surveyed::Parted(found)) => write!(out, "{:?}", found.told),
+        Err(fault) => write!(out, "{fault}"),
+    }
 }
 
-// What the target `t` needs to follow `s`.
-fn said<F: Tree>(alloc: Global, tree: &mut F) -> Result<String, Fail> {
-    let target = Path::parse(alloc, "t")?;
-    let source = Path::parse(alloc, "s")?;
-    let target_holds = target.holds(&source);
-    let source_holds = source.holds(&target);
-    if target.len() > 61 || source.len() > 61 || target_holds || source_holds {
+// Tells what the target `t` needs to follow `s`.
+fn tell_need<F: Tree>(alloc: Global, out: &mut String, tree: &mut F) -> Result<(), Fail> {
+    let target = root_of(alloc, "t")?;
+    let source = root_of(alloc, "s")?;
+    if target.holds(&source) || source.holds(&target) {
         return Err("no two clusters".into());
     }
-    told(alloc, survey(alloc, tree, &target, &source))
+    Ok(tell_answer(out, &survey(alloc, tree, &target, &source))?)
 }
 
-fn plan_of(read: &str) -> Result<FailPlan, Fail> {
-    match number(read)? {
-        0 => Ok(FailPlan::Never),
-        read => Ok(FailPlan::At(u64::from(read))),
-    }
-}
-
-// What a survey says, which has to leave the tree as it is.
-fn surveyed_tree(alloc: Global, tree: MemoryTree, plan: FailPlan) -> Result<String, Fail> {
+// Tells what a survey says, which has to leave the tree as it is.
+fn tell_tree(
+    alloc: Global,
+    out: &mut String,
+    tree: MemoryTree,
+    plan: FailPlan,
+) -> Result<(), Fail> {
     let before = tree.changes();
     let mut tree = FailingTree::new(tree, plan);
-    let told = said(alloc, &mut tree)?;
+    tell_need(alloc, out, &mut tree)?;
     if tree.into_inner().changes() != before {
         return Err("it was changed".into());
     }
-    Ok(told)
+    Ok(())
 }
 
-fn whole_of(alloc: Global, tree: &mut MemoryTree, path: Path, size: u32) -> Result<String, Fail> {
+fn found_in(alloc: Global, file: &str, into: &mut [u8]) -> Result<Found, Fail> {
+    let mut tree = tree_of(alloc, "h a 616263")?;
+    let file = Path::parse(alloc, file)?;
+    Ok(read_whole(&mut tree, file, into)?)
+}
+
+fn tell_whole(alloc: Global, out: &mut String, words: &str) -> Result<(), Fail> {
+    let (file, size) = cut_at(words, " ");
     let mut three = [0; 3];
-    let into = three.get_mut(..size as usize).ok_or("too large")?;
-    match read_whole(tree, path, into).ok() {
-        Some(Found::Filled) => Ok(format!(in alloc; "{three:?}")?),
-        other => Ok(format!(in alloc; "{other:?}")?),
+    let into = three.get_mut(..number(size)? as usize).ok_or("too large")?;
+    match found_in(alloc, file, into)? {
+        Found::Filled => Ok(write!(out, "{three:?}")?),
+        other => Ok(write!(out, "{:?}", Some(other))?),
     }
 }
 
-fn whole(alloc: Global, words: &str) -> Result<String, Fail> {
-    let (file, size) = cut_at(words, " ");
-    let mut tree = tree_of(alloc, "h a 616263")?;
-    whole_of(alloc, &mut tree, Path::parse(alloc, file)?, number(size)?)
-}
-
 /// `survey READ | TARGET | SOURCE | LINE, ..`, or `whole FILE SIZE`.
-pub(crate) fn of_survey(alloc: Global, verb: &str, words: &str) -> Result<String, Fail> {
+pub(crate) fn tell_survey(
+    alloc: Global,
+    out: &mut String,
+    verb: &str,
+    words: &str,
+) -> Result<(), Fail> {
     if verb == "whole" {
-        return whole(alloc, words);
+        return tell_whole(alloc, out, words);
     }
     let (read, behind) = cut_at(words, " | ");
     let (target, behind) = cut_at(behind, " | ");
     let (source, lines) = cut_at(behind, " | ");
     let plan = plan_of(read)?;
     let tree = clusters_of(alloc, target, source, lines)?;
-    surveyed_tree(alloc, tree, plan)
+    tell_tree(alloc, out, tree, plan)
 }

@@ -1,6 +1,6 @@
 //! The words of rows.
 use std::test::Fail;
-use wal_base::{decimal_u32, decimal_u64};
+use wal_base::decimal_u32;
 
 /// What stands before a mark, and what behind it.
 pub(crate) fn cut_at<'a>(text: &'a str, mark: &str) -> (&'a str, &'a str) {
@@ -13,14 +13,6 @@ pub(crate) fn cut_at<'a>(text: &'a str, mark: &str) -> (&'a str, &'a str) {
 /// A number below 2^32.
 pub(crate) fn number(text: &str) -> Result<u32, Fail> {
     match decimal_u32(text.as_bytes()) {
-        Some(number) => Ok(number),
-        None => Err("no number".into()),
-    }
-}
-
-/// A number below 2^64.
-pub(crate) fn long(text: &str) -> Result<u64, Fail> {
-    match decimal_u64(text.as_bytes()) {
         Some(number) => Ok(number),
         None => Err("no number".into()),
     }

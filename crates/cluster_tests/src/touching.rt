@@ -1,15 +1,15 @@
 //! Sets of blocks that records touch.
 ghost use Rattle.std.specs.Prelude.{◌≤◌, length, IfOk};
 
-use crate::trees::{put_file, tree_of};
+use crate::trees::{put_file, root_of, tree_of};
 use block_refs::split_record;
-use cluster_tree::{MemoryTree, Path};
+use cluster_tree::MemoryTree;
 use std::alloc::Global;
 use std::test::Fail;
 use touched_blocks::Touched;
 use wal_base::{Lsn, SegSize, Spans};
 use wal_pages::LogPath;
-use wal_records::{LogWriter, RecordCursor};
+use wal_records::{LogWriter, Record, RecordCursor};
 
 /// Where the log begins, and where its record starts.
 const SEGMENT: Lsn = Lsn(0x10_0000);
@@ -47,8 +47,8 @@ fn writer_of(alloc: Global, block: u32) -> Result<LogWriter, Fail> {
 fn tree_with(alloc: Global, block: u32) -> Result<MemoryTree, Fail> {
     let writer = writer_of(alloc, block)?;
     let mut tree = tree_of(alloc, "d log")?;
-    let file = Path::parse(alloc, "log/000000010000000000000001")?;
-    put_file(&mut tree, &file, writer.bytes())?;
+    let file = "log/000000010000000000000001";
+    put_file(alloc, &mut tree, file, writer.bytes())?;
     Ok(tree)
 }
 
@@ -56,31 +56,33 @@ fn tree_with(alloc: Global, block: u32) -> Result<MemoryTree, Fail> {
 fn path_of(alloc: Global) -> Result<LogPath, Fail>
     ensures { IfOk result (λ log. length log.folder.parts ≤ 63) }
 {
-    let log = LogPath {
-        folder: Path::parse(alloc, "log")?,
+    let size = SegSize::new(0x10_0000).ok_or("no size")?;
+    let folder = root_of(alloc, "log")?;
+    Ok(LogPath {
+        folder,
         spans: Spans::one(alloc, 1)?,
-        size: SegSize::new(0x10_0000).ok_or("no size")?,
+        size,
         system: Some(7),
-    };
-    if log.folder.len() > 63 {
-        return Err("too deep".into());
-    }
-    Ok(log)
+    })
 }
 
 // A cursor that has read that record.
 fn cursor_with(alloc: Global, block: u32) -> Result<RecordCursor, Fail> {
-    let mut tree = tree_with(alloc, block)?;
     let mut cursor = RecordCursor::at(alloc, path_of(alloc)?, START)?;
-    let _step = cursor.next(&mut tree)?;
+    let _step = cursor.next(&mut tree_with(alloc, block)?)?;
     Ok(cursor)
+}
+
+fn add_record(set: &mut Touched, rec: &Record) -> Result<(), Fail> {
+    Ok(set.add_record(rec, &split_record(rec)?)?)
 }
 
 fn add(alloc: Global, set: &mut Touched, block: u32) -> Result<(), Fail> {
     let cursor = cursor_with(alloc, block)?;
-    let rec = cursor.current().ok_or("no record")?;
-    set.add_record(rec, &split_record(rec)?)?;
-    Ok(())
+    match cursor.current() {
+        Some(rec) => add_record(set, rec),
+        None => Err("no record".into()),
+    }
 }
 
 /// The set of these blocks of relation 16385 of database 5, none for a dash.

@@ -1,11 +1,11 @@
 //! What lies below a root, and what is wrong there. The expected lines come from a script of its own that sorts the paths
 //! below the root by their bytes.
-use crate::kinds::kind_text;
+use crate::kinds::tell_kind;
 use crate::texts::{cut_at, number};
-use crate::trees::tree_of;
-use cluster_tree::{FailPlan, FailingTree, MemoryTree, Path, Tree};
-use file_walk::{Entries, Entry, Pair, WalkFault, pair_up, walk};
-use std::alloc::Global;
+use crate::trees::{plan_of, tree_of};
+use cluster_tree::{FailingTree, MemoryTree, Path, Tree};
+use file_walk::{Entries, Pair, WalkFault, pair_up, walk};
+use std::alloc::{AllocError, Global};
 use std::test::Fail;
 
 /// Which read fails, a root, a tree, and the entries below the root in the order of texts.
@@ -55,57 +55,73 @@ pub(crate) const PAIRS: &str = "\
 pairs d t, d t/a, f t/a/x 1, f t/a-b 2, d t/c, d s, d s/a, f s/a/x 3, f s/a/w 4, f s/b 5, f s/c 6 \
     = a / /, a-b 2 -, a/w - 4, a/x 1 3, b - 5, c / 6";
 
-/// A fault by its variant and its values.
-pub(crate) fn fault_text(alloc: Global, fault: &WalkFault) -> Result<String, Fail> {
-    Ok(match fault {
-        WalkFault::Link(path) => format!(in alloc; "Link {path}")?,
-        WalkFault::NameNotText(path) => format!(in alloc; "NameNotText {path}")?,
-        WalkFault::TooDeep(path) => format!(in alloc; "TooDeep {path}")?,
-        WalkFault::OddSize(path, size) => format!(in alloc; "OddSize {path} {size}")?,
-        WalkFault::File(cause) => format!(in alloc; "File {cause}")?,
-    })
+/// Tells a fault by its variant and its values.
+fn tell_fault(out: &mut String, fault: &WalkFault) -> Result<(), AllocError> {
+    let (variant, path) = match fault {
+        WalkFault::Link(path) => ("Link", path),
+        WalkFault::NameNotText(path) => ("NameNotText", path),
+        WalkFault::TooDeep(path) => ("TooDeep", path),
+        WalkFault::OddSize(path, size) => return write!(out, "OddSize {path} {size}"),
+        WalkFault::File(cause) => return write!(out, "File {cause}"),
+    };
+    write!(out, "{variant} {path}")
 }
 
-fn add_entry(alloc: Global, text: &mut String, entry: &Entry) -> Result<(), Fail> {
-    let path = &entry.path;
-    let kind = kind_text(alloc, Some(&entry.kind))?;
-    let gap = if text.is_empty() { "" } else { ", " };
-    write!(text, "{gap}{path} {}", kind.as_str())?;
+/// Tells a path behind what was told.
+fn tell_name(out: &mut String, path: &Path) -> Result<(), AllocError> {
+    let gap = if out.is_empty() { "" } else { ", " };
+    write!(out, "{gap}{path} ")
+}
+
+/// Tells the entries, a dash where there is none.
+fn tell_entries(out: &mut String, entries: &Entries) -> Result<(), AllocError> {
+    if entries.len() == 0 {
+        return out.push('-');
+    }
+    for at in 0..entries.len() {
+        if let Some(entry) = entries.get(at) {
+            tell_name(out, &entry.path)?;
+            tell_kind(out, Some(&entry.kind))?;
+        }
+    }
     Ok(())
 }
 
-/// The entries, a dash where there is none.
-fn entries_text(alloc: Global, entries: &Entries) -> Result<String, Fail> {
-    if entries.len() == 0 {
-        return Ok(String::from_str(alloc, "-")?);
+/// Tells what a walk gives.
+pub(crate) fn tell_walk<F: Tree>(
+    alloc: Global,
+    out: &mut String,
+    tree: &mut F,
+    root: &str,
+) -> Result<(), Fail> {
+    let walked = walk(alloc, tree, &Path::parse(alloc, root)?);
+    match walked {
+        Ok(entries) => Ok(tell_entries(out, &entries)?),
+        Err(fault) => Ok(tell_fault(out, &fault)?),
     }
-    let mut text = String::new(alloc);
-    for at in 0..entries.len() {
-        let entry = entries.get(at).ok_or("no entry")?;
-        add_entry(alloc, &mut text, entry)?;
-    }
-    Ok(text)
 }
 
 /// What a walk of a tree gives where the read of a number fails, none for 0.
-fn walked(alloc: Global, words: &str, lines: &str) -> Result<String, Fail> {
-    let (plan, root) = cut_at(words, " ");
-    let plan = match number(plan)? {
-        0 => FailPlan::Never,
-        read => FailPlan::At(u64::from(read)),
-    };
-    let root = Path::parse(alloc, root)?;
+fn tell_failing(alloc: Global, out: &mut String, words: &str, lines: &str) -> Result<(), Fail> {
+    let (read, root) = cut_at(words, " ");
+    let plan = plan_of(read)?;
     let mut tree = FailingTree::new(tree_of(alloc, lines)?, plan);
-    match walk(alloc, &mut tree, &root) {
-        Ok(entries) => entries_text(alloc, &entries),
-        Err(fault) => fault_text(alloc, &fault),
-    }
+    tell_walk(alloc, out, &mut tree, root)
 }
 
-/// How many entries a walk finds.
-fn counted(alloc: Global, tree: &mut MemoryTree, root: &str) -> Result<String, Fail> {
-    let entries = walk(alloc, tree, &Path::parse(alloc, root)?)?;
-    Ok(format!(in alloc; "{}", entries.len())?)
+fn entries_of(alloc: Global, tree: &mut MemoryTree, root: &str) -> Result<Entries, Fail> {
+    Ok(walk(alloc, tree, &Path::parse(alloc, root)?)?)
+}
+
+/// Tells how many entries a walk finds.
+fn tell_count(
+    alloc: Global,
+    out: &mut String,
+    tree: &mut MemoryTree,
+    root: &str,
+) -> Result<(), Fail> {
+    let count = entries_of(alloc, tree, root)?.len();
+    Ok(write!(out, "{count}")?)
 }
 
 /// Folders below `t` that lie in one another, the last of so many parts with that of the root.
@@ -119,37 +135,39 @@ fn nested(alloc: Global, parts: u32) -> Result<MemoryTree, Fail> {
     Ok(tree)
 }
 
-fn add_pair(alloc: Global, text: &mut String, pair: &Pair) -> Result<(), Fail> {
-    let path = &pair.path;
-    let target = kind_text(alloc, pair.target.as_ref())?;
-    let source = kind_text(alloc, pair.source.as_ref())?;
-    let gap = if text.is_empty() { "" } else { ", " };
-    write!(text, "{gap}{path} {} {}", target.as_str(), source.as_str())?;
-    Ok(())
+fn tell_pair(out: &mut String, pair: &Pair) -> Result<(), AllocError> {
+    tell_name(out, &pair.path)?;
+    tell_kind(out, pair.target.as_ref())?;
+    out.push(' ')?;
+    tell_kind(out, pair.source.as_ref())
 }
 
 fn pairs_of(alloc: Global, tree: &mut MemoryTree) -> Result<Vec<Pair>, Fail> {
-    let target = walk(alloc, tree, &Path::parse(alloc, "t")?)?;
-    let source = walk(alloc, tree, &Path::parse(alloc, "s")?)?;
+    let target = entries_of(alloc, tree, "t")?;
+    let source = entries_of(alloc, tree, "s")?;
     Ok(pair_up(alloc, target, source)?)
 }
 
-fn paired(alloc: Global, lines: &str) -> Result<String, Fail> {
+fn tell_pairs(alloc: Global, out: &mut String, lines: &str) -> Result<(), Fail> {
     let pairs = pairs_of(alloc, &mut tree_of(alloc, lines)?)?;
-    let mut text = String::new(alloc);
     for pair in pairs.iter() {
-        add_pair(alloc, &mut text, pair)?;
+        tell_pair(out, pair)?;
     }
-    Ok(text)
+    Ok(())
 }
 
 /// `walk READ ROOT: LINE, ..`, `count ROOT: LINE, ..`, `nested PARTS` or `pairs LINE, ..`.
-pub(crate) fn of_walk(alloc: Global, verb: &str, given: &str) -> Result<String, Fail> {
+pub(crate) fn tell_walks(
+    alloc: Global,
+    out: &mut String,
+    verb: &str,
+    given: &str,
+) -> Result<(), Fail> {
     let (words, lines) = cut_at(given, ": ");
     match verb {
-        "walk" => walked(alloc, words, lines),
-        "count" => counted(alloc, &mut tree_of(alloc, lines)?, words),
-        "nested" => counted(alloc, &mut nested(alloc, number(words)?)?, "t"),
-        _ => paired(alloc, given),
+        "walk" => tell_failing(alloc, out, words, lines),
+        "count" => tell_count(alloc, out, &mut tree_of(alloc, lines)?, words),
+        "nested" => tell_count(alloc, out, &mut nested(alloc, number(words)?)?, "t"),
+        _ => tell_pairs(alloc, out, given),
     }
 }

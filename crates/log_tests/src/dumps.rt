@@ -1,5 +1,5 @@
 // A dump whose reads fail, one after the other. Bytes and the line are written out from the format.
-use crate::logs::{FIRST, path_of, tree_of, write};
+use crate::logs::{FIRST, path_of, size, tree_of, write};
 use crate::written::{append, writer_of};
 use cluster_tree::{FailPlan, FailingTree, MemorySink, MemoryTree};
 use std::alloc::Global;
@@ -34,12 +34,17 @@ fn long_body(alloc: Global) -> Result<Vec<u8>, Fail> {
     Ok(body)
 }
 
+/// Appends such a record.
+fn append_long(alloc: Global, writer: &mut LogWriter) -> Result<u64, Fail> {
+    let body = long_body(alloc)?;
+    append(writer, 0, (0x20, 0), &body)
+}
+
 /// A log with a record on its first page, and one that goes on to the second; both are of the manager XLOG and say
 /// nothing.
 fn two_records(alloc: Global) -> Result<LogWriter, Fail> {
-    let body = long_body(alloc)?;
     let mut writer = writer_of(alloc, (0x20, 0), &[])?;
-    append(&mut writer, 0, (0x20, 0), &body)?;
+    append_long(alloc, &mut writer)?;
     Ok(writer)
 }
 
@@ -53,7 +58,7 @@ fn two_pages(alloc: Global) -> Result<MemoryTree, Fail> {
 
 /// Dumps the log of a tree.
 fn run(alloc: Global, tree: &mut FailingTree, out: &mut MemorySink) -> Result<bool, Fail> {
-    let log = path_of(alloc, Spans::one(alloc, 1)?, None)?;
+    let log = path_of(alloc, size()?, Spans::one(alloc, 1)?, None)?;
     Ok(dump(alloc, tree, out, log, &ALL) == Err(DumpFault::ReadFault))
 }
 

@@ -9,8 +9,9 @@ mod lists;
 mod name_texts;
 mod names;
 mod prefixes;
-mod shown;
 
+use crate::texts::cut_at;
+use crate::told::Told;
 use block_names::block_name;
 use blocks::block;
 use ends::end;
@@ -22,74 +23,43 @@ use std::alloc::Global;
 use std::process::Abort;
 use std::test::Fail;
 
-/// A line's first word, and what stands behind the blank after it.
-pub fn first_word(line: &str) -> (&str, &str) {
-    match line.split_once(' ') {
-        Some(parts) => parts,
-        None => (line, ""),
-    }
+/// Whether a layout of main bytes, by its name, is read as a row says.
+fn is_read(name: &str, bytes: &[u8], meant: &str) -> bool {
+    let mut told = Told::new(meant);
+    let found = xlog(&mut told, name, bytes)
+        || transaction(&mut told, name, bytes)
+        || heap(&mut told, name, bytes)
+        || page(&mut told, name, bytes)
+        || list(&mut told, name, bytes)
+        || end(&mut told, name, bytes)
+        || prefix(&mut told, name, bytes);
+    found && told.is_all()
 }
 
-/// What a layout of main bytes is read as, by its name.
-fn layout(alloc: Global, name: &str, bytes: &[u8]) -> Result<String, Fail> {
-    for read in [xlog(alloc, name, bytes)?, transaction(alloc, name, bytes)?] {
-        if let Some(text) = read {
-            return Ok(text);
-        }
-    }
-    if let Some(text) = heap(alloc, name, bytes)? {
-        return Ok(text);
-    }
-    if let Some(text) = page(alloc, name, bytes)? {
-        return Ok(text);
-    }
-    if let Some(text) = list(alloc, name, bytes)? {
-        return Ok(text);
-    }
-    if let Some(text) = end(alloc, name, bytes)? {
-        return Ok(text);
-    }
-    match prefix(alloc, name, bytes)? {
-        Some(text) => Ok(text),
-        None => Err("no such layout".into()),
-    }
-}
-
-/// `whole NAME HEX`: what the bytes are read as; cut by one they are not whole.
-fn whole(alloc: Global, behind: &str) -> Result<String, Fail> {
-    let (name, digits) = first_word(behind);
+/// `whole NAME HEX` or `read NAME HEX`: whether the bytes are read as a row says; whole ones aren't when they are cut by one.
+fn layout(alloc: Global, verb: &str, behind: &str, meant: &str) -> Result<bool, Fail> {
+    let (name, digits) = cut_at(behind, " ");
     let bytes = hex::decode(alloc, digits)?;
-    let cut = layout(alloc, name, &bytes[..bytes.len().saturating_sub(1)])?;
-    if cut.as_str() != "none" {
-        return Ok(cut);
-    }
-    layout(alloc, name, &bytes)
+    let cut = &bytes[..bytes.len().saturating_sub(1)];
+    Ok((verb == "read" || is_read(name, cut, "none")) && is_read(name, &bytes, meant))
 }
 
-/// `read NAME HEX`: what the bytes are read as.
-fn read(alloc: Global, behind: &str) -> Result<String, Fail> {
-    let (name, digits) = first_word(behind);
-    layout(alloc, name, &hex::decode(alloc, digits)?)
-}
-
-/// What is read for a line.
-fn told(alloc: Global, line: &str) -> Result<String, Fail> {
-    let (verb, behind) = first_word(line);
+/// Whether a line is read as a row says.
+fn is_so(alloc: Global, line: &str, meant: &str) -> Result<bool, Fail> {
+    let (verb, behind) = cut_at(line, " ");
     match verb {
-        "whole" => whole(alloc, behind),
-        "read" => read(alloc, behind),
-        "block" => block(alloc, behind),
-        "fork" | "shown" | "rising" => block_name(alloc, verb, behind),
-        _ => name(alloc, verb, behind),
+        "whole" | "read" => layout(alloc, verb, behind, meant),
+        "block" => block(alloc, behind, meant),
+        "fork" | "shown" | "rising" => block_name(verb, behind, meant),
+        _ => name(alloc, verb, behind, meant),
     }
 }
 
 /// Each line of a text is read as it says behind its sign of equality.
 fn check<R: AllocGlobal + Abort>(rt: &R, text: &str) -> Result<(), Fail> {
     for line in text.split('\n') {
-        if let Some((line, meant)) = line.split_once(" = ") {
-            let told = told(rt.alloc(), line)?;
-            assert_eq!(rt; told.as_str(), meant, "{line}");
+        if let Some((row, meant)) = line.split_once(" = ") {
+            assert!(rt; is_so(rt.alloc(), row, meant)?, "{line}");
         }
     }
     Ok(())

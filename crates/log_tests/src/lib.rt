@@ -25,6 +25,8 @@ mod records;
 #[cfg(test)]
 mod texts;
 #[cfg(test)]
+mod told;
+#[cfg(test)]
 mod touched;
 #[cfg(test)]
 mod written;

@@ -1,5 +1,6 @@
 // The logs that are read, put together field by field.
-ghost use Rattle.std.specs.Prelude.{◌≤◌, length, IfOk};
+ghost use Rattle.std.specs.Prelude.{◌≡◌, ◌≤◌, length, IfOk};
+ghost use Rattle.wal_base.specs.Segment.{bytes_of};
 
 use crate::texts::{bytes_of, cut_at, half, number, position};
 use cluster_tree::{MemoryTree, Path, Tree};
@@ -133,31 +134,50 @@ pub fn write<F: Tree>(alloc: Global, tree: &mut F, at: u64, bytes: &[u8]) -> Res
     Ok(())
 }
 
-/// The bytes of a record of a length, with a link back, whose body is of bytes 5A.
-fn record_of(alloc: Global, total: u32, prev: u64) -> Result<Vec<u8>, Fail> {
-    let body = vec![in alloc; 0x5A; total.saturating_sub(24) as usize]?;
-    let mut head = [0; 20];
-    head[..4].copy_from_slice(&total.to_le_bytes());
-    head[8..16].copy_from_slice(&prev.to_le_bytes());
-    head[17] = 10;
+/// The header of a record with this body.
+pub fn header(link: u64, manager: u8, info: u8, body: &[u8]) -> [u8; 24] {
+    let mut header = [0; 24];
+    let total = (body.len().min(8000) + 24) as u32;
+    header[..4].copy_from_slice(&total.to_le_bytes());
+    header[8..16].copy_from_slice(&link.to_le_bytes());
+    header[16] = info;
+    header[17] = manager;
     let mut crc = Crc32c::new();
-    crc.add(&body);
-    crc.add(&head);
-    let mut bytes = Vec::new(alloc);
-    bytes.extend_from_slice(&head)?;
-    bytes.extend_from_slice(&crc.value().to_le_bytes())?;
-    bytes.extend_from_slice(&body)?;
+    crc.add(body);
+    crc.add(&header[..20]);
+    header[20..].copy_from_slice(&crc.value().to_le_bytes());
+    header
+}
+
+/// The bytes of a record of a length, with a link back, whose body is of bytes 5A.
+fn record_of(alloc: Global, total: u32, link: u64) -> Result<Vec<u8>, Fail> {
+    let mut bytes = vec![in alloc; 0x5A; total.max(24) as usize]?;
+    let header = header(link, 10, 0, &bytes[24..]);
+    bytes.as_mut_slice()[..24].copy_from_slice(&header);
     Ok(bytes)
 }
 
-/// The log in the folder `log`, in segments of 1 MiB of these timelines.
-pub fn path_of(alloc: Global, spans: Spans, system: Option<u64>) -> Result<LogPath, Fail>
-    ensures { IfOk result (λ log. length log.folder.parts ≤ 63) }
+/// How long its segments are: 1 MiB.
+pub fn size() -> Result<SegSize, Fail>
+    ensures { IfOk result (λ size. bytes_of size ≡ 0x10_0000) }
+{
+    Ok(SegSize::new(0x10_0000).ok_or("no size")?)
+}
+
+/// The log in the folder `log`, in segments of a size of these timelines.
+pub fn path_of(
+    alloc: Global,
+    size: SegSize,
+    spans: Spans,
+    system: Option<u64>,
+) -> Result<LogPath, Fail>
+    ensures shallow { IfOk result (λ log. length log.folder.parts ≤ 63) }
+    ensures size { IfOk result (λ log. log.size ≡ size) }
 {
     let log = LogPath {
         folder: Path::parse(alloc, "log")?,
         spans,
-        size: SegSize::new(0x10_0000).ok_or("no size")?,
+        size,
         system,
     };
     if log.folder.len() > 63 {

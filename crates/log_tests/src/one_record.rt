@@ -1,4 +1,5 @@
 //! Logs of one record.
+use crate::logs::size;
 use crate::records::cursor_at;
 use crate::written::{tree_with, writer_of};
 use std::alloc::Global;
@@ -17,7 +18,7 @@ pub(crate) fn cursor_over(
 ) -> Result<RecordCursor, Fail> {
     let writer = writer_of(alloc, (info, manager), body)?;
     let mut tree = tree_with(alloc, &writer)?;
-    let mut cursor = cursor_at(alloc, START)?;
+    let mut cursor = cursor_at(alloc, size()?, START)?;
     let _step = cursor.next(&mut tree)?;
     Ok(cursor)
 }

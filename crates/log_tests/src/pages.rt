@@ -1,32 +1,40 @@
 // Pages of a log, as texts of acts on a cursor over them.
-use crate::logs::{FIRST, SYSTEM, add_file, page, path_of, tree_of, write};
+use crate::logs::{FIRST, SYSTEM, add_file, page, path_of, size, tree_of, write};
 use crate::page_rows::{BAD, CASES, TWO_PAGES};
 use crate::texts::{bytes_of, cut_at, plan_of, position};
-use cluster_tree::{FailingTree, MemoryTree, Path, Tree};
+use crate::told::Told;
+use cluster_tree::{FailPlan, FailingTree, MemoryTree, Path, Tree};
 use std::alloc::Global;
 use std::test::Fail;
 use wal_base::{Lsn, Spans};
 use wal_pages::{PageCursor, PageFault, PageField, PageHeader};
 
-/// What an answer says: `page FLAGS TIMELINE AT REMAINING`, or why there is none.
-fn told(alloc: Global, answer: &Result<PageHeader, PageFault>) -> Result<String, Fail> {
-    Ok(match answer {
+/// Whether an answer is what a row says: `page FLAGS TIMELINE AT REMAINING`, or why there is none.
+fn is_told(answer: &Result<PageHeader, PageFault>, wanted: &str) -> bool {
+    let mut told = Told::new(wanted);
+    match answer {
         Ok(page) => {
-            format!(in alloc;
-                "page {} {} {} {}",
-                page.info, page.tli, page.address, page.remaining
-            )?
+            told.shows("page ", &page.info);
+            told.shows(" ", &page.tli);
+            told.says(" ", &page.address);
+            told.shows(" ", &page.remaining);
         }
         Err(PageFault::SegmentMissing(segment)) => {
-            format!(in alloc; "missing {} {}", segment.tli, segment.number)?
+            told.shows("missing ", &segment.tli);
+            told.shows(" ", &segment.number);
         }
         Err(PageFault::ShortSegment(segment)) => {
-            format!(in alloc; "short {} {}", segment.tli, segment.number)?
+            told.shows("short ", &segment.tli);
+            told.shows(" ", &segment.number);
         }
-        Err(PageFault::BadPage(place, field)) => format!(in alloc; "bad {place} {field:?}")?,
-        Err(PageFault::ReadFault) => String::from_str(alloc, "failed")?,
-        Err(_) => return Err("another fault".into()),
-    })
+        Err(PageFault::BadPage(place, field)) => {
+            told.says("", place);
+            told.shows(" ", field);
+        }
+        Err(PageFault::ReadFault) => told.text("failed"),
+        Err(_) => told.text("another fault"),
+    }
+    told.is_all()
 }
 
 /// Whether a cursor holds the page that was answered, or none.
@@ -42,6 +50,28 @@ fn holds(cursor: &PageCursor, answer: &Result<PageHeader, PageFault>) -> bool {
     }
 }
 
+/// Puts bytes at a position: `AT BYTES`.
+fn put(alloc: Global, tree: &mut FailingTree, words: &str) -> Result<(), Fail> {
+    let (at, bytes) = cut_at(words, " ");
+    write(alloc, tree, position(at)?, &bytes_of(alloc, bytes)?)
+}
+
+/// Whether a page is read as a row says, and then held: `read AT: ANSWER` or `turn AT: ANSWER`.
+fn is_read(
+    tree: &mut FailingTree,
+    cursor: &mut PageCursor,
+    verb: &str,
+    words: &str,
+) -> Result<bool, Fail> {
+    let (at, wanted) = cut_at(words, ": ");
+    let at = Lsn(position(at)?);
+    let answer = match verb {
+        "read" => cursor.read_page(tree, at),
+        _ => cursor.turn_to(tree, at),
+    };
+    Ok(is_told(&answer, wanted) && holds(cursor, &answer))
+}
+
 /// Whether an act comes out as it has to: `put AT BYTES`, `forget`, `read AT: ANSWER` or `turn AT: ANSWER`.
 fn is_done(
     alloc: Global,
@@ -49,24 +79,18 @@ fn is_done(
     cursor: &mut PageCursor,
     act: &str,
 ) -> Result<bool, Fail> {
-    let (verb, behind) = cut_at(act, " ");
-    if verb == "forget" {
-        cursor.forget();
-        return Ok(cursor.page().is_empty());
+    let (verb, words) = cut_at(act, " ");
+    match verb {
+        "forget" => {
+            cursor.forget();
+            Ok(cursor.page().is_empty())
+        }
+        "put" => {
+            put(alloc, tree, words)?;
+            Ok(true)
+        }
+        _ => is_read(tree, cursor, verb, words),
     }
-    if verb == "put" {
-        let (at, bytes) = cut_at(behind, " ");
-        write(alloc, tree, position(at)?, &bytes_of(alloc, bytes)?)?;
-        return Ok(true);
-    }
-    let (at, wanted) = cut_at(behind, ": ");
-    let at = Lsn(position(at)?);
-    let answer = if verb == "read" {
-        cursor.read_page(tree, at)
-    } else {
-        cursor.turn_to(tree, at)
-    };
-    Ok(told(alloc, &answer)?.as_str() == wanted && holds(cursor, &answer))
 }
 
 /// The first act that comes out otherwise, if there is one.
@@ -84,16 +108,22 @@ fn first_other_act<'a>(
     Ok(None)
 }
 
+/// A cursor over the log of timeline 1.
+fn cursor_of(alloc: Global, system: Option<u64>) -> Result<PageCursor, Fail> {
+    let log = path_of(alloc, size()?, Spans::one(alloc, 1)?, system)?;
+    Ok(PageCursor::new(alloc, log)?)
+}
+
 /// The first act of a case that comes out otherwise, if there is one: `CELL, .. | SYSTEM | PLAN | ACT; ..`, where
 /// the system is its own or any.
 fn first_other<'a>(alloc: Global, case: &'a str) -> Result<Option<&'a str>, Fail> {
     let (cells, behind) = cut_at(case, " | ");
     let (system, behind) = cut_at(behind, " | ");
     let (plan, acts) = cut_at(behind, " | ");
+    let plan = plan_of(plan)?;
     let system = if system == "own" { Some(SYSTEM) } else { None };
-    let log = path_of(alloc, Spans::one(alloc, 1)?, system)?;
-    let mut cursor = PageCursor::new(alloc, log)?;
-    let mut tree = FailingTree::new(tree_of(alloc, cells)?, plan_of(plan)?);
+    let mut cursor = cursor_of(alloc, system)?;
+    let mut tree = FailingTree::new(tree_of(alloc, cells)?, plan);
     first_other_act(alloc, &mut tree, &mut cursor, acts)
 }
 
@@ -107,17 +137,21 @@ fn pages_are_read_held_and_refused(rt: HostRuntime) -> Result<(), Fail> {
     Ok(())
 }
 
-/// What a row's case is: the two pages, with its bytes put over them.
-fn bad_case(alloc: Global, row: &str) -> Result<String, Fail> {
-    let (put, bad) = cut_at(row, " = ");
-    let (at, _) = cut_at(bad, " ");
-    Ok(format!(in alloc; "{TWO_PAGES} | own | never | put {put}; read {at}: bad {bad}")?)
+/// The two pages, with bytes put over them.
+fn bad_tree(alloc: Global, words: &str) -> Result<FailingTree, Fail> {
+    let mut tree = FailingTree::new(tree_of(alloc, TWO_PAGES)?, FailPlan::Never);
+    put(alloc, &mut tree, words)?;
+    Ok(tree)
 }
 
-/// Whether a row's page is bad as it says.
+/// Whether a row's page is bad as it says: `AT BYTES = PAGE FIELD`.
 fn is_bad(alloc: Global, row: &str) -> Result<bool, Fail> {
-    let case = bad_case(alloc, row)?;
-    Ok(first_other(alloc, case.as_str())?.is_none())
+    let (words, bad) = cut_at(row, " = ");
+    let (at, _) = cut_at(bad, " ");
+    let at = Lsn(position(at)?);
+    let mut cursor = cursor_of(alloc, Some(SYSTEM))?;
+    let answer = cursor.read_page(&mut bad_tree(alloc, words)?, at);
+    Ok(is_told(&answer, bad) && holds(&cursor, &answer))
 }
 
 #[test]
@@ -165,7 +199,7 @@ fn timeline_read(alloc: Global, cursor: &mut PageCursor, tli: u8) -> Result<Opti
 /// the one of timeline 1 isn't there. Its pages may name either timeline.
 #[test]
 fn a_segment_is_read_from_the_timeline_that_reaches_its_end(rt: HostRuntime) -> Result<(), Fail> {
-    let log = path_of(rt.alloc(), two_spans(rt.alloc())?, None)?;
+    let log = path_of(rt.alloc(), size()?, two_spans(rt.alloc())?, None)?;
     let mut cursor = PageCursor::new(rt.alloc(), log)?;
     for tli in [1, 2] {
         let read = timeline_read(rt.alloc(), &mut cursor, tli)?;
@@ -175,12 +209,9 @@ fn a_segment_is_read_from_the_timeline_that_reaches_its_end(rt: HostRuntime) -> 
 }
 
 #[test]
-fn a_fault_has_its_message(rt: HostRuntime) -> Result<(), Fail> {
+fn a_fault_has_its_message(rt: HostRuntime) {
+    let mut told = Told::new("the page at 0/102000 has a bad field: SegmentSize");
     let bad = PageFault::BadPage(Lsn(0x10_2000), PageField::SegmentSize);
-    let text = format!(in rt.alloc(); "{bad}")?;
-    assert_eq!(rt;
-        text.as_str(),
-        "the page at 0/102000 has a bad field: SegmentSize"
-    );
-    Ok(())
+    told.says("", &bad);
+    assert!(rt; told.is_all());
 }

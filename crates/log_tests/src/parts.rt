@@ -2,13 +2,14 @@
 ghost use Rattle.block_refs.specs.Parts.{ArePartsOf};
 
 use crate::one_record::cursor_over;
+use crate::told::Told;
 use block_refs::{Parts, image_page, split_into, split_record};
 use rmgr_desc::describe;
 use std::alloc::Global;
 use std::test::Fail;
-use wal_records::{Record, RecordCursor};
+use wal_records::Record;
 
-/// Block 7 of 1663/5/16384 with three bytes; block 8 of the free space map of the same relation with
+/// The body of an INSERT+INIT: block 7 of 1663/5/16384 with three bytes; block 8 of the free space map of the same relation with
 /// two; block 9 of the visibility map of 1664/0/1262, made anew, with an image of 3 bytes and a hole
 /// of 8189 at 1, not to be applied; an origin, a transaction, and four main bytes.
 const THREE_BLOCKS: [u8; 75] = [
@@ -19,25 +20,20 @@ const THREE_BLOCKS: [u8; 75] = [
     0x11, 0x12, 0x13, 0x21, 0x22, 0x75, 0x76, 0x77, 0xE1, 0xE2, 0xE3, 0xE4,
 ];
 
-/// A cursor that has read an INSERT+INIT with this body.
-fn cursor(alloc: Global) -> Result<RecordCursor, Fail> {
-    cursor_over(alloc, 10, 0x80, &THREE_BLOCKS)
-}
-
-/// The references of a record in order, each also by its id.
-fn references(alloc: Global, parts: &Parts) -> Result<String, Fail> {
-    let mut text = String::new(alloc);
+/// Whether a record's references are those that are meant, in order, each also by its id.
+fn has_references(parts: &Parts) -> bool {
+    let mut told = Told::new(REFERENCES);
     for at in 0..parts.count() {
         if let Some(block) = parts.get(at) {
-            let named = parts.block(block.id).is_some();
-            writeln!(text, "{block:?} {named}")?;
+            told.shows("", &block);
+            told.shows(" ", &parts.block(block.id).is_some());
+            told.text("\n");
         }
     }
-    let past = parts.get(parts.count());
-    let unnamed = parts.block(2);
-    let images = parts.image_total();
-    write!(text, "{past:?} {unnamed:?} {images}")?;
-    Ok(text)
+    told.shows("", &parts.get(parts.count()));
+    told.shows(" ", &parts.block(2));
+    told.shows(" ", &parts.image_total());
+    told.is_all()
 }
 
 const REFERENCES: &str = "\
@@ -46,18 +42,18 @@ BlockRef { id: 1, name: BlockName { rel: RelName { space: 1663, database: 5, rel
 BlockRef { id: 4, name: BlockName { rel: RelName { space: 1664, database: 0, relation: 1262 }, fork: Visibility, block: 9 }, will_init: true, image: Some(ImageRef { apply: false, hole_at: 1, hole: 8189 }) } true
 None None 3";
 
-/// The main bytes of a record, the bytes of its blocks 0, 1, 4 and 2, and what it says.
-fn bytes_told(alloc: Global, rec: &Record, parts: &Parts) -> Result<String, Fail>
+/// Whether a record's main bytes, the bytes of its blocks 0, 1, 4 and 2, and what it says are those that are meant.
+fn has_bytes(alloc: Global, rec: &Record, parts: &Parts) -> Result<bool, Fail>
     requires parts { ArePartsOf rec.now parts.now }
 {
-    let mut text = String::new(alloc);
-    write!(text, "{:?}", parts.main_bytes(rec))?;
+    let mut told = Told::new(BYTES);
+    told.shows("", &parts.main_bytes(rec));
     for id in [0, 1, 4, 2] {
-        write!(text, " {:?}", parts.block_bytes(rec, id))?;
+        told.shows(" ", &parts.block_bytes(rec, id));
     }
-    let said = describe(alloc, rec, parts)?;
-    write!(text, " {}", said.as_str())?;
-    Ok(text)
+    told.text(" ");
+    told.text(describe(alloc, rec, parts)?.as_str());
+    Ok(told.is_all())
 }
 
 const BYTES: &str = "\
@@ -65,67 +61,47 @@ const BYTES: &str = "\
 
 /// Whether there is a page of the images of blocks 0 and 4 in a room of bytes AA, whether the room stays without one, and
 /// of the page the first byte, whether its hole is of zeros, and the bytes behind that and the page.
-fn images_told(alloc: Global, rec: &Record, parts: &Parts) -> Result<String, Fail>
+fn has_images(rec: &Record, parts: &Parts) -> bool
     requires parts { ArePartsOf rec.now parts.now }
 {
+    let mut told = Told::new(IMAGES);
     let mut room = [0xAA; 8193];
-    let made = image_page(rec, parts, 0, &mut room);
-    let stays = room.iter().all(|byte| *byte == 0xAA);
-    write_told(
-        alloc,
-        made,
-        stays,
-        image_page(rec, parts, 4, &mut room),
-        &room,
-    )
-}
-
-fn write_told(
-    alloc: Global,
-    made: bool,
-    stays: bool,
-    then: bool,
-    room: &[u8; 8193],
-) -> Result<String, Fail> {
-    let hole = room[1..8190].iter().all(|byte| *byte == 0);
-    let first = room[0];
-    let behind = &room[8190..];
-    Ok(format!(in alloc; "{made} {stays} {then} {first} {hole} {behind:?}")?)
+    told.shows("", &image_page(rec, parts, 0, &mut room));
+    told.shows(" ", &room.iter().all(|byte| *byte == 0xAA));
+    told.shows(" ", &image_page(rec, parts, 4, &mut room));
+    told.shows(" ", &room[0]);
+    told.shows(" ", &room[1..8190].iter().all(|byte| *byte == 0));
+    told.shows(" ", &&room[8190..]);
+    told.is_all()
 }
 
 const IMAGES: &str = "false true true 117 true [118, 119, 170]";
 
-/// What is told of the record's references, or of its bytes or its images.
-fn told(alloc: Global, call: &str) -> Result<String, Fail> {
-    let cursor = cursor(alloc)?;
+/// Whether the record has its references, its bytes or its images, by what is asked, or its references where its parts
+/// stand in parts that were there.
+fn has(alloc: Global, call: &str) -> Result<bool, Fail> {
+    let cursor = cursor_over(alloc, 10, 0x80, &THREE_BLOCKS)?;
     let rec = cursor.current().ok_or("no record")?;
     let parts = split_record(rec)?;
     match call {
-        "references" => references(alloc, &parts),
-        "bytes" => bytes_told(alloc, rec, &parts),
-        _ => images_told(alloc, rec, &parts),
+        "references" => Ok(has_references(&parts)),
+        "bytes" => has_bytes(alloc, rec, &parts),
+        "images" => Ok(has_images(rec, &parts)),
+        _ => has_same_parts(rec),
     }
 }
 
-/// Whether the record has the same references where its parts stand in parts that were there.
-fn has_same_parts(alloc: Global) -> Result<bool, Fail> {
-    let cursor = cursor(alloc)?;
-    let rec = cursor.current().ok_or("no record")?;
+/// Whether a record has its references where its parts stand in parts that were there.
+fn has_same_parts(rec: &Record) -> Result<bool, Fail> {
     let mut parts = Parts::new();
     split_into(rec, &mut parts)?;
-    Ok(references(alloc, &parts)?.as_str() == REFERENCES)
+    Ok(has_references(&parts))
 }
 
 #[test]
 fn a_record_has_its_references_bytes_and_images(rt: HostRuntime) -> Result<(), Fail> {
-    for (call, meant) in [
-        ("references", REFERENCES),
-        ("bytes", BYTES),
-        ("images", IMAGES),
-    ] {
-        let told = told(rt.alloc(), call)?;
-        assert_eq!(rt; told.as_str(), meant, "{call}");
+    for call in ["references", "bytes", "images", "same parts"] {
+        assert!(rt; has(rt.alloc(), call)?, "{call}");
     }
-    assert!(rt; has_same_parts(rt.alloc())?);
     Ok(())
 }

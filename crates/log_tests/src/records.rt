@@ -1,10 +1,13 @@
 // Records of a log, as texts of what a cursor over them gives.
 ghost use Rattle.std.specs.Prelude.{◌≡◌, None, IfOk};
+ghost use Rattle.cluster_tree.specs.Contents.{Contents};
+ghost use Rattle.wal_records.specs.Cursor.{Knows};
 
-use crate::logs::{FIRST, SYSTEM, path_of, tree_of, write};
+use crate::logs::{FIRST, SYSTEM, path_of, size, tree_of, write};
 use crate::record_rows::*;
 use crate::texts::{bytes_of, cut_at, plan_of, position};
-use crate::written::{log_tree, news_of};
+use crate::told::Told;
+use crate::written::log_tree;
 use cluster_tree::{FailPlan, FailingTree, MemoryTree};
 use std::alloc::Global;
 use std::process::Abort;
@@ -13,28 +16,31 @@ use wal_base::{Lsn, SegSize, Spans};
 use wal_records::{LogFault, Record, RecordCursor, Step, Why};
 
 /// A cursor over the log of timeline 1.
-pub fn cursor_at(alloc: Global, start: u64) -> Result<RecordCursor, Fail>
-    ensures { IfOk result (λ cursor. cursor.ended ≡ None) }
+pub fn cursor_at(alloc: Global, size: SegSize, start: u64) -> Result<RecordCursor, Fail>
+    ensures begun { IfOk result (λ cursor. cursor.ended ≡ None) }
+    ensures size { IfOk result (λ cursor. cursor.log.size ≡ size) }
+    ensures knows { IfOk result (λ cursor. (contents : Contents) → Knows cursor contents) }
 {
-    let log = path_of(alloc, Spans::one(alloc, 1)?, Some(SYSTEM))?;
+    let log = path_of(alloc, size, Spans::one(alloc, 1)?, Some(SYSTEM))?;
     Ok(RecordCursor::at(alloc, log, Lsn(start))?)
 }
 
 /// By which call the records are read.
 #[derive(Clone, Copy)]
-pub enum Way {
+enum Way {
     /// `next`, which reads the page of each record from the tree.
     Anew,
     /// `next_unchanged`, which reads most records from the page that is held.
     Unchanged,
 }
 
-/// Where the record starts and ends that a cursor lends, or `none`.
-fn lent(alloc: Global, cursor: &RecordCursor) -> Result<String, Fail> {
-    match cursor.current() {
-        Some(current) => Ok(format!(in alloc; "{} {}", current.start(), current.end())?),
-        None => Ok(String::from_str(alloc, "none")?),
-    }
+/// Tells where the record starts and ends that a cursor lends, or `none`.
+fn lent(told: &mut Told<'_>, cursor: &RecordCursor) {
+    let Some(current) = cursor.current() else {
+        return told.text("none");
+    };
+    told.says("", &current.start());
+    told.says(" ", &current.end());
 }
 
 /// The next step of a cursor, in a way.
@@ -46,36 +52,79 @@ fn step(cursor: &mut RecordCursor, tree: &mut MemoryTree, way: Way) -> Result<St
 }
 
 /// Where the last record starts and ends, if there is one, where the log ends, and why.
-fn ended(alloc: Global, last: Option<(Lsn, Lsn)>, at: Lsn, why: Why) -> Result<String, Fail> {
-    match last {
-        Some((start, end)) => Ok(format!(in alloc; "{start} {end}, {at} {why:?}")?),
-        None => Ok(format!(in alloc; "none, {at} {why:?}")?),
+#[derive(Clone, Copy)]
+struct Found {
+    last: Option<(Lsn, Lsn)>,
+    at: Lsn,
+    why: Why,
+}
+
+impl Found {
+    /// Whether the last record and the end are those that are meant.
+    fn is(&self, meant: (&str, &str)) -> bool {
+        let (last, end) = meant;
+        let mut told = Told::new(last);
+        match self.last {
+            Some((start, end)) => {
+                told.says("", &start);
+                told.says(" ", &end);
+            }
+            None => told.text("none"),
+        }
+        told.is_all() && is_end(self.at, self.why, end)
     }
 }
 
-/// Of up to nine records that a cursor gives: where the last one starts and ends, if there is one, where the log
-/// ends, and why.
-fn read_all(alloc: Global, tree: &mut MemoryTree, start: u64, way: Way) -> Result<String, Fail> {
-    let mut cursor = cursor_at(alloc, start)?;
+/// Whether a log ends at this place, for this reason.
+fn is_end(at: Lsn, why: Why, end: &str) -> bool {
+    let mut told = Told::new(end);
+    told.says("", &at);
+    told.shows(" ", &why);
+    told.is_all()
+}
+
+/// What is found of up to nine records that a cursor gives.
+fn read_all(
+    cursor: &mut RecordCursor,
+    tree: &mut MemoryTree,
+    way: Way,
+) -> Result<Option<Found>, LogFault> {
     let mut last = None;
     for _ in 0..10 {
-        match step(&mut cursor, tree, way)? {
+        match step(cursor, tree, way)? {
             Step::Record => last = cursor.current().map(|rec| (rec.start(), rec.end())),
-            Step::End(at, why) => return ended(alloc, last, at, why),
+            Step::End(at, why) => return Ok(Some(Found { last, at, why })),
         }
     }
-    Err("no end".into())
+    Ok(None)
 }
 
-/// Whether a cursor gives this, read in a way.
-pub fn is_read(
+/// Whether the last record and the end that are read in a way are those that are meant.
+fn is_read_by(
     alloc: Global,
     tree: &mut MemoryTree,
     start: u64,
     way: Way,
-    wanted: &str,
+    meant: (&str, &str),
 ) -> Result<bool, Fail> {
-    Ok(read_all(alloc, tree, start, way)?.as_str() == wanted)
+    let mut cursor = cursor_at(alloc, size()?, start)?;
+    match read_all(&mut cursor, tree, way)? {
+        Some(found) => Ok(found.is(meant)),
+        None => Err("no end".into()),
+    }
+}
+
+/// Whether a log is read so in both ways.
+pub fn is_read(
+    alloc: Global,
+    tree: &mut MemoryTree,
+    start: u64,
+    meant: (&str, &str),
+) -> Result<bool, Fail> {
+    Ok(
+        is_read_by(alloc, tree, start, Way::Anew, meant)?
+            && is_read_by(alloc, tree, start, Way::Unchanged, meant)?,
+    )
 }
 
 /// The log of a row, with its bytes put over it.
@@ -90,12 +139,8 @@ fn is_row(alloc: Global, log: &str, row: &str) -> Result<bool, Fail> {
     let (given, wanted) = cut_at(row, " = ");
     let (at, behind) = cut_at(given, " ");
     let (bytes, start) = cut_at(behind, " ");
-    let start = position(start)?;
-    let mut tree = put_over(alloc, log, at, bytes)?;
-    Ok(
-        is_read(alloc, &mut tree, start, Way::Anew, wanted)?
-            && is_read(alloc, &mut tree, start, Way::Unchanged, wanted)?,
-    )
+    let (start, meant) = (position(start)?, cut_at(wanted, ", "));
+    is_read(alloc, &mut put_over(alloc, log, at, bytes)?, start, meant)
 }
 
 fn check<R: AllocGlobal + Abort>(rt: &R, log: &str, rows: &str) -> Result<(), Fail> {
@@ -128,69 +173,53 @@ fn stored(alloc: Global) -> Result<MemoryTree, Fail> {
     Ok(tree)
 }
 
-/// Where a record starts and ends, where its bytes end, its length and its sum, and whether its body is the checkpoint's.
-fn shown(alloc: Global, current: &Record) -> Result<String, Fail> {
-    let size = SegSize::new(0x10_0000).ok_or("no size")?;
-    let behind = current.behind(size).ok_or("nothing behind")?;
+/// Whether a record is the stored one: where it starts and ends, where its bytes end, its length, its sum and its body.
+fn is_stored(current: &Record, size: SegSize) -> bool {
     let header = current.header();
-    let same = current.body() == &CHECKPOINT[24..];
-    Ok(format!(in alloc;
-        "{} {} {behind} {} {:08X} {same}",
-        current.start(),
-        current.end(),
-        header.total,
-        header.crc
-    )?)
+    let mut told = Told::new("0/100028 0/1000A0 0/10009A 114");
+    told.says("", &current.start());
+    told.says(" ", &current.end());
+    told.says(" ", &current.behind(size).unwrap_or(Lsn(0)));
+    told.shows(" ", &header.total);
+    told.is_all() && header.crc == 0xAE66_BC71 && current.body() == &CHECKPOINT[24..]
 }
 
-/// What is read of the stored checkpoint, by a cursor that lends nothing before.
-fn stored_told(alloc: Global) -> Result<String, Fail> {
-    let mut cursor = cursor_at(alloc, FIRST)?;
-    if cursor.current().is_some() {
-        return Err("a record is lent".into());
+/// Whether the stored checkpoint is read, by a cursor that lends nothing before.
+fn is_stored_read(alloc: Global) -> Result<bool, Fail> {
+    let size = size()?;
+    let mut cursor = cursor_at(alloc, size, FIRST)?;
+    let is_lent = cursor.current().is_some();
+    let _step = cursor.next(&mut stored(alloc)?)?;
+    match cursor.current() {
+        Some(current) => Ok(!is_lent && is_stored(current, size)),
+        None => Ok(false),
     }
-    let mut tree = stored(alloc)?;
-    let _step = cursor.next(&mut tree)?;
-    shown(alloc, cursor.current().ok_or("no record")?)
 }
 
 #[test]
 fn a_stored_checkpoint_is_read(rt: HostRuntime) -> Result<(), Fail> {
-    let told = stored_told(rt.alloc())?;
-    assert_eq!(rt;
-        told.as_str(),
-        "0/100028 0/1000A0 0/10009A 114 AE66BC71 true"
-    );
+    assert!(rt; is_stored_read(rt.alloc())?);
     Ok(())
 }
 
-/// What a cursor answered, and what it lends: where a record starts and ends, where the log ends and why, or that
-/// a read failed.
-fn told(
-    alloc: Global,
-    cursor: &RecordCursor,
-    answer: Result<Step, LogFault>,
-) -> Result<String, Fail> {
-    if answer == Ok(Step::Record) {
-        return lent(alloc, cursor);
-    }
-    if cursor.current().is_some() {
-        return Err("a record is lent".into());
-    }
+/// Whether a cursor answered as it had to, and what it lends: where a record starts and ends, or where the log ends and
+/// why, or that a read failed, and then nothing is lent.
+fn is_told(cursor: &RecordCursor, answer: Result<Step, LogFault>, wanted: &str) -> bool {
+    let mut told = Told::new(wanted);
     match answer {
-        Ok(Step::End(place, why)) => Ok(format!(in alloc; "{place} {why:?}")?),
-        Err(LogFault::ReadFault) => Ok(String::from_str(alloc, "failed")?),
-        _ => Err("another answer".into()),
+        Ok(Step::Record) => lent(&mut told, cursor),
+        Ok(Step::End(place, why)) => {
+            told.says("", &place);
+            told.shows(" ", &why);
+        }
+        Err(LogFault::ReadFault) => told.text("failed"),
+        Err(_) => told.text("another answer"),
     }
+    told.is_all() && cursor.current().is_some() == (answer == Ok(Step::Record))
 }
 
 /// Whether an act comes out as it has to: `next: ANSWER`, `unchanged: ANSWER`, `alone AT: ANSWER` or `go AT`.
-fn is_done(
-    alloc: Global,
-    cursor: &mut RecordCursor,
-    tree: &mut FailingTree,
-    act: &str,
-) -> Result<bool, Fail> {
+fn is_done(cursor: &mut RecordCursor, tree: &mut FailingTree, act: &str) -> Result<bool, Fail> {
     let (call, wanted) = cut_at(act, ": ");
     let (verb, at) = cut_at(call, " ");
     let answer = match verb {
@@ -202,18 +231,17 @@ fn is_done(
             return Ok(cursor.current().is_none());
         }
     };
-    Ok(told(alloc, cursor, answer)?.as_str() == wanted)
+    Ok(is_told(cursor, answer, wanted))
 }
 
 /// The first act that comes out otherwise, if there is one.
 fn first_other_act<'a>(
-    alloc: Global,
     cursor: &mut RecordCursor,
     tree: &mut FailingTree,
     acts: &'a str,
 ) -> Result<Option<&'a str>, Fail> {
     for act in acts.split("; ") {
-        if !is_done(alloc, cursor, tree, act)? {
+        if !is_done(cursor, tree, act)? {
             return Ok(Some(act));
         }
     }
@@ -241,10 +269,10 @@ const FAULTS: &str = "\
 fn first_other_of<'a>(alloc: Global, row: &'a str) -> Result<Option<&'a str>, Fail> {
     let (log, behind) = cut_at(row, " | ");
     let (plan, acts) = cut_at(behind, " | ");
-    let log = log_tree(alloc, &news_of(alloc, log)?)?;
-    let mut tree = FailingTree::new(log, plan_of(plan)?);
-    let mut cursor = cursor_at(alloc, FIRST)?;
-    first_other_act(alloc, &mut cursor, &mut tree, acts)
+    let plan = plan_of(plan)?;
+    let mut tree = FailingTree::new(log_tree(alloc, log)?, plan);
+    let mut cursor = cursor_at(alloc, size()?, FIRST)?;
+    first_other_act(&mut cursor, &mut tree, acts)
 }
 
 #[test]
@@ -258,8 +286,8 @@ fn after_a_fault_the_same_place_is_tried(rt: HostRuntime) -> Result<(), Fail> {
 /// The first act that comes out otherwise on the log with a record that was dropped.
 fn first_other_by_itself(alloc: Global) -> Result<Option<&'static str>, Fail> {
     let mut tree = FailingTree::new(tree_of(alloc, DROPPED)?, FailPlan::Never);
-    let mut cursor = cursor_at(alloc, 0x10_1F00)?;
-    first_other_act(alloc, &mut cursor, &mut tree, BY_ITSELF)
+    let mut cursor = cursor_at(alloc, size()?, 0x10_1F00)?;
+    first_other_act(&mut cursor, &mut tree, BY_ITSELF)
 }
 
 #[test]

@@ -20,6 +20,18 @@ pub fn number(text: &str) -> Result<u32, Fail> {
     }
 }
 
+/// Up to five numbers, and zeros behind them.
+pub fn numbers(text: &str) -> Result<[u32; 5], Fail> {
+    let mut numbers = [0; 5];
+    for (at, word) in text.split(' ').enumerate() {
+        match numbers.get_mut(at) {
+            Some(place) => *place = number(word)?,
+            None => return Err("too many numbers".into()),
+        }
+    }
+    Ok(numbers)
+}
+
 /// A number below 256.
 pub fn byte(text: &str) -> Result<u8, Fail> {
     match u8::try_from(number(text)?) {
@@ -57,9 +69,13 @@ pub fn bytes_of(alloc: Global, text: &str) -> Result<Vec<u8>, Fail> {
 /// Which calls fail: `never`, `at N` or `from N`.
 pub fn plan_of(text: &str) -> Result<FailPlan, Fail> {
     let (kind, count) = cut_at(text, " ");
-    match kind {
-        "never" => Ok(FailPlan::Never),
-        "at" => Ok(FailPlan::At(u64::from(number(count)?))),
-        _ => Ok(FailPlan::From(u64::from(number(count)?))),
+    if kind == "never" {
+        return Ok(FailPlan::Never);
     }
+    let count = u64::from(number(count)?);
+    Ok(if kind == "at" {
+        FailPlan::At(count)
+    } else {
+        FailPlan::From(count)
+    })
 }

@@ -7,13 +7,14 @@ mod walk_rows;
 mod walks;
 
 use crate::one_record::cursor_over;
-use crate::texts::{byte, cut_at, number};
+use crate::texts::{byte, cut_at, numbers};
+use crate::told::Told;
 use block_refs::{RelName, split_record};
 use bodies::body_of;
 use std::alloc::Global;
 use std::process::Abort;
 use std::test::Fail;
-use touched_blocks::Touched;
+use touched_blocks::{TouchFault, Touched};
 use wal_records::RecordCursor;
 use walks::walked;
 
@@ -25,35 +26,31 @@ fn cursor_of(alloc: Global, words: &str) -> Result<RecordCursor, Fail> {
     cursor_over(alloc, byte(manager)?, byte(info)?, &body)
 }
 
-/// Adds a record; what refuses it, if something does.
-fn add(alloc: Global, set: &mut Touched, words: &str) -> Result<Option<String>, Fail> {
+/// Adds a record, and answers what refuses it.
+fn add(alloc: Global, set: &mut Touched, words: &str) -> Result<Result<(), TouchFault>, Fail> {
     let cursor = cursor_of(alloc, words)?;
     let rec = cursor.current().ok_or("no record")?;
     let parts = split_record(rec)?;
-    match set.add_record(rec, &parts) {
-        Ok(()) => Ok(None),
-        Err(fault) => Ok(Some(format!(in alloc; "{fault:?}")?)),
-    }
+    Ok(set.add_record(rec, &parts))
 }
 
-/// How many chunks, cuts and databases a set has.
-fn counted(alloc: Global, set: &Touched) -> Result<String, Fail> {
-    Ok(format!(in alloc;
-        "{} {} {}",
-        set.chunk_count(),
-        set.cut_count(),
-        set.database_count()
-    )?)
+/// Tells how many chunks, cuts and databases a set has.
+fn counted(told: &mut Told<'_>, set: &Touched) {
+    told.shows("", &set.chunk_count());
+    told.shows(" ", &set.cut_count());
+    told.shows(" ", &set.database_count());
 }
 
 /// Adds records, and tells what refused the first that isn't known, or what the set then counts.
-fn added(alloc: Global, set: &mut Touched, records: &str) -> Result<String, Fail> {
+fn added(alloc: Global, told: &mut Told<'_>, set: &mut Touched, records: &str) -> Result<(), Fail> {
     for words in records.split(", ") {
-        if let Some(fault) = add(alloc, set, words)? {
-            return Ok(fault);
+        if let Err(fault) = add(alloc, set, words)? {
+            told.shows("", &fault);
+            return Ok(());
         }
     }
-    counted(alloc, set)
+    counted(told, set);
+    Ok(())
 }
 
 /// Whether a set has a block, or lacks it, as the first word says: then its database, relation and number; or nothing
@@ -63,43 +60,47 @@ fn is_so(set: &Touched, fact: &str) -> Result<bool, Fail> {
         return Ok(true);
     }
     let (verb, behind) = cut_at(fact, " ");
-    let (database, behind) = cut_at(behind, " ");
-    let (relation, block) = cut_at(behind, " ");
+    let [database, relation, block, ..] = numbers(behind)?;
     let rel = RelName {
         space: 1663,
-        database: number(database)?,
-        relation: number(relation)?,
+        database,
+        relation,
     };
-    Ok(set.has(rel, number(block)?) == (verb == "has"))
+    Ok(set.has(rel, block) == (verb == "has"))
 }
 
-/// The first of some facts that is not so; or none.
-fn first_other<'a>(set: &Touched, facts: &'a str) -> Result<Option<&'a str>, Fail> {
+/// Whether all of some facts are so.
+fn are_so(set: &Touched, facts: &str) -> Result<bool, Fail> {
     for fact in facts.split(", ") {
         if !is_so(set, fact)? {
-            return Ok(Some(fact));
+            return Ok(false);
         }
     }
-    Ok(None)
+    Ok(true)
 }
 
-/// What is told of a row before its sign of equality, and what is then in a set.
-fn told(alloc: Global, set: &mut Touched, row: &str) -> Result<String, Fail> {
+/// Tells what is told of a row before its sign of equality, and puts what is touched into a set.
+fn tell(alloc: Global, told: &mut Told<'_>, set: &mut Touched, row: &str) -> Result<(), Fail> {
     let (verb, words) = cut_at(row, " ");
     match verb {
-        "add" => added(alloc, set, words),
-        _ => walked(alloc, set, verb, words),
+        "add" => added(alloc, told, set, words),
+        _ => walked(alloc, told, set, verb, words),
     }
+}
+
+/// Whether a row is as it says: what is told, and the facts.
+fn is_row(alloc: Global, row: &str, meant: &str) -> Result<bool, Fail> {
+    let (answer, facts) = cut_at(meant, ": ");
+    let mut told = Told::new(answer);
+    let mut set = Touched::new(alloc);
+    tell(alloc, &mut told, &mut set, row)?;
+    Ok(told.is_all() && are_so(&set, facts)?)
 }
 
 fn check_text<R: AllocGlobal + Abort>(rt: &R, text: &str) -> Result<(), Fail> {
     for line in text.split('\n') {
         if let Some((row, meant)) = line.split_once(" = ") {
-            let mut set = Touched::new(rt.alloc());
-            let (answer, facts) = cut_at(meant, ": ");
-            let told = told(rt.alloc(), &mut set, row)?;
-            assert_eq!(rt; told.as_str(), answer, "{line}");
-            assert_eq!(rt; first_other(&set, facts)?, None, "{line}");
+            assert!(rt; is_row(rt.alloc(), row, meant)?, "{line}");
         }
     }
     Ok(())

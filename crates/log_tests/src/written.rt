@@ -1,17 +1,15 @@
 // Logs that are written, and read again. The expected positions are worked out by hand from the
 // format: 40 bytes of header on a segment's first page and 24 on each other page.
-use crate::logs::{FIRST, FIRST_NAME, SECOND, SYSTEM, tree_of, write};
+use crate::logs::{FIRST, FIRST_NAME, SECOND, SYSTEM, size, tree_of, write};
 use crate::record_rows::CHECKPOINT;
-use crate::records::{Way, is_read};
+use crate::records::is_read;
 use crate::texts::{byte, cut_at, number};
+use crate::told::Told;
 use cluster_tree::{MemoryTree, Path, Tree};
 use std::alloc::Global;
 use std::test::*;
-use wal_base::{Lsn, SegSize};
+use wal_base::Lsn;
 use wal_records::LogWriter;
-
-/// A record that is appended: the operation and its manager, and how many bytes it has in all.
-pub type New = (u8, u8, u32);
 
 /// Appends a record of a transaction: the operation and its manager, and the bytes of its body.
 pub fn append(writer: &mut LogWriter, xid: u32, kind: (u8, u8), body: &[u8]) -> Result<u64, Fail> {
@@ -24,8 +22,7 @@ pub fn append(writer: &mut LogWriter, xid: u32, kind: (u8, u8), body: &[u8]) -> 
 
 /// A log of timeline 1 in segments of 1 MiB from 0/100000 on.
 fn new_writer(alloc: Global) -> Result<LogWriter, Fail> {
-    let size = SegSize::new(0x10_0000).ok_or("no size")?;
-    Ok(LogWriter::new(alloc, Lsn(FIRST), 1, SYSTEM, size)?)
+    Ok(LogWriter::new(alloc, Lsn(FIRST), 1, SYSTEM, size()?)?)
 }
 
 /// Such a log of one record: the operation and its manager, and the bytes of its body.
@@ -35,21 +32,25 @@ pub fn writer_of(alloc: Global, kind: (u8, u8), body: &[u8]) -> Result<LogWriter
     Ok(writer)
 }
 
-/// Appends a record of a transaction and of this length, whose body is of bytes 5A.
-fn append_new(alloc: Global, writer: &mut LogWriter, xid: u32, new: New) -> Result<u64, Fail> {
-    let (info, manager, total) = new;
+/// Appends a record of a transaction, whose body is of bytes 5A: its operation, its manager and its length.
+fn append_new(alloc: Global, writer: &mut LogWriter, xid: u32, new: &str) -> Result<u64, Fail> {
+    let (info, behind) = cut_at(new, " ");
+    let (manager, total) = cut_at(behind, " ");
+    let (kind, total) = ((byte(info)?, byte(manager)?), number(total)?);
     let body = vec![in alloc; 0x5A; total.saturating_sub(24) as usize]?;
-    append(writer, xid, (info, manager), &body)
+    append(writer, xid, kind, &body)
 }
 
-/// Such a log with records of these lengths, of the transactions from 700 on, and where each starts.
-pub fn log_of(alloc: Global, records: &[New]) -> Result<(LogWriter, Vec<u64>), Fail> {
+/// Such a log with these records, of the transactions from 700 on, and where the last one starts.
+pub fn log_of(alloc: Global, records: &str) -> Result<(LogWriter, u64), Fail> {
     let mut writer = new_writer(alloc)?;
-    let mut starts = Vec::new(alloc);
-    for (&new, xid) in records.iter().zip(700..) {
-        starts.push(append_new(alloc, &mut writer, xid, new)?)?;
+    let mut last = 0;
+    for (new, xid) in records.split(", ").zip(700..) {
+        if new != "-" {
+            last = append_new(alloc, &mut writer, xid, new)?;
+        }
     }
-    Ok((writer, starts))
+    Ok((writer, last))
 }
 
 /// A tree with that log in its segment files, which go on in zeros.
@@ -63,23 +64,9 @@ pub fn tree_with(alloc: Global, writer: &LogWriter) -> Result<MemoryTree, Fail> 
 }
 
 /// A tree with a log of such records.
-pub fn log_tree(alloc: Global, records: &[New]) -> Result<MemoryTree, Fail> {
+pub fn log_tree(alloc: Global, records: &str) -> Result<MemoryTree, Fail> {
     let (writer, _) = log_of(alloc, records)?;
     tree_with(alloc, &writer)
-}
-
-/// Records as text.
-pub fn news_of(alloc: Global, text: &str) -> Result<Vec<New>, Fail> {
-    let mut news = Vec::new(alloc);
-    if text == "-" {
-        return Ok(news);
-    }
-    for new in text.split(", ") {
-        let (info, behind) = cut_at(new, " ");
-        let (manager, total) = cut_at(behind, " ");
-        news.push((byte(info)?, byte(manager)?, number(total)?))?;
-    }
-    Ok(news)
 }
 
 /// A log of such records; where the last one starts and ends, the place where the log ends, and why.
@@ -99,34 +86,28 @@ const ROWS: &str = "\
 0 10 1240, 64 0 24 = 0/100500 0/200000, 0/200028 Page
 64 0 24, 0 10 26 = 0/200028 0/200048, 0/200048 ZeroLength";
 
-/// Where the last of some records starts that are written, and where it ends.
-fn written(alloc: Global, records: &[New]) -> Result<String, Fail> {
-    let (writer, starts) = log_of(alloc, records)?;
-    let start = Lsn(starts.last().copied().unwrap_or(0));
-    Ok(format!(in alloc; "{start} {}", writer.position())?)
+/// Whether the last of a log's records starts where it has to, and ends where the log does.
+fn is_written(writer: &LogWriter, start: u64, wanted: &str) -> bool {
+    let mut told = Told::new(wanted);
+    told.says("", &Lsn(start));
+    told.says(" ", &writer.position());
+    told.is_all()
 }
 
 /// Whether a log is written, and read again, as its row says.
-fn is_so(alloc: Global, records: &[New], wanted: &str) -> Result<bool, Fail> {
+fn is_so(alloc: Global, records: &str, wanted: &str) -> Result<bool, Fail> {
     let (last, end) = cut_at(wanted, ", ");
-    if written(alloc, records)?.as_str() != last {
-        return Ok(false);
-    }
-    let read = if records.is_empty() { "none" } else { last };
-    let read = format!(in alloc; "{read}, {end}")?;
-    let mut tree = log_tree(alloc, records)?;
-    Ok(
-        is_read(alloc, &mut tree, FIRST, Way::Anew, read.as_str())?
-            && is_read(alloc, &mut tree, FIRST, Way::Unchanged, read.as_str())?,
-    )
+    let (writer, start) = log_of(alloc, records)?;
+    let read = if records == "-" { "none" } else { last };
+    let mut tree = tree_with(alloc, &writer)?;
+    Ok(is_written(&writer, start, last) && is_read(alloc, &mut tree, FIRST, (read, end))?)
 }
 
 #[test]
 fn what_was_written_is_read_again(rt: HostRuntime) -> Result<(), Fail> {
     for row in ROWS.split('\n') {
         if let Some((records, wanted)) = row.split_once(" = ") {
-            let records = news_of(rt.alloc(), records)?;
-            assert!(rt; is_so(rt.alloc(), &records, wanted)?, "{row}");
+            assert!(rt; is_so(rt.alloc(), records, wanted)?, "{row}");
         }
     }
     Ok(())

@@ -5,92 +5,91 @@ mod redone_rows;
 
 ghost use Rattle.block_refs.specs.Parts.{ArePartsOf};
 
-use crate::pages::{left, made};
-use crate::rows::check;
-use crate::texts::{byte, cut_at, number};
+use crate::redo::{Redo, redone};
+use crate::rows::{Rows, check};
+use crate::texts::{byte, cut_at, number, owned, words_of};
 use block_effects::is_gone;
 use block_refs::{BlockName, Fork, Parts, RelName, split_record};
-use record_effects::{act_on, redo};
-use std::alloc::Global;
-use std::test::Fail;
-use storage_pages::redo_map;
+use record_effects::act_on;
+use std::process::Abort;
 use wal_records::Record;
 
 /// A block of the default tablespace by its numbers.
-fn block_of(text: &str) -> Result<BlockName, Fail> {
-    let (database, behind) = cut_at(text, " ");
-    let (relation, behind) = cut_at(behind, " ");
-    let (fork, block) = cut_at(behind, " ");
+fn block_of<R: Abort>(rt: &R, text: &str) -> BlockName {
+    let (database, relation, fork, block) = words_of(text);
     let rel = RelName {
         space: 1663,
-        database: number(database)?,
-        relation: number(relation)?,
+        database: number(rt, database),
+        relation: number(rt, relation),
     };
-    let fork = Fork::from_number(byte(fork)?).ok_or("no fork")?;
-    Ok(BlockName {
+    BlockName {
         rel,
-        fork,
-        block: number(block)?,
-    })
+        fork: Fork::from_number(byte(rt, fork)).expect(rt, "no fork"),
+        block: number(rt, block),
+    }
 }
 
 /// Whether a record takes a block away.
-fn gone(alloc: Global, rec: &Record, parts: &Parts, words: &str) -> Result<String, Fail>
+fn gone<R: Abort>(rt: &R, rec: &Record, parts: &Parts, words: &str) -> &'static str
     requires parts { ArePartsOf rec.now parts.now }
 {
-    let gone = is_gone(rec, parts, block_of(words)?);
-    let told = if gone { "gone" } else { "stays" };
-    Ok(format!(in alloc; "{told}")?)
+    if is_gone(rec, parts, block_of(rt, words)) {
+        "gone"
+    } else {
+        "stays"
+    }
 }
 
 /// What is done at each reference, in their order.
-fn acts(alloc: Global, rec: &Record, parts: &Parts) -> Result<String, Fail>
+fn acts<R: AllocGlobal + Abort>(rt: &R, rec: &Record, parts: &Parts) -> String
     requires parts { ArePartsOf rec.now parts.now }
 {
-    let mut told = String::new(alloc);
+    let mut told = String::new(rt.alloc());
     for at in 0..parts.count() {
         if let Some(block) = parts.get(at) {
             let act = act_on(rec, parts, &block);
             let gap = if told.is_empty() { "" } else { " " };
-            write!(told, "{gap}{act:?}")?;
+            write!(told, "{gap}{act:?}").expect(rt, "no memory");
         }
     }
-    Ok(told)
+    told
 }
 
-/// Redo on the page of a reference.
-fn redone(alloc: Global, rec: &Record, parts: &Parts, words: &str) -> Result<String, Fail>
+/// What a call says of a record by its parts.
+fn effect_by<R: AllocGlobal + Abort>(
+    rt: &R,
+    rec: &Record,
+    parts: &Parts,
+    call: &str,
+    words: &str,
+) -> String
     requires parts { ArePartsOf rec.now parts.now }
 {
     let (id, commands) = cut_at(words, " ");
-    let before = made(alloc, commands)?;
-    let mut page = made(alloc, commands)?;
-    let answer = redo(rec, parts, byte(id)?, &mut page);
-    left(alloc, answer, &before, &page)
-}
-
-/// Redo on the map's page.
-fn mapped(alloc: Global, rec: &Record, parts: &Parts, commands: &str) -> Result<String, Fail>
-    requires parts { ArePartsOf rec.now parts.now }
-{
-    let before = made(alloc, commands)?;
-    let mut page = made(alloc, commands)?;
-    let answer = redo_map(rec, parts, &mut page);
-    left(alloc, answer, &before, &page)
-}
-
-/// What a call says of a record and the words behind it.
-pub(crate) fn effect(alloc: Global, rec: &Record, call: &str, words: &str) -> Result<String, Fail> {
-    let parts = split_record(rec)?;
     match call {
-        "gone" => gone(alloc, rec, &parts, words),
-        "acts" => acts(alloc, rec, &parts),
-        "redo" => redone(alloc, rec, &parts, words),
-        _ => mapped(alloc, rec, &parts, words),
+        "gone" => owned(rt, gone(rt, rec, parts, words)),
+        "acts" => acts(rt, rec, parts),
+        "redo" => redone(rt, rec, parts, Redo::Any(byte(rt, id)), commands),
+        _ => redone(rt, rec, parts, Redo::Map, words),
     }
 }
 
+/// What a call says of a record and the words behind it.
+pub(crate) fn effect<R: AllocGlobal + Abort>(
+    rt: &R,
+    rec: &Record,
+    call: &str,
+    words: &str,
+) -> String {
+    let parts = split_record(rec).expect(rt, "no parts");
+    effect_by(rt, rec, &parts, call, words)
+}
+
 #[test]
-fn records_do_to_blocks_what_their_managers_say(rt: HostRuntime) -> Result<(), Fail> {
-    check(&rt, &[act_rows::ACTS, gone_rows::GONE, redone_rows::REDONE])
+fn records_do_to_blocks_what_their_managers_say(rt: HostRuntime) {
+    check(
+        &rt,
+        Rows::Record,
+        &[act_rows::ACTS, gone_rows::GONE, redone_rows::REDONE],
+    );
 }

@@ -1,9 +1,9 @@
 //! Calls on the files of a cluster, and what each answers.
-mod answers;
+pub(crate) mod answers;
 mod areas;
 mod blocks;
 mod changes;
-mod courses;
+pub(crate) mod courses;
 mod cuts;
 mod databases;
 mod deep;
@@ -11,7 +11,7 @@ mod edited;
 mod edits;
 mod faults;
 mod folders;
-mod forks;
+pub(crate) mod forks;
 mod kinds;
 mod maps;
 mod pages;
@@ -19,37 +19,53 @@ mod states;
 mod storage_faults;
 mod storage_kinds;
 
+ghost use Rattle.std.specs.Prelude.{◌≤◌, length};
+
 use crate::records::answer_record;
-use crate::rows::check_left;
+use crate::rows::{Rows, check};
 use crate::texts::cut_at;
+use crate::trees::path_of;
 use areas::answer_area;
 use cluster_tree::{Path, Tree};
 use edits::answer_edit;
 use folders::answer_folder;
 use forks::answer_fork;
-use std::alloc::Global;
-use std::test::Fail;
+use std::process::Abort;
 
-/// What a call on the cluster at a root answers, by their words: `done`, or what was asked, or the text of a fault.
-pub(crate) fn answer<F: Tree>(alloc: Global, tree: &mut F, words: &str) -> Result<String, Fail> {
-    let (root, behind) = cut_at(words, " ");
-    let (kind, call) = cut_at(behind, " ");
-    let root = Path::parse(alloc, root)?;
+// What a call of a kind on the cluster at a root answers.
+fn answer_by<F: Tree, R: AllocGlobal + Abort>(
+    rt: &R,
+    tree: &mut F,
+    root: &Path,
+    kind: &str,
+    call: &str,
+) -> String
+    requires room { length root.now.parts ≤ 61 }
+{
     match kind {
-        "edit" => answer_edit(alloc, tree, &root, call),
-        "slru" => answer_area(alloc, tree, &root, call),
-        "rel" => answer_fork(alloc, tree, &root, call),
-        "base" => answer_folder(alloc, tree, &root, call),
-        "blocks" | "files" => answer_record(alloc, tree, &root, kind, call),
-        _ => Err("no such call".into()),
+        "edit" => answer_edit(rt, tree, root, call),
+        "slru" => answer_area(rt, tree, root, call),
+        "rel" => answer_fork(rt, tree, root, call),
+        "base" => answer_folder(rt, tree, root, call),
+        "blocks" | "files" => answer_record(rt, tree, root, kind, call),
+        _ => rt.panic("no such call"),
     }
 }
 
+/// What a call on the cluster at a root answers, by their words: `done`, or what was asked, or the text of a fault.
+pub(crate) fn answer<F: Tree, R: AllocGlobal + Abort>(rt: &R, tree: &mut F, words: &str) -> String {
+    let (root, behind) = cut_at(words, " ");
+    let (kind, call) = cut_at(behind, " ");
+    let root = path_of(rt, root);
+    assert!(rt; root.len() <= 61, "too deep");
+    answer_by(rt, tree, &root, kind, call)
+}
+
 #[test]
-fn each_call_answers_and_leaves_what_its_row_says(rt: HostRuntime) -> Result<(), Fail> {
-    check_left(
+fn each_call_answers_and_leaves_what_its_row_says(rt: HostRuntime) {
+    check(
         &rt,
-        "",
+        Rows::Left(""),
         &[
             edited::EDITED,
             edited::CLEARED,
@@ -70,15 +86,15 @@ fn each_call_answers_and_leaves_what_its_row_says(rt: HostRuntime) -> Result<(),
             states::CUTS,
             states::OTHERS,
         ],
-    )
+    );
 }
 
 #[test]
-fn each_wrong_kind_is_told(rt: HostRuntime) -> Result<(), Fail> {
-    check_left(&rt, kinds::ODD, &[kinds::AREAS, kinds::EDITS])?;
-    check_left(
+fn each_wrong_kind_is_told(rt: HostRuntime) {
+    check(&rt, Rows::Left(kinds::ODD), &[kinds::AREAS, kinds::EDITS]);
+    check(
         &rt,
-        storage_kinds::FILES,
+        Rows::Left(storage_kinds::FILES),
         &[storage_kinds::FORKS, storage_kinds::DATABASES],
-    )
+    );
 }

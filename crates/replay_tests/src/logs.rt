@@ -1,11 +1,10 @@
 //! Logs of one record.
-ghost use Rattle.std.specs.Prelude.{◌≤◌, length, IfOk};
+ghost use Rattle.std.specs.Prelude.{◌≤◌, length};
 
 use crate::texts::{byte, bytes_of};
-use crate::trees::{put_file, tree_of};
-use cluster_tree::{MemoryTree, Path};
-use std::alloc::Global;
-use std::test::Fail;
+use crate::trees::{path_of, put_file, tree_of};
+use cluster_tree::MemoryTree;
+use std::process::Abort;
 use wal_base::{Lsn, SegSize, Spans};
 use wal_pages::LogPath;
 use wal_records::{LogWriter, RecordCursor};
@@ -30,82 +29,85 @@ pub(crate) struct OneRecord<'a> {
 
 /// A log of one record.
 #[tactic(auto, using(wal_records::proofs::NearLemmas::ends_near))]
-fn writer_of(alloc: Global, rec: OneRecord<'_>) -> Result<LogWriter, Fail> {
-    let size = SegSize::new(0x10_0000).ok_or("no size")?;
-    let mut writer = LogWriter::new(alloc, SEGMENT, 1, SYSTEM, size)?;
-    if writer.position().0 > 1 << 62 || rec.manager >= 22 {
-        return Err("no such record".into());
-    }
-    writer.append(rec.xid, rec.info, rec.manager, rec.body)?;
-    Ok(writer)
+fn writer_of<R: AllocGlobal + Abort>(rt: &R, rec: OneRecord<'_>) -> LogWriter {
+    let size = SegSize::new(0x10_0000).expect(rt, "no size");
+    let writer = LogWriter::new(rt.alloc(), SEGMENT, 1, SYSTEM, size);
+    let mut writer = writer.expect(rt, "no memory");
+    assert!(rt;
+        writer.position().0 <= 1 << 62 && rec.manager < 22,
+        "no such record"
+    );
+    writer
+        .append(rec.xid, rec.info, rec.manager, rec.body)
+        .expect(rt, "no record");
+    writer
 }
 
 /// A tree with that log.
-fn tree_with(alloc: Global, rec: OneRecord<'_>) -> Result<MemoryTree, Fail> {
-    let writer = writer_of(alloc, rec)?;
-    let file = Path::parse(alloc, "log/000000010000000000000001")?;
-    let mut tree = tree_of(alloc, "folder log", "")?;
-    put_file(&mut tree, &file, writer.bytes())?;
-    Ok(tree)
+fn tree_with<R: AllocGlobal + Abort>(rt: &R, rec: OneRecord<'_>) -> MemoryTree {
+    let writer = writer_of(rt, rec);
+    let mut tree = tree_of(rt, "folder log", "");
+    let file = path_of(rt, "log/000000010000000000000001");
+    put_file(rt, &mut tree, &file, writer.bytes());
+    tree
 }
 
 /// Where the log lies.
-fn path_of(alloc: Global) -> Result<LogPath, Fail>
-    ensures { IfOk result (λ log. length log.folder.parts ≤ 63) }
+fn log_path<R: AllocGlobal + Abort>(rt: &R) -> LogPath
+    ensures { length result.folder.parts ≤ 63 }
 {
     let path = LogPath {
-        folder: Path::parse(alloc, "log")?,
-        spans: Spans::one(alloc, 1)?,
-        size: SegSize::new(0x10_0000).ok_or("no size")?,
+        folder: path_of(rt, "log"),
+        spans: Spans::one(rt.alloc(), 1).expect(rt, "no memory"),
+        size: SegSize::new(0x10_0000).expect(rt, "no size"),
         system: Some(SYSTEM),
     };
-    if path.folder.len() > 63 {
-        return Err("too deep".into());
-    }
-    Ok(path)
+    assert!(rt; path.folder.len() <= 63, "too deep");
+    path
 }
 
 /// A cursor that has read the record.
-pub(crate) fn cursor_over(alloc: Global, rec: OneRecord<'_>) -> Result<RecordCursor, Fail> {
-    let mut tree = tree_with(alloc, rec)?;
-    let mut cursor = RecordCursor::at(alloc, path_of(alloc)?, START)?;
-    let _step = cursor.next(&mut tree)?;
-    Ok(cursor)
+pub(crate) fn cursor_over<R: AllocGlobal + Abort>(rt: &R, rec: OneRecord<'_>) -> RecordCursor {
+    let mut tree = tree_with(rt, rec);
+    let mut cursor = RecordCursor::at(rt.alloc(), log_path(rt), START).expect(rt, "no log");
+    let _step = cursor.next(&mut tree).expect(rt, "no record");
+    cursor
 }
 
 /// A cursor that has read a record of a transaction, by its manager, its info and its body.
-pub(crate) fn cursor_by(
-    alloc: Global,
+pub(crate) fn cursor_by<R: AllocGlobal + Abort>(
+    rt: &R,
     xid: u32,
     manager: &str,
     info: &str,
     body: &str,
-) -> Result<RecordCursor, Fail> {
-    let body = bytes_of(alloc, body)?;
+) -> RecordCursor {
+    let body = bytes_of(rt, body);
     let rec = OneRecord {
         xid,
-        manager: byte(manager)?,
-        info: byte(info)?,
+        manager: byte(rt, manager),
+        info: byte(rt, info),
         body: &body,
     };
-    cursor_over(alloc, rec)
+    cursor_over(rt, rec)
 }
 
 /// A cursor that has read a record of main bytes alone, at most 255.
-pub(crate) fn main_cursor(
-    alloc: Global,
+pub(crate) fn main_cursor<R: AllocGlobal + Abort>(
+    rt: &R,
     manager: u8,
     info: u8,
     digits: &str,
-) -> Result<RecordCursor, Fail> {
-    let main = bytes_of(alloc, digits)?;
-    let mut body = vec![in alloc; 255, u8::try_from(main.len())?]?;
-    body.extend_from_slice(&main)?;
+) -> RecordCursor {
+    let main = bytes_of(rt, digits);
+    let size = u8::try_from(main.len()).expect(rt, "too long");
+    let mut body = vec![in rt.alloc(); 255, size].expect(rt, "no memory");
+    body.extend_from_slice(&main).expect(rt, "no memory");
     let rec = OneRecord {
         xid: 0,
         manager,
         info,
         body: &body,
     };
-    cursor_over(alloc, rec)
+    cursor_over(rt, rec)
 }

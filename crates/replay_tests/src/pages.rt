@@ -1,8 +1,8 @@
 //! Pages before redo, and what it changed.
 use crate::texts::{byte, bytes_of, cut_at, number};
+use crate::trees::zero_page;
 use page_layout::{Line, Page, RedoWhy};
-use std::alloc::Global;
-use std::test::Fail;
+use std::process::Abort;
 
 /// xmin 600, xmax 7, command id 9, an address with the mark of a speculative insertion, infomask2
 /// 4001, infomask DD22, hoff 24, and a value of eight bytes.
@@ -20,107 +20,126 @@ fn index_tuple(n: u8) -> [u8; 16] {
 }
 
 /// A place on a page.
-fn place(text: &str) -> Result<u16, Fail> {
-    match u16::try_from(number(text)?) {
-        Ok(place) => Ok(place),
-        Err(_) => Err("no place".into()),
-    }
+fn place<R: Abort>(rt: &R, text: &str) -> u16 {
+    u16::try_from(number(rt, text)).expect(rt, "no place")
 }
 
 /// Adds an item behind the others.
-fn add(page: &mut Page, item: &[u8]) -> Result<(), Fail> {
-    let count = page.count().ok_or("no page")?;
-    page.add_item(item, count.saturating_add(1), true)?;
-    Ok(())
+fn add<R: Abort>(rt: &R, page: &mut Page, item: &[u8]) {
+    let count = page.count().expect(rt, "no page");
+    page.add_item(item, count.saturating_add(1), true)
+        .expect(rt, "no room");
 }
 
 /// Lays bytes over those of the page.
-fn lay(page: &mut [u8], at: usize, bytes: &[u8]) -> Result<(), Fail> {
-    if at > page.len() || bytes.len() > page.len() - at {
-        return Err("past the page".into());
-    }
+fn lay<R: Abort>(rt: &R, page: &mut [u8], at: usize, bytes: &[u8]) {
+    assert!(rt;
+        at <= page.len() && bytes.len() <= page.len() - at,
+        "past the page"
+    );
     page[at..at + bytes.len()].copy_from_slice(bytes);
-    Ok(())
+}
+
+/// Sets a line.
+fn set<R: Abort>(rt: &R, page: &mut Page, place: u16, line: Line) {
+    page.set_line(place, line).expect(rt, "no line");
 }
 
 /// Adds dead lines up to so many.
-fn add_lines(page: &mut Page, lines: u16) -> Result<(), Fail> {
+fn add_lines<R: Abort>(rt: &R, page: &mut Page, lines: u16) {
     for place in 1..lines.saturating_add(1) {
         if page.line(place).is_none() {
             let lower = 24 + 4 * u32::from(place);
-            let bounds = lower.to_le_bytes();
-            lay(page.bytes_mut(), 12, &bounds[..2])?;
-            page.set_line(place, Line::Dead { at: 0, len: 0 })?;
+            lay(rt, page.bytes_mut(), 12, &lower.to_le_bytes()[..2]);
+            set(rt, page, place, Line::Dead { at: 0, len: 0 });
         }
     }
-    Ok(())
+}
+
+/// What a line becomes by a command.
+fn line_of<R: Abort>(rt: &R, verb: &str, to: &str) -> Line {
+    match verb {
+        "unused" => Line::Unused,
+        "dead" => Line::Dead { at: 0, len: 0 },
+        "redirect" => Line::Redirect(place(rt, to)),
+        _ => rt.panic("no such command"),
+    }
 }
 
 /// One command: what it does to the page.
-fn change(alloc: Global, page: &mut Page, command: &str) -> Result<(), Fail> {
-    let (verb, behind) = cut_at(command, " ");
+fn change<R: AllocGlobal + Abort>(rt: &R, page: &mut Page, command: &str) {
+    let (verb, words) = cut_at(command, " ");
+    let (first, second) = cut_at(words, " ");
     match verb {
         "zeros" => {}
-        "empty" => page.init(0)?,
-        "index" => page.init(16)?,
-        "tuple" => add(page, &TUPLE)?,
-        "key" => add(page, &index_tuple(byte(behind)?))?,
-        "add" => add(page, &bytes_of(alloc, behind)?)?,
-        "lines" => add_lines(page, place(behind)?)?,
-        "unused" => page.set_line(place(behind)?, Line::Unused)?,
-        "dead" => page.set_line(place(behind)?, Line::Dead { at: 0, len: 0 })?,
-        "redirect" => {
-            let (from, to) = cut_at(behind, " ");
-            page.set_line(place(from)?, Line::Redirect(place(to)?))?;
-        }
-        "at" => {
-            let (at, digits) = cut_at(behind, " ");
-            let bytes = bytes_of(alloc, digits)?;
-            lay(page.bytes_mut(), number(at)? as usize, &bytes)?;
-        }
-        _ => return Err("no such command".into()),
+        "empty" => page.init(0).expect(rt, "no page"),
+        "index" => page.init(16).expect(rt, "no page"),
+        "tuple" => add(rt, page, &TUPLE),
+        "key" => add(rt, page, &index_tuple(byte(rt, first))),
+        "add" => add(rt, page, &bytes_of(rt, first)),
+        "at" => lay(
+            rt,
+            page.bytes_mut(),
+            number(rt, first) as usize,
+            &bytes_of(rt, second),
+        ),
+        "lines" => add_lines(rt, page, place(rt, first)),
+        _ => set(rt, page, place(rt, first), line_of(rt, verb, second)),
     }
-    Ok(())
+}
+
+/// What all commands do to the page.
+fn change_all<R: AllocGlobal + Abort>(rt: &R, page: &mut Page, commands: &str) {
+    for command in commands.split(", ") {
+        change(rt, page, command);
+    }
 }
 
 /// The page that commands make.
-pub(crate) fn made(alloc: Global, commands: &str) -> Result<Page, Fail> {
-    let mut page = Page::zero(alloc)?;
-    for command in commands.split(", ") {
-        change(alloc, &mut page, command)?;
+pub(crate) fn made<R: AllocGlobal + Abort>(rt: &R, commands: &str) -> Page {
+    let mut page = zero_page(rt);
+    change_all(rt, &mut page, commands);
+    page
+}
+
+/// Adds a byte to the runs, and where its run begins.
+fn add_byte<R: Abort>(rt: &R, runs: &mut String, at: usize, byte: u8, begins: bool) {
+    if begins {
+        let gap = if runs.is_empty() { "" } else { " " };
+        write!(runs, "{gap}{at} ").expect(rt, "no memory");
     }
-    Ok(page)
+    write!(runs, "{byte:02X}").expect(rt, "no memory");
+}
+
+/// Adds each run of bytes of the second page that differ.
+fn add_runs<R: Abort>(rt: &R, runs: &mut String, old: &[u8], new: &[u8]) {
+    let mut running = false;
+    for (at, &byte) in new.iter().enumerate() {
+        let differs = old.get(at) != Some(&byte);
+        if differs {
+            add_byte(rt, runs, at, byte, !running);
+        }
+        running = differs;
+    }
 }
 
 /// Each run of bytes that differ: where it begins, and its bytes in the second page.
-fn changes(alloc: Global, old: &[u8], new: &[u8]) -> Result<String, Fail> {
-    let mut text = String::new(alloc);
-    let mut running = false;
-    for (at, (before, after)) in old.iter().zip(new).enumerate() {
-        if before == after {
-            running = false;
-            continue;
-        }
-        if !running {
-            let gap = if text.is_empty() { "" } else { " " };
-            write!(text, "{gap}{at} ")?;
-        }
-        write!(text, "{after:02X}")?;
-        running = true;
-    }
-    Ok(text)
+pub(crate) fn changes<R: AllocGlobal + Abort>(rt: &R, old: &[u8], new: &[u8]) -> String {
+    let mut runs = String::new(rt.alloc());
+    add_runs(rt, &mut runs, old, new);
+    runs
 }
 
 /// What redo says of a page, and what it left of the page.
-pub(crate) fn left(
-    alloc: Global,
+pub(crate) fn left<R: AllocGlobal + Abort>(
+    rt: &R,
     answer: Result<(), RedoWhy>,
     before: &Page,
     page: &Page,
-) -> Result<String, Fail> {
-    let left = changes(alloc, before.bytes(), page.bytes())?;
+) -> String {
+    let left = changes(rt, before.bytes(), page.bytes());
     match answer {
-        Ok(()) => Ok(left),
-        Err(why) => Ok(format!(in alloc; "{why:?}{left}")?),
+        Ok(()) => left,
+        Err(why) => format!(in rt.alloc(); "{why:?}{left}").expect(rt, "no memory"),
     }
 }

@@ -5,48 +5,49 @@ mod references;
 mod short;
 
 use crate::logs::START;
-use crate::rows::check;
+use crate::rows::{Rows, check};
+use crate::texts::owned;
 use block_refs::{Parts, split_record};
 use replay_profile::{ProfileFault, is_short, judge};
-use std::alloc::Global;
-use std::test::Fail;
+use std::process::Abort;
 use wal_records::Record;
 
 /// What `judge` says of a record.
-pub(crate) fn judged(alloc: Global, rec: &Record) -> Result<String, Fail> {
+pub(crate) fn judged<R: AllocGlobal + Abort>(rt: &R, rec: &Record) -> String {
     let mut parts = Parts::new();
     match judge(rec, &mut parts) {
-        Ok(()) => Ok(String::from_str(alloc, "in")?),
+        Ok(()) => owned(rt, "in"),
         Err(fault) => {
             let header = rec.header();
             if fault == ProfileFault::NotInProfile(START, header.manager, header.info) {
-                return Ok(String::from_str(alloc, "outside")?);
+                owned(rt, "outside")
+            } else {
+                format!(in rt.alloc(); "{fault:?}").expect(rt, "no memory")
             }
-            Ok(format!(in alloc; "{fault:?}")?)
         }
     }
 }
 
 /// Whether a record is short.
-pub(crate) fn measured(alloc: Global, rec: &Record) -> Result<String, Fail> {
-    let parts = split_record(rec)?;
-    let told = if is_short(rec, &parts) {
+pub(crate) fn measured<R: Abort>(rt: &R, rec: &Record) -> &'static str {
+    let parts = split_record(rec).expect(rt, "no parts");
+    if is_short(rec, &parts) {
         "short"
     } else {
         "whole"
-    };
-    Ok(String::from_str(alloc, told)?)
+    }
 }
 
 #[test]
-fn replay_takes_the_records_that_it_knows(rt: HostRuntime) -> Result<(), Fail> {
+fn replay_takes_the_records_that_it_knows(rt: HostRuntime) {
     check(
         &rt,
+        Rows::Record,
         &[
             fields::FIELDS,
             operations::OPERATIONS,
             references::REFERENCES,
             short::LENGTHS,
         ],
-    )
+    );
 }

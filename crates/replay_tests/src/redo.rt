@@ -8,99 +8,139 @@ mod lines;
 mod order;
 mod tuples;
 
+ghost use Rattle.block_refs.specs.Parts.{ArePartsOf};
+
 use crate::logs::{OneRecord, cursor_over};
 use crate::pages::{left, made};
-use crate::rows::check;
-use crate::texts::{byte, bytes_of, cut_at, number};
-use block_refs::split_record;
+use crate::rows::{Rows, check};
+use crate::texts::{byte, bytes_of, cut_at, number, words_of};
+use block_refs::{Parts, split_record};
 use btree_replay::redo_btree;
 use heap_replay::redo_heap;
-use std::alloc::Global;
-use std::test::Fail;
+use record_effects::redo;
+use std::process::Abort;
+use storage_pages::redo_map;
+use wal_records::Record;
 
 /// The relation of every block: 1663/5/16384.
 const RELATION: [u8; 12] = [127, 6, 0, 0, 5, 0, 0, 0, 0, 64, 0, 0];
 
-/// A block's reference, and its bytes behind those of the others.
-fn add_block(
-    alloc: Global,
-    heads: &mut Vec<u8>,
-    data: &mut Vec<u8>,
-    text: &str,
-) -> Result<(), Fail> {
-    let (id, behind) = cut_at(text, " ");
-    let (block, digits) = cut_at(behind, " ");
-    let bytes = bytes_of(alloc, digits)?;
-    let id = number(id)?.to_le_bytes();
-    let size = (bytes.len() % 65536) as u32;
-    let size = size.to_le_bytes();
-    let has_data = if bytes.is_empty() { 0 } else { 0x20 };
-    let same = if heads.is_empty() { 0 } else { 0x80 };
-    heads.push(id[0])?;
-    heads.push(has_data + same)?;
-    heads.extend_from_slice(&size[..2])?;
+/// What redoes a record: on the page of a reference what its manager or either of two names, or what the map's page needs.
+#[derive(Clone, Copy)]
+pub(crate) enum Redo {
+    Any(u8),
+    Heap(u8),
+    Btree(u8),
+    Map,
+}
+
+/// What redo says of the page that commands make, and what it leaves of it.
+pub(crate) fn redone<R: AllocGlobal + Abort>(
+    rt: &R,
+    rec: &Record,
+    parts: &Parts,
+    by: Redo,
+    commands: &str,
+) -> String
+    requires parts { ArePartsOf rec.now parts.now }
+{
+    let before = made(rt, commands);
+    let mut page = made(rt, commands);
+    let answer = match by {
+        Redo::Any(id) => redo(rec, parts, id, &mut page),
+        Redo::Heap(id) => redo_heap(rec, parts, id, &mut page),
+        Redo::Btree(id) => redo_btree(rec, parts, id, &mut page),
+        Redo::Map => redo_map(rec, parts, &mut page),
+    };
+    left(rt, answer, &before, &page)
+}
+
+/// Bytes behind those of a body.
+fn add<R: Abort>(rt: &R, body: &mut Vec<u8>, bytes: &[u8]) {
+    body.extend_from_slice(bytes).expect(rt, "no memory");
+}
+
+/// A block's reference, by its id, its number and its bytes.
+fn add_reference<R: AllocGlobal + Abort>(rt: &R, body: &mut Vec<u8>, text: &str) {
+    let (id, block, digits, _) = words_of(text);
+    let size = u16::try_from(bytes_of(rt, digits).len()).expect(rt, "too long");
+    let has_data = if size == 0 { 0 } else { 0x20 };
+    let same = if body.is_empty() { 0 } else { 0x80 };
+    add(rt, body, &[byte(rt, id), has_data + same]);
+    add(rt, body, &size.to_le_bytes());
     if same == 0 {
-        heads.extend_from_slice(&RELATION)?;
+        add(rt, body, &RELATION);
     }
-    heads.extend_from_slice(&number(block)?.to_le_bytes())?;
-    data.extend_from_slice(&bytes)?;
-    Ok(())
+    add(rt, body, &number(rt, block).to_le_bytes());
+}
+
+/// The references of blocks.
+fn add_references<R: AllocGlobal + Abort>(rt: &R, body: &mut Vec<u8>, blocks: &str) {
+    for block in blocks.split(", ") {
+        add_reference(rt, body, block);
+    }
+}
+
+/// The bytes of blocks.
+fn add_bytes<R: AllocGlobal + Abort>(rt: &R, body: &mut Vec<u8>, blocks: &str) {
+    for block in blocks.split(", ") {
+        let (_, _, digits, _) = words_of(block);
+        add(rt, body, &bytes_of(rt, digits));
+    }
 }
 
 /// The body of a record, by its blocks as ids, numbers and bytes, and its main bytes.
-fn body_of(alloc: Global, blocks: &str, main: &str) -> Result<Vec<u8>, Fail> {
-    let mut heads = Vec::new(alloc);
-    let mut data = Vec::new(alloc);
-    for block in blocks.split(", ") {
-        add_block(alloc, &mut heads, &mut data, block)?;
-    }
-    let main = bytes_of(alloc, main)?;
+fn body_of<R: AllocGlobal + Abort>(rt: &R, blocks: &str, main: &str) -> Vec<u8> {
+    let main = bytes_of(rt, main);
+    let mut body = Vec::new(rt.alloc());
+    add_references(rt, &mut body, blocks);
     if !main.is_empty() {
-        let size = (main.len() % 256) as u8;
-        heads.push(255)?;
-        heads.push(size)?;
+        let size = u8::try_from(main.len()).expect(rt, "too long");
+        add(rt, &mut body, &[255, size]);
     }
-    heads.extend_from_slice(&data)?;
-    heads.extend_from_slice(&main)?;
-    Ok(heads)
+    add_bytes(rt, &mut body, blocks);
+    add(rt, &mut body, &main);
+    body
 }
 
-/// What redo says of the page of a reference of a record, and what it leaves of it.
-fn redone(alloc: Global, one: OneRecord<'_>, id: u8, commands: &str) -> Result<String, Fail> {
-    let cursor = cursor_over(alloc, one)?;
-    let rec = cursor.current().ok_or("no record")?;
-    let parts = split_record(rec)?;
-    let before = made(alloc, commands)?;
-    let mut page = made(alloc, commands)?;
-    let answer = match one.manager {
-        11 => redo_btree(rec, &parts, id, &mut page),
-        _ => redo_heap(rec, &parts, id, &mut page),
+/// What a record of heap or B-tree does on the page of a reference.
+fn redone_one<R: AllocGlobal + Abort>(
+    rt: &R,
+    one: OneRecord<'_>,
+    id: u8,
+    commands: &str,
+) -> String {
+    let cursor = cursor_over(rt, one);
+    let rec = cursor.current().expect(rt, "no record");
+    let parts = split_record(rec).expect(rt, "no parts");
+    let by = match one.manager {
+        11 => Redo::Btree(id),
+        _ => Redo::Heap(id),
     };
-    left(alloc, answer, &before, &page)
+    redone(rt, rec, &parts, by, commands)
 }
 
 /// What a row says before its sign of equality is redone.
-pub(crate) fn redone_row(alloc: Global, row: &str) -> Result<String, Fail> {
+pub(crate) fn redone_row<R: AllocGlobal + Abort>(rt: &R, row: &str) -> String {
     let (commands, behind) = cut_at(row, " | ");
     let (names, behind) = cut_at(behind, " | ");
     let (blocks, main) = cut_at(behind, " | ");
-    let (manager, names) = cut_at(names, " ");
-    let (info, names) = cut_at(names, " ");
-    let (xid, id) = cut_at(names, " ");
-    let body = body_of(alloc, blocks, main)?;
+    let (manager, info, xid, id) = words_of(names);
+    let body = body_of(rt, blocks, main);
     let one = OneRecord {
-        xid: number(xid)?,
-        manager: byte(manager)?,
-        info: byte(info)?,
+        xid: number(rt, xid),
+        manager: byte(rt, manager),
+        info: byte(rt, info),
         body: &body,
     };
-    redone(alloc, one, byte(id)?, commands)
+    redone_one(rt, one, byte(rt, id), commands)
 }
 
 #[test]
-fn redo_changes_the_bytes_that_its_row_says(rt: HostRuntime) -> Result<(), Fail> {
+fn redo_changes_the_bytes_that_its_row_says(rt: HostRuntime) {
     check(
         &rt,
+        Rows::Record,
         &[
             added::ADDED,
             tuples::TUPLES,
@@ -111,5 +151,5 @@ fn redo_changes_the_bytes_that_its_row_says(rt: HostRuntime) -> Result<(), Fail>
             btree_splits::SPLITS,
             btree_roots::ROOTS,
         ],
-    )
+    );
 }

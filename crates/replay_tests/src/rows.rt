@@ -1,96 +1,103 @@
 //! Runs the rows of texts. README.md has their forms.
 use crate::effects::effect;
 use crate::files::answer;
+use crate::files::courses::check_course;
 use crate::logs::cursor_by;
 use crate::profile::{judged, measured};
 use crate::redo::redone_row;
-use crate::texts::cut_at;
+use crate::texts::{cut_at, owned, words_of};
 use crate::trees::{is_so, tree_of};
 use cluster_tree::MemoryTree;
-use std::alloc::Global;
 use std::process::Abort;
-use std::test::Fail;
+use wal_records::Record;
+
+/// What a call tells of a record, by the words behind it.
+fn told_by<R: AllocGlobal + Abort>(rt: &R, rec: &Record, call: &str, words: &str) -> String {
+    match call {
+        "judge" => judged(rt, rec),
+        "short" => owned(rt, measured(rt, rec)),
+        _ => effect(rt, rec, call, words),
+    }
+}
 
 /// What a call tells of the record behind it.
-fn told_of(alloc: Global, row: &str) -> Result<String, Fail> {
+fn told_of<R: AllocGlobal + Abort>(rt: &R, row: &str) -> String {
     let (call, behind) = cut_at(row, " ");
-    let (manager, behind) = cut_at(behind, " ");
-    let (info, behind) = cut_at(behind, " ");
-    let (body, words) = cut_at(behind, " ");
-    let cursor = cursor_by(alloc, 700, manager, info, body)?;
-    let rec = cursor.current().ok_or("no record")?;
-    match call {
-        "judge" => judged(alloc, rec),
-        "short" => measured(alloc, rec),
-        _ => effect(alloc, rec, call, words),
-    }
+    let (manager, info, body, words) = words_of(behind);
+    let cursor = cursor_by(rt, 700, manager, info, body);
+    let rec = cursor.current().expect(rt, "no record");
+    told_by(rt, rec, call, words)
 }
 
 /// What is told of the record that a row has before its sign of equality.
-fn told(alloc: Global, row: &str) -> Result<String, Fail> {
+fn told<R: AllocGlobal + Abort>(rt: &R, row: &str) -> String {
     if row.contains(" | ") {
-        redone_row(alloc, row)
+        redone_row(rt, row)
     } else {
-        told_of(alloc, row)
+        told_of(rt, row)
     }
-}
-
-/// Of each row of a text is told what it has behind its sign of equality.
-fn check_text<R: AllocGlobal + Abort>(rt: &R, text: &str) -> Result<(), Fail> {
-    for line in text.split('\n') {
-        if let Some((row, meant)) = line.split_once(" = ") {
-            let told = told(rt.alloc(), row)?;
-            assert_eq!(rt; told.as_str(), meant, "{line}");
-        }
-    }
-    Ok(())
-}
-
-/// Of each row of these texts, which are about a record alone.
-pub(crate) fn check<R: AllocGlobal + Abort>(rt: &R, texts: &[&str]) -> Result<(), Fail> {
-    for text in texts {
-        check_text(rt, text)?;
-    }
-    Ok(())
 }
 
 /// The first of some facts that is not so; or none.
-fn first_other<'a>(
-    alloc: Global,
+fn first_other<'a, R: AllocGlobal + Abort>(
+    rt: &R,
     tree: &mut MemoryTree,
     facts: &'a str,
-) -> Result<Option<&'a str>, Fail> {
+) -> Option<&'a str> {
     for fact in facts.split(", ") {
-        if !is_so(alloc, tree, fact)? {
-            return Ok(Some(fact));
+        if !is_so(rt, tree, fact) {
+            return Some(fact);
         }
     }
-    Ok(None)
+    None
 }
 
-/// Each row's call answers what the row says on a tree with these entries and the row's own, and leaves what it says.
-fn check_left_by<R: AllocGlobal + Abort>(rt: &R, had: &str, text: &str) -> Result<(), Fail> {
-    let alloc: Global = rt.alloc();
+/// A row's call answers what the row says.
+fn check_answer<R: AllocGlobal + Abort>(rt: &R, tree: &mut MemoryTree, row: &str, told: &str) {
+    let (call, _) = cut_at(row, ": ");
+    assert_eq!(rt; answer(rt, tree, call).as_str(), told, "{row}");
+}
+
+/// A row's call answers what the row says on a tree with these entries and the row's own, and leaves what it says.
+fn check_left<R: AllocGlobal + Abort>(rt: &R, had: &str, row: &str, meant: &str) {
+    let (_, own) = cut_at(row, ": ");
+    let (told, then) = cut_at(meant, ": ");
+    let mut tree = tree_of(rt, had, own);
+    check_answer(rt, &mut tree, row, told);
+    assert_eq!(rt; first_other(rt, &mut tree, then), None, "{row}");
+}
+
+/// What rows are about.
+#[derive(Clone, Copy)]
+pub(crate) enum Rows<'a> {
+    /// A record alone.
+    Record,
+    /// A call on a tree with these entries and the row's own.
+    Left(&'a str),
+    /// A call on a device that fails.
+    Failing,
+}
+
+/// What a row has before its sign of equality comes out as it has behind it.
+fn check_row<R: AllocGlobal + Abort>(rt: &R, rows: Rows<'_>, row: &str, meant: &str) {
+    match rows {
+        Rows::Record => assert_eq!(rt; told(rt, row).as_str(), meant, "{row}"),
+        Rows::Left(had) => check_left(rt, had, row, meant),
+        Rows::Failing => check_course(rt, row, meant),
+    }
+}
+
+fn check_text<R: AllocGlobal + Abort>(rt: &R, rows: Rows<'_>, text: &str) {
     for line in text.split('\n') {
         if let Some((row, meant)) = line.split_once(" = ") {
-            let (call, own) = cut_at(row, ": ");
-            let (told, then) = cut_at(meant, ": ");
-            let mut tree = tree_of(alloc, had, own)?;
-            assert_eq!(rt; answer(alloc, &mut tree, call)?.as_str(), told, "{line}");
-            assert_eq!(rt; first_other(alloc, &mut tree, then)?, None, "{line}");
+            check_row(rt, rows, row, meant);
         }
     }
-    Ok(())
 }
 
-/// Each row's call of these texts, on a tree with these entries and the row's own.
-pub(crate) fn check_left<R: AllocGlobal + Abort>(
-    rt: &R,
-    had: &str,
-    texts: &[&str],
-) -> Result<(), Fail> {
+/// Each row of these texts holds.
+pub(crate) fn check<R: AllocGlobal + Abort>(rt: &R, rows: Rows<'_>, texts: &[&str]) {
     for text in texts {
-        check_left_by(rt, had, text)?;
+        check_text(rt, rows, text);
     }
-    Ok(())
 }

@@ -1,237 +1,267 @@
 //! Trees in memory from short descriptions, and what stands in them. README.md has the words.
-use crate::texts::{bytes_of, cut_at, filled, long, number};
-use cluster_tree::{Kind, MemoryTree, Names, Path, Tree, TreeFault};
+use crate::pages::changes;
+use crate::texts::{byte, bytes_of, cut_at, filled, long, number, undashed};
+use cluster_tree::{Kind, MemoryTree, Names, Path, Tree};
 use page_layout::Page;
-use std::alloc::Global;
-use std::test::Fail;
+use std::process::Abort;
 use wal_base::Lsn;
 
 /// How many bytes a block has.
 const BLOCK: u64 = 8192;
 
+/// The path of a text.
+pub(crate) fn path_of<R: AllocGlobal + Abort>(rt: &R, text: &str) -> Path {
+    Path::parse(rt.alloc(), text).expect(rt, "no path")
+}
+
 // Makes a folder that isn't there.
-fn put_folder(tree: &mut MemoryTree, folder: &Path) -> Result<(), TreeFault> {
-    if tree.kind(folder)? == Kind::Absent {
-        tree.make_folder(folder)?;
+fn put_folder<R: Abort>(rt: &R, tree: &mut MemoryTree, folder: &Path) {
+    if tree.kind(folder) == Ok(Kind::Absent) {
+        tree.make_folder(folder).expect(rt, "no folder");
     }
-    Ok(())
 }
 
 // Makes the folders of a path's first parts.
-fn put_way(alloc: Global, tree: &mut MemoryTree, path: &Path) -> Result<(), Fail> {
+fn put_way<R: AllocGlobal + Abort>(rt: &R, tree: &mut MemoryTree, path: &Path) {
     for parts in 1..path.len() {
-        put_folder(tree, &path.front(alloc, parts)?)?;
+        let folder = path.front(rt.alloc(), parts).expect(rt, "no memory");
+        put_folder(rt, tree, &folder);
     }
-    Ok(())
 }
 
-pub(crate) fn put_file(tree: &mut MemoryTree, path: &Path, bytes: &[u8]) -> Result<(), TreeFault> {
-    tree.make_file(path)?;
-    tree.write_at(path, 0, bytes)
+/// Makes a file of these bytes.
+pub(crate) fn put_file<R: Abort>(rt: &R, tree: &mut MemoryTree, path: &Path, bytes: &[u8]) {
+    tree.make_file(path).expect(rt, "no file");
+    tree.write_at(path, 0, bytes).expect(rt, "no bytes");
 }
 
 // Files of one byte.
-fn put_files(alloc: Global, tree: &mut MemoryTree, folder: &Path, names: &str) -> Result<(), Fail> {
-    put_folder(tree, folder)?;
+fn put_files<R: AllocGlobal + Abort>(rt: &R, tree: &mut MemoryTree, folder: &Path, names: &str) {
+    put_folder(rt, tree, folder);
     for name in names.split(' ') {
-        put_file(tree, &folder.join(alloc, name)?, b"x")?;
+        let path = folder.join(rt.alloc(), name).expect(rt, "no path");
+        put_file(rt, tree, &path, b"x");
     }
-    Ok(())
 }
 
 // A folder that holds a name that isn't UTF-8.
-fn put_bad_name(tree: &mut MemoryTree, path: &Path) -> Result<(), TreeFault> {
-    put_folder(tree, path)?;
-    tree.add_bad_name(path)
+fn put_bad_name<R: Abort>(rt: &R, tree: &mut MemoryTree, path: &Path) {
+    put_folder(rt, tree, path);
+    tree.add_bad_name(path).expect(rt, "no folder");
 }
 
 // Adds a block to the end of a file, which is made where it isn't there.
-fn add_block(tree: &mut MemoryTree, path: &Path, page: &Page) -> Result<(), Fail> {
-    if tree.kind(path)? == Kind::Absent {
-        tree.make_file(path)?;
+fn add_block<R: Abort>(rt: &R, tree: &mut MemoryTree, path: &Path, page: &Page) {
+    if tree.kind(path) == Ok(Kind::Absent) {
+        tree.make_file(path).expect(rt, "no file");
     }
-    let size = tree.size(path)?;
-    tree.write_at(path, size, page.bytes())?;
-    Ok(())
+    let size = tree.size(path).expect(rt, "no file");
+    tree.write_at(path, size, page.bytes())
+        .expect(rt, "no bytes");
+}
+
+/// A page of zeros.
+pub(crate) fn zero_page<R: AllocGlobal + Abort>(rt: &R) -> Page {
+    Page::zero(rt.alloc()).expect(rt, "no memory")
 }
 
 // An empty page with an LSN.
-fn page_at(alloc: Global, lsn: u64) -> Result<Page, Fail> {
-    let mut page = Page::zero(alloc)?;
-    page.init(0)?;
+fn page_at<R: AllocGlobal + Abort>(rt: &R, lsn: u64) -> Page {
+    let mut page = zero_page(rt);
+    page.init(0).expect(rt, "no page");
     page.set_lsn(Lsn(lsn));
-    Ok(page)
+    page
 }
 
-// One entry, with the folders on its way; or nothing.
-fn put(alloc: Global, tree: &mut MemoryTree, entry: &str) -> Result<(), Fail> {
-    if entry.is_empty() {
-        return Ok(());
+// What an entry's verb and words put at its path.
+fn put_at<R: AllocGlobal + Abort>(
+    rt: &R,
+    tree: &mut MemoryTree,
+    verb: &str,
+    path: &Path,
+    words: &str,
+) {
+    match verb {
+        "folder" => put_folder(rt, tree, path),
+        "file" => put_file(rt, tree, path, &bytes_of(rt, words)),
+        "filled" => put_file(rt, tree, path, &filled(rt, words)),
+        "files" => put_files(rt, tree, path, words),
+        "zeros" => add_block(rt, tree, path, &zero_page(rt)),
+        "page" => add_block(rt, tree, path, &page_at(rt, long(rt, words))),
+        "link" => tree.add_link(path).expect(rt, "no link"),
+        _ => put_bad_name(rt, tree, path),
     }
+}
+
+// One entry, with the folders on its way.
+fn put<R: AllocGlobal + Abort>(rt: &R, tree: &mut MemoryTree, entry: &str) {
     let (verb, behind) = cut_at(entry, " ");
     let (text, words) = cut_at(behind, " ");
-    let path = Path::parse(alloc, text)?;
-    put_way(alloc, tree, &path)?;
-    match verb {
-        "folder" => Ok(put_folder(tree, &path)?),
-        "file" => Ok(put_file(tree, &path, &bytes_of(alloc, words)?)?),
-        "filled" => Ok(put_file(tree, &path, &filled(alloc, words)?)?),
-        "files" => put_files(alloc, tree, &path, words),
-        "zeros" => add_block(tree, &path, &Page::zero(alloc)?),
-        "page" => add_block(tree, &path, &page_at(alloc, long(words)?)?),
-        "link" => Ok(tree.add_link(&path)?),
-        _ => Ok(put_bad_name(tree, &path)?),
-    }
+    let path = path_of(rt, text);
+    put_way(rt, tree, &path);
+    put_at(rt, tree, verb, &path, words);
 }
 
-fn put_all(alloc: Global, tree: &mut MemoryTree, entries: &str) -> Result<(), Fail> {
+fn put_all<R: AllocGlobal + Abort>(rt: &R, tree: &mut MemoryTree, entries: &str) {
     for entry in entries.split(", ") {
-        put(alloc, tree, entry)?;
+        if !entry.is_empty() {
+            put(rt, tree, entry);
+        }
     }
-    Ok(())
 }
 
 /// A tree with the entries of both texts.
-pub(crate) fn tree_of(alloc: Global, first: &str, then: &str) -> Result<MemoryTree, Fail> {
-    let mut tree = MemoryTree::new(alloc);
-    put_all(alloc, &mut tree, first)?;
-    put_all(alloc, &mut tree, then)?;
-    Ok(tree)
+pub(crate) fn tree_of<R: AllocGlobal + Abort>(rt: &R, first: &str, then: &str) -> MemoryTree {
+    let mut tree = MemoryTree::new(rt.alloc());
+    put_all(rt, &mut tree, first);
+    put_all(rt, &mut tree, then);
+    tree
 }
 
-fn has_bytes(
-    alloc: Global,
+// So many bytes of a file from an offset on.
+fn bytes_at<R: AllocGlobal + Abort>(
+    rt: &R,
+    tree: &mut MemoryTree,
+    path: &Path,
+    at: u64,
+    count: usize,
+) -> Vec<u8> {
+    let mut into = vec![in rt.alloc(); 0; count].expect(rt, "no memory");
+    tree.read_at(path, at, &mut into).expect(rt, "no bytes");
+    into
+}
+
+fn has_bytes<R: AllocGlobal + Abort>(
+    rt: &R,
     tree: &mut MemoryTree,
     path: &Path,
     at: &str,
     bytes: &[u8],
-) -> Result<bool, Fail> {
-    let mut into = vec![in alloc; 0; bytes.len()]?;
-    tree.read_at(path, long(at)?, &mut into)?;
-    Ok(into.as_slice() == bytes)
+) -> bool {
+    bytes_at(rt, tree, path, long(rt, at), bytes.len()).as_slice() == bytes
 }
 
-// Each name, with a blank between two; a dash where there is none.
-fn listed(alloc: Global, names: &Names) -> Result<String, Fail> {
-    let mut text = String::from_str(alloc, if names.len() == 0 { "-" } else { "" })?;
+/// Each name with a mark behind it.
+pub(crate) fn joined<R: AllocGlobal + Abort>(rt: &R, names: &Names, mark: char) -> String {
+    let mut text = String::new(rt.alloc());
     for at in 0..names.len() {
-        let gap = if at == 0 { "" } else { " " };
-        write!(text, "{gap}{}", names.get(at).unwrap_or(""))?;
+        let name = names.get(at).unwrap_or("");
+        write!(text, "{name}{mark}").expect(rt, "no memory");
     }
-    Ok(text)
-}
-
-/// Each run of bytes that aren't zeros: where it begins, and its bytes.
-fn runs(alloc: Global, block: &[u8]) -> Result<String, Fail> {
-    let mut text = String::new(alloc);
-    let mut running = false;
-    for (at, &byte) in block.iter().enumerate() {
-        if byte == 0 {
-            running = false;
-            continue;
-        }
-        if !running {
-            write!(text, " {at} ")?;
-        }
-        write!(text, "{byte:02X}")?;
-        running = true;
-    }
-    Ok(text)
+    text
 }
 
 // The bytes of a block of a file.
-fn block_of(
-    alloc: Global,
+fn block_of<R: AllocGlobal + Abort>(
+    rt: &R,
     tree: &mut MemoryTree,
     path: &Path,
     block: u32,
-) -> Result<Vec<u8>, Fail> {
-    let mut into = vec![in alloc; 0; 8192]?;
-    tree.read_at(path, u64::from(block) * BLOCK, &mut into)?;
-    Ok(into)
+) -> Vec<u8> {
+    bytes_at(rt, tree, path, u64::from(block) * BLOCK, 8192)
 }
 
-// Whether a block of a file has these runs.
-fn has_runs(alloc: Global, tree: &mut MemoryTree, path: &Path, words: &str) -> Result<bool, Fail> {
+// Whether a block of a file has these runs of bytes that aren't zeros.
+fn has_runs<R: AllocGlobal + Abort>(
+    rt: &R,
+    tree: &mut MemoryTree,
+    path: &Path,
+    words: &str,
+) -> bool {
     let (block, expected) = cut_at(words, " ");
-    let found = block_of(alloc, tree, path, number(block)?)?;
-    Ok(runs(alloc, &found)?.as_str().trim() == expected)
+    let found = block_of(rt, tree, path, number(rt, block));
+    changes(rt, zero_page(rt).bytes(), &found).as_str() == expected
 }
 
 // The file of a block of relation 16384 of database 5, where a file has two blocks.
-fn file_of(alloc: Global, fork: &str, block: u32) -> Result<Path, Fail> {
+fn file_of<R: AllocGlobal + Abort>(rt: &R, fork: &str, block: u32) -> Path {
     let suffix = match fork {
         "main" => "",
         "fsm" => "_fsm",
         "vm" => "_vm",
         _ => "_init",
     };
-    let text = match block / 2 {
-        0 => format!(in alloc; "base/5/16384{suffix}")?,
-        segment => format!(in alloc; "base/5/16384{suffix}.{segment}")?,
-    };
-    Ok(Path::parse(alloc, &text)?)
+    let mut text = format!(in rt.alloc(); "base/5/16384{suffix}").expect(rt, "no memory");
+    if block >= 2 {
+        write!(text, ".{}", block / 2).expect(rt, "no memory");
+    }
+    path_of(rt, &text)
 }
 
-// The one byte that some are, or that they are mixed.
-fn kind_of(alloc: Global, bytes: &[u8]) -> Result<String, Fail> {
+// The one byte that all are.
+fn one_of(bytes: &[u8]) -> Option<u8> {
     match bytes {
-        [first, rest @ ..] if rest.iter().all(|byte| byte == first) => {
-            Ok(format!(in alloc; "{first}")?)
-        }
-        _ => Ok(String::from_str(alloc, "mixed")?),
+        [first, rest @ ..] if rest.iter().all(|byte| byte == first) => Some(*first),
+        _ => None,
     }
 }
 
-// What lies at the place of a block of that relation: nothing, one byte 8192 times, or bytes of several kinds.
-fn state_of(alloc: Global, tree: &mut MemoryTree, fork: &str, block: u32) -> Result<String, Fail> {
-    let path = file_of(alloc, fork, block)?;
+// Whether this lies at the place of a block of that relation: nothing, one byte 8192 times, or bytes of several kinds.
+fn is_state<R: AllocGlobal + Abort>(
+    rt: &R,
+    tree: &mut MemoryTree,
+    fork: &str,
+    block: u32,
+    state: &str,
+) -> bool {
+    let path = file_of(rt, fork, block);
     let place = block % 2;
-    let size = tree.size(&path).unwrap_or(0);
-    if size < (u64::from(place) + 1) * BLOCK {
-        return Ok(String::from_str(alloc, "absent")?);
+    let end = (u64::from(place) + 1) * BLOCK;
+    let is_absent = tree.size(&path).unwrap_or(0) < end;
+    if is_absent || state == "absent" {
+        return is_absent == (state == "absent");
     }
-    kind_of(alloc, &block_of(alloc, tree, &path, place)?)
+    let found = one_of(&block_of(rt, tree, &path, place));
+    if state == "mixed" {
+        found.is_none()
+    } else {
+        found == Some(byte(rt, state))
+    }
 }
 
 // Whether the names of a folder are these.
-fn holds(alloc: Global, tree: &mut MemoryTree, path: &Path, expected: &str) -> Result<bool, Fail> {
-    let names = tree.list(alloc, path)?;
-    Ok(listed(alloc, &names)?.as_str() == expected)
+fn holds<R: AllocGlobal + Abort>(
+    rt: &R,
+    tree: &mut MemoryTree,
+    path: &Path,
+    expected: &str,
+) -> bool {
+    let names = tree.list(rt.alloc(), path).expect(rt, "no folder");
+    joined(rt, &names, ' ').as_str().trim_end() == undashed(expected)
 }
 
 // Whether it is so: no entry, a folder, a size in bytes or in blocks, bytes from an offset on, one byte so many times,
 // or the names of a folder.
-fn is_entry_so(
-    alloc: Global,
+fn is_entry_so<R: AllocGlobal + Abort>(
+    rt: &R,
     tree: &mut MemoryTree,
     verb: &str,
     path: &Path,
     words: &str,
-) -> Result<bool, Fail> {
+) -> bool {
     let (at, behind) = cut_at(words, " ");
     match verb {
-        "none" => Ok(tree.kind(path) == Ok(Kind::Absent)),
-        "folder" => Ok(tree.kind(path) == Ok(Kind::Folder)),
-        "size" => Ok(tree.size(path) == Ok(long(words)?)),
-        "blocks" => Ok(tree.size(path) == Ok(u64::from(number(words)?) * BLOCK)),
-        "at" => has_bytes(alloc, tree, path, at, &bytes_of(alloc, behind)?),
-        "run" => has_bytes(alloc, tree, path, at, &filled(alloc, behind)?),
-        "block" => has_runs(alloc, tree, path, words),
-        _ => holds(alloc, tree, path, words),
+        "none" => tree.kind(path) == Ok(Kind::Absent),
+        "folder" => tree.kind(path) == Ok(Kind::Folder),
+        "size" => tree.size(path) == Ok(long(rt, words)),
+        "blocks" => tree.size(path) == Ok(u64::from(number(rt, words)) * BLOCK),
+        "at" => has_bytes(rt, tree, path, at, &bytes_of(rt, behind)),
+        "run" => has_bytes(rt, tree, path, at, &filled(rt, behind)),
+        "block" => has_runs(rt, tree, path, words),
+        _ => holds(rt, tree, path, words),
     }
 }
 
 /// Whether a fact is so, of an entry or of the place of a block; or nothing is asked.
-pub(crate) fn is_so(alloc: Global, tree: &mut MemoryTree, fact: &str) -> Result<bool, Fail> {
-    if fact.is_empty() {
-        return Ok(true);
-    }
+pub(crate) fn is_so<R: AllocGlobal + Abort>(rt: &R, tree: &mut MemoryTree, fact: &str) -> bool {
     let (verb, behind) = cut_at(fact, " ");
     let (text, words) = cut_at(behind, " ");
-    if verb == "state" {
-        let (block, state) = cut_at(words, " ");
-        return Ok(state_of(alloc, tree, text, number(block)?)?.as_str() == state);
+    match verb {
+        "" => true,
+        "state" => {
+            let (block, state) = cut_at(words, " ");
+            is_state(rt, tree, text, number(rt, block), state)
+        }
+        _ => is_entry_so(rt, tree, verb, &path_of(rt, text), words),
     }
-    is_entry_so(alloc, tree, verb, &Path::parse(alloc, text)?, words)
 }

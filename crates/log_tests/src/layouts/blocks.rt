@@ -1,170 +1,144 @@
 //! Layouts of the bytes of blocks, by their kinds.
-use crate::layouts::first_word;
+use crate::texts::{cut_at, half};
+use crate::told::Told;
 use block_layouts::*;
 use std::alloc::Global;
 use std::test::Fail;
-use wal_base::decimal_u32;
 
-/// A number below 65536.
-fn half(text: &str) -> Result<u16, Fail> {
-    match decimal_u32(text.as_bytes()) {
-        Some(number) => Ok(u16::try_from(number).unwrap_or(u16::MAX)),
-        None => Err("no number".into()),
-    }
-}
-
-fn none(alloc: Global) -> Result<String, Fail> {
-    Ok(String::from_str(alloc, "none")?)
-}
-
-fn insert(alloc: Global, bytes: &[u8]) -> Result<String, Fail> {
+fn insert(told: &mut Told<'_>, bytes: &[u8]) {
     let Some(tuple) = insert_tuple(bytes) else {
-        return none(alloc);
+        return told.text("none");
     };
-    let header = tuple.header;
-    let values = tuple.bytes;
-    Ok(format!(in alloc; "{header:?} {values:?}")?)
+    told.shows("", &tuple.header);
+    told.shows(" ", &tuple.bytes);
 }
 
-fn update(alloc: Global, parts: OldParts, bytes: &[u8]) -> Result<String, Fail> {
+fn update(told: &mut Told<'_>, parts: OldParts, bytes: &[u8]) {
     let Some(tuple) = update_tuple(bytes, parts) else {
-        return none(alloc);
+        return told.text("none");
     };
-    let header = tuple.header;
-    let prefix = tuple.prefix;
-    let suffix = tuple.suffix;
-    let bitmap = tuple.bitmap;
-    let values = tuple.bytes;
-    Ok(format!(in alloc; "{prefix} {suffix} {header:?} {bitmap:?} {values:?}")?)
+    told.shows("", &tuple.prefix);
+    told.shows(" ", &tuple.suffix);
+    told.shows(" ", &tuple.header);
+    told.shows(" ", &tuple.bitmap);
+    told.shows(" ", &tuple.bytes);
 }
 
-/// Adds places in turn, and the last one by its index.
-fn add_places(text: &mut String, places: &Places<'_>) -> Result<(), Fail> {
-    for place in places.clone()? {
-        write!(text, " {place}")?;
-    }
+/// Tells places in turn, and then the last one and that past it by their indices.
+fn places(told: &mut Told<'_>, before: &str, places: Places<'_>) {
+    told.text(before);
     let last = places.get(places.len().saturating_sub(1));
     let past = places.get(places.len());
-    write!(text, " ({last:?}, {past:?})")?;
-    Ok(())
+    for place in places {
+        told.shows(" ", &place);
+    }
+    told.shows(" ", &(last, past));
 }
 
-fn add_redirects(text: &mut String, pairs: &Redirects<'_>) -> Result<(), Fail> {
-    for pair in pairs.clone()? {
-        let from = pair.from;
-        let to = pair.to;
-        write!(text, " {from} to {to}")?;
-    }
+fn redirects(told: &mut Told<'_>, pairs: Redirects<'_>) {
     let last = pairs.get(pairs.len().saturating_sub(1));
     let past = pairs.get(pairs.len());
-    write!(text, " ({last:?}, {past:?})")?;
-    Ok(())
+    for pair in pairs {
+        told.shows(" ", &pair.from);
+        told.shows(" to ", &pair.to);
+    }
+    told.shows(" ", &(last, past));
 }
 
-fn prune(alloc: Global, redirected: u16, dead: u16, bytes: &[u8]) -> Result<String, Fail> {
-    let Some(places) = prune_places(bytes, redirected, dead) else {
-        return none(alloc);
+fn prune(told: &mut Told<'_>, redirected: u16, dead: u16, bytes: &[u8]) {
+    let Some(lists) = prune_places(bytes, redirected, dead) else {
+        return told.text("none");
     };
-    let mut text = String::from_str(alloc, "redirected")?;
-    add_redirects(&mut text, &places.redirected)?;
-    text.push_str(" dead")?;
-    add_places(&mut text, &places.dead)?;
-    text.push_str(" unused")?;
-    add_places(&mut text, &places.unused)?;
-    Ok(text)
+    told.text("redirected");
+    redirects(told, lists.redirected);
+    places(told, " dead", lists.dead);
+    places(told, " unused", lists.unused);
 }
 
-fn first(alloc: Global, count: u16, bytes: &[u8]) -> Result<String, Fail> {
-    let Some(places) = first_places(bytes, count) else {
-        return none(alloc);
-    };
-    let mut text = String::from_str(alloc, "places")?;
-    add_places(&mut text, &places)?;
-    Ok(text)
+fn first(told: &mut Told<'_>, count: u16, bytes: &[u8]) {
+    match first_places(bytes, count) {
+        Some(list) => places(told, "places", list),
+        None => told.text("none"),
+    }
 }
 
-fn freeze(alloc: Global, count: u16, bytes: &[u8]) -> Result<String, Fail> {
+fn plan(told: &mut Told<'_>, plan: FreezePlan<'_>) {
+    told.shows(", ", &plan.xmax);
+    told.shows(" ", &plan.infomask2);
+    told.shows(" ", &plan.infomask);
+    told.shows(" ", &plan.flags);
+    places(told, " at", plan.places);
+}
+
+fn freeze(told: &mut Told<'_>, count: u16, bytes: &[u8]) {
     let Some(plans) = freeze_plans(bytes, count) else {
-        return none(alloc);
+        return told.text("none");
     };
-    let mut text = String::from_str(alloc, "plans")?;
-    for plan in plans {
-        let FreezePlan {
-            xmax,
-            infomask2,
-            infomask,
-            flags,
-            places,
-        } = plan;
-        write!(text, ", {xmax} {infomask2} {infomask} {flags} at")?;
-        add_places(&mut text, &places)?;
+    told.text("plans");
+    for each in plans {
+        plan(told, each);
     }
-    Ok(text)
 }
 
-fn multi_insert(alloc: Global, count: u16, bytes: &[u8]) -> Result<String, Fail> {
+fn multi_insert(told: &mut Told<'_>, count: u16, bytes: &[u8]) {
     let Some(tuples) = multi_insert_tuples(bytes, count) else {
-        return none(alloc);
+        return told.text("none");
     };
-    let mut text = String::from_str(alloc, "tuples")?;
+    told.text("tuples");
     for tuple in tuples {
-        let header = tuple.header;
-        let values = tuple.bytes;
-        write!(text, " {header:?} {values:?}")?;
+        told.shows(" ", &tuple.header);
+        told.shows(" ", &tuple.bytes);
     }
-    Ok(text)
 }
 
-fn restored(alloc: Global, bytes: &[u8]) -> Result<String, Fail> {
+fn restored(told: &mut Told<'_>, bytes: &[u8]) {
     let Some(tuples) = restored_tuples(bytes) else {
-        return none(alloc);
+        return told.text("none");
     };
-    let mut text = String::from_str(alloc, "tuples")?;
+    told.text("tuples");
     let last = tuples.get(tuples.len().saturating_sub(1)).is_some();
     for tuple in tuples {
-        write!(text, " {tuple:?}")?;
+        told.shows(" ", &tuple);
     }
-    write!(text, " {last}")?;
-    Ok(text)
+    told.shows(" ", &last);
 }
 
-fn split(alloc: Global, with_new: bool, bytes: &[u8]) -> Result<String, Fail> {
+fn split(told: &mut Told<'_>, with_new: bool, bytes: &[u8]) {
     let Some(tuples) = split_tuples(bytes, with_new) else {
-        return none(alloc);
+        return told.text("none");
     };
-    let new = tuples.new_tuple;
-    let key = tuples.high_key;
-    Ok(format!(in alloc; "new {new:?} key {key:?}")?)
+    told.shows("new ", &tuples.new_tuple);
+    told.shows(" key ", &tuples.high_key);
 }
 
-fn meta(alloc: Global, bytes: &[u8]) -> Result<String, Fail> {
-    let meta = metapage(bytes);
-    Ok(format!(in alloc; "{meta:?}")?)
-}
-
-/// `block KIND A B HEX`: what the bytes of a block are read as; A and B are the numbers that the main
-/// bytes tell, or 1 for a part that is there.
-pub fn block(alloc: Global, behind: &str) -> Result<String, Fail> {
-    let (kind, behind) = first_word(behind);
-    let (one, behind) = first_word(behind);
-    let (other, digits) = first_word(behind);
-    let one = half(one)?;
-    let other = half(other)?;
-    let bytes = hex::decode(alloc, digits)?;
+/// Tells what the bytes of a block of a kind are read as, by the numbers that the main bytes tell.
+fn layout(told: &mut Told<'_>, kind: &str, one: u16, other: u16, bytes: &[u8]) {
     let parts = OldParts {
         prefix: one == 1,
         suffix: other == 1,
     };
     match kind {
-        "insert" => insert(alloc, &bytes),
-        "update" => update(alloc, parts, &bytes),
-        "prune" => prune(alloc, one, other, &bytes),
-        "places" => first(alloc, one, &bytes),
-        "freeze" => freeze(alloc, one, &bytes),
-        "multi" => multi_insert(alloc, one, &bytes),
-        "restored" => restored(alloc, &bytes),
-        "split" => split(alloc, one == 1, &bytes),
-        "meta" => meta(alloc, &bytes),
-        _ => Err("no such kind".into()),
+        "insert" => insert(told, bytes),
+        "update" => update(told, parts, bytes),
+        "prune" => prune(told, one, other, bytes),
+        "places" => first(told, one, bytes),
+        "freeze" => freeze(told, one, bytes),
+        "multi" => multi_insert(told, one, bytes),
+        "restored" => restored(told, bytes),
+        "split" => split(told, one == 1, bytes),
+        "meta" => told.shows("", &metapage(bytes)),
+        _ => told.text("no such kind"),
     }
+}
+
+/// `block KIND A B HEX`: whether the bytes of a block are read as a row says; A and B are the numbers that the main
+/// bytes tell, or 1 for a part that is there.
+pub fn block(alloc: Global, behind: &str, meant: &str) -> Result<bool, Fail> {
+    let (kind, behind) = cut_at(behind, " ");
+    let (one, behind) = cut_at(behind, " ");
+    let (other, digits) = cut_at(behind, " ");
+    let (one, other) = (half(one)?, half(other)?);
+    let mut told = Told::new(meant);
+    layout(&mut told, kind, one, other, &hex::decode(alloc, digits)?);
+    Ok(told.is_all())
 }

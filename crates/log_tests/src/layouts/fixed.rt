@@ -1,67 +1,69 @@
 //! Layouts of a fixed size, by their names.
-use crate::layouts::shown::shown;
+use crate::told::Told;
 use record_layouts::*;
-use std::alloc::Global;
-use std::test::Fail;
 
-/// Layouts of XLOG, Storage and Database.
-pub fn xlog(alloc: Global, name: &str, bytes: &[u8]) -> Result<Option<String>, Fail> {
+/// Tells what a layout says of XLOG, Storage and Database.
+pub fn xlog(told: &mut Told<'_>, name: &str, bytes: &[u8]) -> bool {
     match name {
-        "NextOid" => shown(alloc, NextOid::read(bytes)),
-        "BackupEnd" => shown(alloc, BackupEnd::read(bytes)),
-        "FpwChange" => shown(alloc, FpwChange::read(bytes)),
-        "EndOfRecovery" => shown(alloc, EndOfRecovery::read(bytes)),
-        "OverwriteContrecord" => shown(alloc, OverwriteContrecord::read(bytes)),
-        "ParameterChange" => shown(alloc, ParameterChange::read(bytes)),
-        "Checkpoint" => shown(alloc, read_checkpoint(bytes).map(|cp| cp.redo)),
-        "StorageCreate" => shown(alloc, StorageCreate::read(bytes)),
-        "StorageTruncate" => shown(alloc, StorageTruncate::read(bytes)),
-        "DatabaseCopy" => shown(alloc, DatabaseCopy::read(bytes)),
-        "DatabaseCreate" => shown(alloc, DatabaseCreate::read(bytes)),
-        _ => Ok(None),
+        "NextOid" => told.read(NextOid::read(bytes)),
+        "BackupEnd" => told.read(BackupEnd::read(bytes)),
+        "FpwChange" => told.read(FpwChange::read(bytes)),
+        "EndOfRecovery" => told.read(EndOfRecovery::read(bytes)),
+        "OverwriteContrecord" => told.read(OverwriteContrecord::read(bytes)),
+        "ParameterChange" => told.read(ParameterChange::read(bytes)),
+        "Checkpoint" => told.read(read_checkpoint(bytes).map(|cp| cp.redo)),
+        "StorageCreate" => told.read(StorageCreate::read(bytes)),
+        "StorageTruncate" => told.read(StorageTruncate::read(bytes)),
+        "DatabaseCopy" => told.read(DatabaseCopy::read(bytes)),
+        "DatabaseCreate" => told.read(DatabaseCreate::read(bytes)),
+        _ => return false,
     }
+    true
 }
 
-/// Layouts of Transaction, CLOG, MultiXact and Standby.
-pub fn transaction(alloc: Global, name: &str, bytes: &[u8]) -> Result<Option<String>, Fail> {
+/// Tells what a layout says of Transaction, CLOG, MultiXact and Standby.
+pub fn transaction(told: &mut Told<'_>, name: &str, bytes: &[u8]) -> bool {
     match name {
-        "Assignment" => shown(alloc, Assignment::read(bytes)),
-        "ClogZeroPage" => shown(alloc, ClogZeroPage::read(bytes)),
-        "ClogTruncate" => shown(alloc, ClogTruncate::read(bytes)),
-        "MultiXactZeroPage" => shown(alloc, MultiXactZeroPage::read(bytes)),
-        "MultiXactTruncate" => shown(alloc, MultiXactTruncate::read(bytes)),
-        "RunningXacts" => shown(alloc, RunningXacts::read(bytes)),
-        _ => Ok(None),
+        "Assignment" => told.read(Assignment::read(bytes)),
+        "ClogZeroPage" => told.read(ClogZeroPage::read(bytes)),
+        "ClogTruncate" => told.read(ClogTruncate::read(bytes)),
+        "MultiXactZeroPage" => told.read(MultiXactZeroPage::read(bytes)),
+        "MultiXactTruncate" => told.read(MultiXactTruncate::read(bytes)),
+        "RunningXacts" => told.read(RunningXacts::read(bytes)),
+        _ => return false,
     }
+    true
 }
 
-/// Layouts of Heap.
-pub fn heap(alloc: Global, name: &str, bytes: &[u8]) -> Result<Option<String>, Fail> {
+/// Tells what a layout says of Heap.
+pub fn heap(told: &mut Told<'_>, name: &str, bytes: &[u8]) -> bool {
     match name {
-        "HeapInsert" => shown(alloc, HeapInsert::read(bytes)),
-        "HeapDelete" => shown(alloc, HeapDelete::read(bytes)),
-        "HeapUpdate" => shown(alloc, HeapUpdate::read(bytes)),
-        "HeapTruncate" => shown(alloc, HeapTruncate::read(bytes)),
-        "HeapConfirm" => shown(alloc, HeapConfirm::read(bytes)),
-        "HeapLock" => shown(alloc, HeapLock::read(bytes)),
-        "HeapInplace" => shown(alloc, HeapInplace::read(bytes)),
-        _ => Ok(None),
+        "HeapInsert" => told.read(HeapInsert::read(bytes)),
+        "HeapDelete" => told.read(HeapDelete::read(bytes)),
+        "HeapUpdate" => told.read(HeapUpdate::read(bytes)),
+        "HeapTruncate" => told.read(HeapTruncate::read(bytes)),
+        "HeapConfirm" => told.read(HeapConfirm::read(bytes)),
+        "HeapLock" => told.read(HeapLock::read(bytes)),
+        "HeapInplace" => told.read(HeapInplace::read(bytes)),
+        _ => return false,
     }
+    true
 }
 
-/// Layouts of Heap2 and Btree.
-pub fn page(alloc: Global, name: &str, bytes: &[u8]) -> Result<Option<String>, Fail> {
+/// Tells what a layout says of Heap2 and Btree.
+pub fn page(told: &mut Told<'_>, name: &str, bytes: &[u8]) -> bool {
     match name {
-        "HeapVacuum" => shown(alloc, HeapVacuum::read(bytes)),
-        "HeapVisible" => shown(alloc, HeapVisible::read(bytes)),
-        "HeapPrune" => shown(alloc, HeapPrune::read(bytes)),
-        "HeapFreezePage" => shown(alloc, HeapFreezePage::read(bytes)),
-        "BtreeInsert" => shown(alloc, BtreeInsert::read(bytes)),
-        "BtreeSplit" => shown(alloc, BtreeSplit::read(bytes)),
-        "BtreeDedup" => shown(alloc, BtreeDedup::read(bytes)),
-        "BtreeDelete" => shown(alloc, BtreeDelete::read(bytes)),
-        "BtreeVacuum" => shown(alloc, BtreeVacuum::read(bytes)),
-        "BtreeNewRoot" => shown(alloc, BtreeNewRoot::read(bytes)),
-        _ => Ok(None),
+        "HeapVacuum" => told.read(HeapVacuum::read(bytes)),
+        "HeapVisible" => told.read(HeapVisible::read(bytes)),
+        "HeapPrune" => told.read(HeapPrune::read(bytes)),
+        "HeapFreezePage" => told.read(HeapFreezePage::read(bytes)),
+        "BtreeInsert" => told.read(BtreeInsert::read(bytes)),
+        "BtreeSplit" => told.read(BtreeSplit::read(bytes)),
+        "BtreeDedup" => told.read(BtreeDedup::read(bytes)),
+        "BtreeDelete" => told.read(BtreeDelete::read(bytes)),
+        "BtreeVacuum" => told.read(BtreeVacuum::read(bytes)),
+        "BtreeNewRoot" => told.read(BtreeNewRoot::read(bytes)),
+        _ => return false,
     }
+    true
 }

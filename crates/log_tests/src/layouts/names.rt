@@ -1,72 +1,66 @@
 //! Names of managers and operations, and operations by their numbers.
-use crate::layouts::first_word;
+use crate::texts::{byte, cut_at};
+use crate::told::Told;
 use record_layouts::Operation;
 use rmgr_desc::{
     add_manager_name, add_operation_name, manager_name, manager_named, operation_name,
 };
 use std::alloc::Global;
 use std::test::Fail;
-use wal_base::decimal_u32;
 
-/// A number below 256.
-fn byte(text: &str) -> Result<u8, Fail> {
-    match decimal_u32(text.as_bytes()) {
-        Some(number) => match u8::try_from(number) {
-            Ok(number) => Ok(number),
-            Err(_) => Err("no byte".into()),
-        },
-        None => Err("no number".into()),
-    }
-}
-
-/// The name of an operation, which is also added behind what is there.
-fn operation(alloc: Global, manager: u8, info: u8) -> Result<String, Fail> {
+/// Whether an operation's name is added to that of its manager as a row says.
+fn is_added(alloc: Global, manager: u8, info: u8, meant: &str) -> Result<bool, Fail> {
     let mut text = String::new(alloc);
     add_manager_name(&mut text, manager)?;
     text.push_str(" ")?;
     add_operation_name(&mut text, manager, info)?;
-    let name = operation_name(alloc, manager, info)?;
-    if !text.as_str().ends_with(name.as_str()) {
-        return Err("another name".into());
-    }
-    Ok(text)
+    Ok(text.as_str() == meant)
 }
 
-/// What an operation is, and how many zeros hold its layout at least.
-fn does(alloc: Global, manager: u8, info: u8) -> Result<String, Fail> {
-    let operation = Operation::of(manager, info);
+/// Whether an operation has a name, which is also added behind what is there.
+fn operation(alloc: Global, manager: u8, info: u8, meant: &str) -> Result<bool, Fail> {
+    let is_named = meant.ends_with(operation_name(alloc, manager, info)?.as_str());
+    Ok(is_named && is_added(alloc, manager, info, meant)?)
+}
+
+/// How many zeros hold an operation's layout at least.
+fn least(operation: Operation) -> usize {
     let zeros = [0; 88];
-    let mut least = 88;
     for size in 0..88 {
-        if operation.is_whole(&zeros[..88 - size]) {
-            least = 88 - size;
+        if operation.is_whole(&zeros[..size]) {
+            return size;
         }
     }
-    if operation.is_whole(&[]) {
-        least = 0;
-    }
-    let manager = operation.manager();
-    let number = operation.number();
-    Ok(format!(in alloc; "{operation:?} {manager} {number} from {least} on")?)
+    88
 }
 
-/// The manager of a name.
-fn named(alloc: Global, name: &str) -> Result<String, Fail> {
-    let found = manager_named(name);
-    Ok(format!(in alloc; "{found:?}")?)
+/// Whether an operation is what a row says, and so many zeros hold its layout at least.
+fn does(manager: u8, info: u8, meant: &str) -> bool {
+    let operation = Operation::of(manager, info);
+    let mut told = Told::new(meant);
+    told.shows("", &operation);
+    told.shows(" ", &operation.manager());
+    told.shows(" ", &operation.number());
+    told.shows(" from ", &least(operation));
+    told.text(" on");
+    told.is_all()
 }
 
-/// `manager N`, `operation MANAGER INFO`, `does MANAGER INFO`, `named NAME`.
-pub fn name(alloc: Global, verb: &str, behind: &str) -> Result<String, Fail> {
-    let (manager, info) = first_word(behind);
+/// Whether the manager of a name is the one that a row says.
+fn named(name: &str, meant: &str) -> bool {
+    let mut told = Told::new(meant);
+    told.shows("", &manager_named(name));
+    told.is_all()
+}
+
+/// Whether a line of a verb is as a row says: `manager N`, `operation MANAGER INFO`, `does MANAGER INFO`, `named NAME`.
+pub fn name(alloc: Global, verb: &str, behind: &str, meant: &str) -> Result<bool, Fail> {
+    let (manager, info) = cut_at(behind, " ");
     match verb {
-        "manager" => {
-            let name = manager_name(alloc, byte(manager)?)?;
-            Ok(String::from_str(alloc, name.as_str())?)
-        }
-        "operation" => operation(alloc, byte(manager)?, byte(info)?),
-        "does" => does(alloc, byte(manager)?, byte(info)?),
-        "named" => named(alloc, behind),
+        "manager" => Ok(manager_name(alloc, byte(manager)?)?.as_str() == meant),
+        "operation" => operation(alloc, byte(manager)?, byte(info)?, meant),
+        "does" => Ok(does(byte(manager)?, byte(info)?, meant)),
+        "named" => Ok(named(behind, meant)),
         _ => Err("no such line".into()),
     }
 }

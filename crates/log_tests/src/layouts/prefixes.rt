@@ -1,26 +1,16 @@
-//! What is there of layouts that are not whole.
-use crate::layouts::shown::{add_items, shown};
+//! What is there of layouts of a fixed size that are not whole.
+use crate::told::Told;
 use record_layouts::*;
-use std::alloc::Global;
-use std::test::Fail;
 
-fn database_drop(alloc: Global, bytes: &[u8]) -> Result<Option<String>, Fail> {
-    let prefix = DatabaseDropPrefix::read(bytes);
-    let database = prefix.database;
-    let mut text = format!(in alloc; "database {database:?}")?;
-    add_items(&mut text, "spaces", &prefix.spaces)?;
-    Ok(Some(text))
-}
-
-/// What is there, by the layout's name.
-pub fn prefix(alloc: Global, name: &str, bytes: &[u8]) -> Result<Option<String>, Fail> {
+/// Tells what is there, by the layout's name.
+pub fn prefix(told: &mut Told<'_>, name: &str, bytes: &[u8]) -> bool {
     match name {
-        "CreatedName" => shown(alloc, StorageCreate::rel_if_whole(bytes)),
-        "CutName" => shown(alloc, StorageTruncate::rel_if_whole(bytes)),
-        "CreatePrefix" => shown(alloc, Some(DatabaseCreatePrefix::read(bytes))),
-        "DropPrefix" => database_drop(alloc, bytes),
-        "ParameterPrefix" => shown(alloc, Some(ParameterPrefix::read(bytes))),
-        "CheckpointPrefix" => shown(alloc, Some(CheckpointPrefix::read(bytes))),
-        _ => Ok(None),
+        "CreatedName" => told.read(StorageCreate::rel_if_whole(bytes)),
+        "CutName" => told.read(StorageTruncate::rel_if_whole(bytes)),
+        "CreatePrefix" => told.shows("", &DatabaseCreatePrefix::read(bytes)),
+        "ParameterPrefix" => told.shows("", &ParameterPrefix::read(bytes)),
+        "CheckpointPrefix" => told.shows("", &CheckpointPrefix::read(bytes)),
+        _ => return false,
     }
+    true
 }

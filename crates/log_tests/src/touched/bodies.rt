@@ -46,13 +46,18 @@ SHORT \
 DROPPED 28230000000000002800100000000000000a000000000000
 NEXT_PAGE 13d108000100000000201000000000000000000000000000";
 
-/// The bytes of a body, by its name or its digits.
-pub(crate) fn body_of(alloc: Global, word: &str) -> Result<Vec<u8>, Fail> {
-    for line in BODIES.split('\n') {
+/// The digits behind a name, or the word itself where no line has that name.
+fn digits_of<'a>(lines: &'a str, word: &'a str) -> &'a str {
+    for line in lines.split('\n') {
         let (name, digits) = cut_at(line, " ");
         if name == word {
-            return Ok(hex::decode(alloc, digits)?);
+            return digits;
         }
     }
-    Ok(hex::decode(alloc, word)?)
+    word
+}
+
+/// The bytes of a body, by its name or its digits.
+pub(crate) fn body_of(alloc: Global, word: &str) -> Result<Vec<u8>, Fail> {
+    Ok(hex::decode(alloc, digits_of(BODIES, word))?)
 }

@@ -2,79 +2,78 @@
 ghost use Rattle.std.specs.Prelude.{◌≡◌, IsTrue};
 ghost use Rattle.wal_records.specs.Cursor.{Knows};
 
+use crate::logs::size;
+use crate::records::cursor_at;
 use crate::texts::{cut_at, plan_of, position};
+use crate::told::Told;
 use crate::touched::counted;
 use crate::touched::walk_control::control;
-use crate::touched::walk_logs::{cursor, size, tree_of};
+use crate::touched::walk_logs::tree_of;
 use crate::touched::walk_rows::HINTED;
 use cluster_tree::{FailingTree, Tree};
-use log_walk::{CommonCheckpoint, LogWalkFault, common_checkpoint, end_of_target, touch_log};
+use log_walk::{LogWalkFault, common_checkpoint, end_of_target, touch_log};
 use std::alloc::Global;
 use std::test::Fail;
 use touched_blocks::Touched;
 use wal_base::{Lsn, SegSize};
 use wal_records::RecordCursor;
 
-fn end_text(alloc: Global, answer: Result<Lsn, LogWalkFault>) -> Result<String, Fail> {
-    match answer {
-        Ok(end) => Ok(format!(in alloc; "{end}")?),
-        Err(fault) => Ok(format!(in alloc; "{fault:?}")?),
-    }
-}
-
 /// Where the target's log ends.
-fn end(alloc: Global, words: &str, cells: &str) -> Result<String, Fail> {
+fn end(alloc: Global, told: &mut Told<'_>, words: &str, cells: &str) -> Result<(), Fail> {
     let (checkpoint, least) = cut_at(words, " ");
     let control = control(position(checkpoint)?, position(least)?);
-    let mut cursor = cursor(alloc, size()?)?;
-    let mut tree = tree_of(alloc, cells)?;
-    end_text(alloc, end_of_target(&mut cursor, &mut tree, &control))
-}
-
-fn common_text(
-    alloc: Global,
-    answer: Result<CommonCheckpoint, LogWalkFault>,
-) -> Result<String, Fail> {
-    match answer {
-        Ok(found) => {
-            let redo = Lsn(found.checkpoint.redo);
-            Ok(format!(in alloc; "{} {redo}", found.start)?)
-        }
-        Err(fault) => Ok(format!(in alloc; "{fault:?}")?),
+    let mut cursor = cursor_at(alloc, size()?, 0)?;
+    match end_of_target(&mut cursor, &mut tree_of(alloc, cells)?, &control) {
+        Ok(end) => told.says("", &end),
+        Err(fault) => told.shows("", &fault),
     }
+    Ok(())
 }
 
 /// Where the last common checkpoint starts, and its redo.
-fn common(alloc: Global, fork: &str, cells: &str) -> Result<String, Fail> {
+fn common(alloc: Global, told: &mut Told<'_>, fork: &str, cells: &str) -> Result<(), Fail> {
     let size = size()?;
     let fork = Lsn(position(fork)?);
-    let mut cursor = cursor(alloc, size)?;
-    let mut tree = tree_of(alloc, cells)?;
-    common_text(alloc, common_checkpoint(&mut cursor, &mut tree, size, fork))
+    let mut cursor = cursor_at(alloc, size, 0)?;
+    match common_checkpoint(&mut cursor, &mut tree_of(alloc, cells)?, size, fork) {
+        Ok(found) => {
+            told.says("", &found.start);
+            told.says(" ", &Lsn(found.checkpoint.redo));
+        }
+        Err(fault) => told.shows("", &fault),
+    }
+    Ok(())
 }
 
-fn touched_text(
+/// What a log touches up to an end from a redo on, or what refuses it.
+fn read(
     alloc: Global,
-    set: &mut Touched,
-    answer: Result<Touched, LogWalkFault>,
-) -> Result<String, Fail> {
-    match answer {
-        Ok(found) => {
-            *set = found;
-            counted(alloc, set)
-        }
-        Err(fault) => Ok(format!(in alloc; "{fault:?}")?),
-    }
+    redo: Lsn,
+    end: Lsn,
+    cells: &str,
+) -> Result<Result<Touched, LogWalkFault>, Fail> {
+    let mut cursor = cursor_at(alloc, size()?, 0)?;
+    let mut tree = tree_of(alloc, cells)?;
+    Ok(touch_log(alloc, &mut cursor, &mut tree, redo, end))
 }
 
 /// How many chunks, cuts and databases a log touches, with their set, or what refuses it.
-fn touched(alloc: Global, set: &mut Touched, words: &str, cells: &str) -> Result<String, Fail> {
+fn touched(
+    alloc: Global,
+    told: &mut Told<'_>,
+    set: &mut Touched,
+    words: &str,
+    cells: &str,
+) -> Result<(), Fail> {
     let (redo, end) = cut_at(words, " ");
-    let (redo, end) = (Lsn(position(redo)?), Lsn(position(end)?));
-    let mut cursor = cursor(alloc, size()?)?;
-    let mut tree = tree_of(alloc, cells)?;
-    let answer = touch_log(alloc, &mut cursor, &mut tree, redo, end);
-    touched_text(alloc, set, answer)
+    match read(alloc, Lsn(position(redo)?), Lsn(position(end)?), cells)? {
+        Ok(found) => {
+            counted(told, &found);
+            *set = found;
+        }
+        Err(fault) => told.shows("", &fault),
+    }
+    Ok(())
 }
 
 /// How many chunks the log with the hint touches, by the three walks on one cursor.
@@ -94,26 +93,27 @@ fn three_walks<F: Tree>(
 }
 
 /// What the three walks answer where these reads fail.
-fn failing(alloc: Global, plan: &str) -> Result<String, Fail> {
-    let size = size()?;
-    let mut tree = FailingTree::new(tree_of(alloc, HINTED)?, plan_of(plan)?);
-    let mut cursor = cursor(alloc, size)?;
-    let chunks = three_walks(alloc, &mut cursor, &mut tree, size);
-    Ok(format!(in alloc; "{chunks:?}")?)
+fn failing(alloc: Global, told: &mut Told<'_>, plan: &str) -> Result<(), Fail> {
+    let (size, plan) = (size()?, plan_of(plan)?);
+    let mut tree = FailingTree::new(tree_of(alloc, HINTED)?, plan);
+    let mut cursor = cursor_at(alloc, size, 0)?;
+    told.shows("", &three_walks(alloc, &mut cursor, &mut tree, size));
+    Ok(())
 }
 
-/// What a walk answers, and in a set what it touches.
+/// Tells what a walk answers, and puts what it touches into a set.
 pub(crate) fn walked(
     alloc: Global,
+    told: &mut Told<'_>,
     set: &mut Touched,
     verb: &str,
     words: &str,
-) -> Result<String, Fail> {
+) -> Result<(), Fail> {
     let (words, cells) = cut_at(words, ": ");
     match verb {
-        "end" => end(alloc, words, cells),
-        "common" => common(alloc, words, cells),
-        "touch" => touched(alloc, set, words, cells),
-        _ => failing(alloc, words),
+        "end" => end(alloc, told, words, cells),
+        "common" => common(alloc, told, words, cells),
+        "touch" => touched(alloc, told, set, words, cells),
+        _ => failing(alloc, told, words),
     }
 }

@@ -1,34 +1,37 @@
 // Answers as texts.
+use crate::texts::owned;
 use cluster_tree::FileFault;
-use std::alloc::Global;
-use std::test::Fail;
+use std::process::Abort;
 
 /// A word, or the text of a fault.
-pub(crate) fn word(alloc: Global, found: Result<&str, FileFault>) -> Result<String, Fail> {
+pub(crate) fn word<R: AllocGlobal + Abort>(rt: &R, found: Result<&str, FileFault>) -> String {
     match found {
-        Ok(word) => Ok(String::from_str(alloc, word)?),
-        Err(fault) => Ok(format!(in alloc; "{fault}")?),
+        Ok(word) => owned(rt, word),
+        Err(fault) => format!(in rt.alloc(); "{fault}").expect(rt, "no memory"),
     }
 }
 
 /// `done`, or the text of a fault.
-pub(crate) fn ended(alloc: Global, done: Result<(), FileFault>) -> Result<String, Fail> {
-    word(alloc, done.map(|()| "done"))
+pub(crate) fn ended<R: AllocGlobal + Abort>(rt: &R, done: Result<(), FileFault>) -> String {
+    match done {
+        Ok(()) => owned(rt, "done"),
+        Err(fault) => word(rt, Err(fault)),
+    }
 }
 
 /// `done` of a whole layout, `short` of another, or the text of a fault.
-pub(crate) fn whole(alloc: Global, done: Result<bool, FileFault>) -> Result<String, Fail> {
-    word(
-        alloc,
-        done.map(|whole| if whole { "done" } else { "short" }),
-    )
+pub(crate) fn whole<R: AllocGlobal + Abort>(rt: &R, done: Result<bool, FileFault>) -> String {
+    match done {
+        Ok(false) => owned(rt, "short"),
+        Ok(true) => owned(rt, "done"),
+        Err(fault) => word(rt, Err(fault)),
+    }
 }
 
-/// A number, `none`, or the text of a fault.
-pub(crate) fn count(alloc: Global, found: Result<Option<u64>, FileFault>) -> Result<String, Fail> {
+/// A number, or the text of a fault.
+pub(crate) fn count<R: AllocGlobal + Abort>(rt: &R, found: Result<u64, FileFault>) -> String {
     match found {
-        Ok(Some(count)) => Ok(format!(in alloc; "{count}")?),
-        Ok(None) => word(alloc, Ok("none")),
-        Err(fault) => word(alloc, Err(fault)),
+        Ok(count) => format!(in rt.alloc(); "{count}").expect(rt, "no memory"),
+        Err(fault) => word(rt, Err(fault)),
     }
 }

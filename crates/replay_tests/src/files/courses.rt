@@ -1,11 +1,10 @@
 // A device that fails at each call in turn: the answer is of that call's own count, and the changes made are the first.
 use crate::files::{answer, faults, storage_faults};
-use crate::texts::cut_at;
+use crate::rows::{Rows, check};
+use crate::texts::{cut_at, owned, undashed};
 use crate::trees::tree_of;
 use cluster_tree::{ChangeCall, FailPlan, FailingTree, MemoryTree};
-use std::alloc::Global;
 use std::process::Abort;
-use std::test::Fail;
 
 /// A call, and how it goes.
 #[derive(Clone, Copy)]
@@ -28,62 +27,68 @@ fn course_of<'a>(row: &'a str, meant: &'a str) -> Course<'a> {
     Course {
         call,
         had,
-        device: if device == "-" { "" } else { device },
+        device: undashed(device),
         ends,
         changes,
     }
 }
 
-fn change_text(alloc: Global, call: &ChangeCall) -> Result<String, Fail> {
-    Ok(match call {
-        ChangeCall::Write(path, _, _) => format!(in alloc; "write {path}")?,
-        ChangeCall::Cut(path, _) => format!(in alloc; "cut {path}")?,
-        ChangeCall::MakeFile(path) => format!(in alloc; "file {path}")?,
-        ChangeCall::MakeFolder(path) => format!(in alloc; "folder {path}")?,
-        ChangeCall::Remove(path) => format!(in alloc; "remove {path}")?,
-        ChangeCall::Sync => String::from_str(alloc, "sync")?,
-    })
+fn change_text<R: AllocGlobal + Abort>(rt: &R, call: &ChangeCall) -> String {
+    let (verb, path) = match call {
+        ChangeCall::Write(path, _, _) => ("write", path),
+        ChangeCall::Cut(path, _) => ("cut", path),
+        ChangeCall::MakeFile(path) => ("file", path),
+        ChangeCall::MakeFolder(path) => ("folder", path),
+        ChangeCall::Remove(path) => ("remove", path),
+        ChangeCall::Sync => return owned(rt, "sync"),
+    };
+    format!(in rt.alloc(); "{verb} {path}").expect(rt, "no memory")
+}
+
+// Whether this is the tree's change at a place.
+fn is_change<R: AllocGlobal + Abort>(rt: &R, tree: &MemoryTree, at: usize, expected: &str) -> bool {
+    match tree.change(at) {
+        Some(call) => change_text(rt, call).as_str() == expected,
+        None => false,
+    }
 }
 
 // Whether the changes from a place on are so many, and the first of these.
-fn are_first(
-    alloc: Global,
+fn are_first<R: AllocGlobal + Abort>(
+    rt: &R,
     tree: &MemoryTree,
     from: usize,
     count: usize,
     changes: &str,
-) -> Result<bool, Fail> {
-    let mut made = 0;
+) -> bool {
+    let mut at = from;
     for expected in changes.split(", ").take(count) {
-        let Some(call) = tree.change(from.saturating_add(made)) else {
-            return Ok(false);
-        };
-        if change_text(alloc, call)?.as_str() != expected {
-            return Ok(false);
+        if !is_change(rt, tree, at, expected) {
+            return false;
         }
-        made = made.saturating_add(1);
+        at = at.saturating_add(1);
     }
-    Ok(made == count && tree.changes() == from.saturating_add(count))
+    at == from.saturating_add(count) && at == tree.changes()
 }
 
 // Whether the call goes so where the device's call of a number fails: this answer, and so many changes.
-fn goes(
-    alloc: Global,
+fn goes<R: AllocGlobal + Abort>(
+    rt: &R,
     course: &Course<'_>,
     number: u64,
     ends: &str,
     count: usize,
-) -> Result<bool, Fail> {
-    let within = tree_of(alloc, course.had, "")?;
+) -> bool {
+    let within = tree_of(rt, course.had, "");
     let from = within.changes();
     let mut tree = FailingTree::new(within, FailPlan::At(number));
-    let told = answer(alloc, &mut tree, course.call)?;
+    let told = answer(rt, &mut tree, course.call);
     let within = tree.into_inner();
-    Ok(told.as_str() == ends && are_first(alloc, &within, from, count, course.changes)?)
+    told.as_str() == ends && are_first(rt, &within, from, count, course.changes)
 }
 
 // The number of the first of the device's calls at which it goes otherwise.
-fn first_wrong(alloc: Global, course: &Course<'_>) -> Result<Option<u64>, Fail> {
+fn first_wrong<R: AllocGlobal + Abort>(rt: &R, course: &Course<'_>) -> Option<u64> {
     let mut number = 1;
     let mut count = 0;
     for &kind in course.device.as_bytes() {
@@ -92,41 +97,35 @@ fn first_wrong(alloc: Global, course: &Course<'_>) -> Result<Option<u64>, Fail> 
         } else {
             "a read failed"
         };
-        if !goes(alloc, course, number, ends, count)? {
-            return Ok(Some(number));
+        if !goes(rt, course, number, ends, count) {
+            return Some(number);
         }
-        if kind == b'w' {
-            count = count.saturating_add(1);
-        }
-        number = number.saturating_add(1);
+        count = usize::saturating_add(count, usize::from(kind == b'w'));
+        number = u64::saturating_add(number, 1);
     }
-    if !goes(alloc, course, number, course.ends, count)? {
-        return Ok(Some(number));
+    if goes(rt, course, number, course.ends, count) {
+        None
+    } else {
+        Some(number)
     }
-    Ok(None)
 }
 
-/// Each row's call goes as the row says.
-fn check_courses<R: AllocGlobal + Abort>(rt: &R, text: &str) -> Result<(), Fail> {
-    for line in text.split('\n') {
-        if let Some((row, meant)) = line.split_once(" = ") {
-            let course = course_of(row, meant);
-            assert_eq!(rt; first_wrong(rt.alloc(), &course)?, None, "{line}");
-        }
-    }
-    Ok(())
+/// A row's call goes as the row says, whichever of the device's calls fails.
+pub(crate) fn check_course<R: AllocGlobal + Abort>(rt: &R, row: &str, meant: &str) {
+    assert_eq!(rt; first_wrong(rt, &course_of(row, meant)), None, "{row}");
 }
 
 #[test]
-fn each_call_of_the_device_may_fail(rt: HostRuntime) -> Result<(), Fail> {
-    for text in [
-        faults::READS,
-        faults::EDITS,
-        faults::AREAS,
-        storage_faults::FORKS,
-        storage_faults::DATABASES,
-    ] {
-        check_courses(&rt, text)?;
-    }
-    Ok(())
+fn each_call_of_the_device_may_fail(rt: HostRuntime) {
+    check(
+        &rt,
+        Rows::Failing,
+        &[
+            faults::READS,
+            faults::EDITS,
+            faults::AREAS,
+            storage_faults::FORKS,
+            storage_faults::DATABASES,
+        ],
+    );
 }

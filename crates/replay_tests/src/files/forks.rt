@@ -1,14 +1,14 @@
 // The calls of storage_replay, and what each answers.
-ghost use Rattle.std.specs.Prelude.{◌<◌, ◌≤◌};
+ghost use Rattle.std.specs.Prelude.{◌≤◌, length};
 ghost use Rattle.storage_replay.specs.Files.{AreFit};
 
 use crate::files::answers::{count, ended, word};
 use crate::texts::{byte, cut_at, number};
+use crate::trees::zero_page;
 use block_refs::{BlockName, Fork, RelName};
-use cluster_tree::{Path, Tree};
+use cluster_tree::{FileFault, Path, Tree};
 use page_layout::Page;
-use std::alloc::Global;
-use std::test::Fail;
+use std::process::Abort;
 use storage_replay::{
     Files, Found, create, drop_relation, length, map_bits, read_block, truncate, write_block,
 };
@@ -19,79 +19,23 @@ const REL: RelName = RelName {
     relation: 16384,
 };
 
-fn fork_of(text: &str) -> Result<Fork, Fail> {
+fn fork_of<R: Abort>(rt: &R, text: &str) -> Fork {
     match text {
-        "main" => Ok(Fork::Main),
-        "fsm" => Ok(Fork::FreeSpace),
-        "vm" => Ok(Fork::Visibility),
-        "init" => Ok(Fork::Init),
-        _ => Err("no fork".into()),
-    }
-}
-
-const fn block_of(fork: Fork, block: u32) -> BlockName {
-    BlockName {
-        rel: REL,
-        fork,
-        block,
+        "main" => Fork::Main,
+        "fsm" => Fork::FreeSpace,
+        "vm" => Fork::Visibility,
+        "init" => Fork::Init,
+        _ => rt.panic("no fork"),
     }
 }
 
 // A block by its fork and its number.
-fn named(words: &str) -> Result<BlockName, Fail> {
-    let (fork, block) = cut_at(words, " ");
-    Ok(block_of(fork_of(fork)?, number(block)?))
-}
-
-// A page of one byte.
-fn page_of(alloc: Global, byte: u8) -> Result<Page, Fail> {
-    let mut page = Page::zero(alloc)?;
-    page.bytes_mut().fill(byte);
-    Ok(page)
-}
-
-// What is found, and the first and the last byte of the buffer, which held 9 before.
-fn read<F: Tree>(alloc: Global, tree: &mut F, at: &Files, name: BlockName) -> Result<String, Fail>
-    requires fit { AreFit at.now }
-{
-    if name.block == u32::MAX {
-        return Err("no such block".into());
+fn block_of<R: Abort>(rt: &R, fork: &str, block: &str) -> BlockName {
+    BlockName {
+        rel: REL,
+        fork: fork_of(rt, fork),
+        block: number(rt, block),
     }
-    let mut page = page_of(alloc, 9)?;
-    let found = match read_block(alloc, tree, at, name, &mut page) {
-        Ok(Found::Absent) => "absent",
-        Ok(Found::Zero) => "zero",
-        Ok(Found::Page) => "page",
-        Err(fault) => return word(alloc, Err(fault)),
-    };
-    let first = page.bytes()[0];
-    let last = page.bytes()[8191];
-    Ok(format!(in alloc; "{found} {first} {last}")?)
-}
-
-fn write<F: Tree>(
-    alloc: Global,
-    tree: &mut F,
-    at: &Files,
-    name: BlockName,
-    byte: u8,
-) -> Result<String, Fail>
-    requires fit { AreFit at.now }
-{
-    if name.block == u32::MAX {
-        return Err("no such block".into());
-    }
-    let page = page_of(alloc, byte)?;
-    ended(alloc, write_block(alloc, tree, at, name, &page))
-}
-
-fn sparse<F: Tree>(alloc: Global, tree: &mut F, at: &Files) -> Result<String, Fail>
-    requires fit { AreFit at.now }
-{
-    let done = write(alloc, tree, at, block_of(Fork::Main, 3), 7)?;
-    let first = read(alloc, tree, at, block_of(Fork::Main, 1))?;
-    let behind = read(alloc, tree, at, block_of(Fork::Main, 4))?;
-    Ok(format!(in alloc; "{done}, {first}, {behind}")?)
 }
 
 const fn shared_block(relation: u32) -> BlockName {
@@ -106,85 +50,151 @@ const fn shared_block(relation: u32) -> BlockName {
     }
 }
 
-// Writes a block, by its name and the byte of its page.
-fn write_named<F: Tree>(
-    alloc: Global,
+// A page of one byte.
+fn page_of<R: AllocGlobal + Abort>(rt: &R, byte: u8) -> Page {
+    let mut page = zero_page(rt);
+    page.bytes_mut().fill(byte);
+    page
+}
+
+// What is found, and the first and the last byte of the page.
+fn told_found<R: AllocGlobal + Abort>(
+    rt: &R,
+    found: Result<Found, FileFault>,
+    page: &[u8],
+) -> String {
+    let found = match found {
+        Ok(Found::Absent) => "absent",
+        Ok(Found::Zero) => "zero",
+        Ok(Found::Page) => "page",
+        Err(fault) => return word(rt, Err(fault)),
+    };
+    let first = page.first().copied().unwrap_or(0);
+    let last = page.last().copied().unwrap_or(0);
+    format!(in rt.alloc(); "{found} {first} {last}").expect(rt, "no memory")
+}
+
+// What is found, and the first and the last byte of the buffer, which held 9 before.
+fn read<F: Tree, R: AllocGlobal + Abort>(
+    rt: &R,
     tree: &mut F,
     at: &Files,
-    words: &str,
-) -> Result<String, Fail>
+    name: BlockName,
+) -> String
     requires fit { AreFit at.now }
 {
-    let (name, filling) = words.rsplit_once(' ').ok_or("no byte")?;
-    write(alloc, tree, at, named(name)?, byte(filling)?)
+    assert!(rt; name.block < u32::MAX, "no such block");
+    let mut page = page_of(rt, 9);
+    let found = read_block(rt.alloc(), tree, at, name, &mut page);
+    told_found(rt, found, page.bytes())
+}
+
+// Writes a block of one byte.
+fn write<F: Tree, R: AllocGlobal + Abort>(
+    rt: &R,
+    tree: &mut F,
+    at: &Files,
+    name: BlockName,
+    byte: u8,
+) -> String
+    requires fit { AreFit at.now }
+{
+    assert!(rt; name.block < u32::MAX, "no such block");
+    ended(
+        rt,
+        write_block(rt.alloc(), tree, at, name, &page_of(rt, byte)),
+    )
+}
+
+fn sparse<F: Tree, R: AllocGlobal + Abort>(rt: &R, tree: &mut F, at: &Files) -> String
+    requires fit { AreFit at.now }
+{
+    let done = write(rt, tree, at, block_of(rt, "main", "3"), 7);
+    let first = read(rt, tree, at, block_of(rt, "main", "1"));
+    let behind = read(rt, tree, at, block_of(rt, "main", "4"));
+    format!(in rt.alloc(); "{done}, {first}, {behind}").expect(rt, "no memory")
+}
+
+// The length of a fork, or that there is none.
+fn told_length<R: AllocGlobal + Abort>(rt: &R, blocks: Result<Option<u32>, FileFault>) -> String {
+    match blocks {
+        Ok(Some(blocks)) => count(rt, Ok(u64::from(blocks))),
+        Ok(None) => word(rt, Ok("none")),
+        Err(fault) => word(rt, Err(fault)),
+    }
 }
 
 // What a call on a block answers, or on a length.
-fn on_block<F: Tree>(
-    alloc: Global,
+fn on_block<F: Tree, R: AllocGlobal + Abort>(
+    rt: &R,
     tree: &mut F,
     at: &Files,
     verb: &str,
     words: &str,
-) -> Result<String, Fail>
+) -> String
     requires fit { AreFit at.now }
 {
+    let (first, behind) = cut_at(words, " ");
+    let (second, third) = cut_at(behind, " ");
     match verb {
-        "read" => read(alloc, tree, at, named(words)?),
-        "write" => write_named(alloc, tree, at, words),
-        "shared" => write(alloc, tree, at, shared_block(number(words)?), 1),
-        "length" => {
-            let blocks = length(alloc, tree, at, REL, fork_of(words)?);
-            count(alloc, blocks.map(|blocks| blocks.map(u64::from)))
-        }
-        "sparse" => sparse(alloc, tree, at),
-        _ => Err("no such call".into()),
+        "read" => read(rt, tree, at, block_of(rt, first, second)),
+        "write" => write(rt, tree, at, block_of(rt, first, second), byte(rt, third)),
+        "shared" => write(rt, tree, at, shared_block(number(rt, first)), 1),
+        "length" => told_length(rt, length(rt.alloc(), tree, at, REL, fork_of(rt, first))),
+        "sparse" => sparse(rt, tree, at),
+        _ => rt.panic("no such call"),
     }
 }
 
-fn run<F: Tree>(alloc: Global, tree: &mut F, at: &Files, call: &str) -> Result<String, Fail>
+// What a call on a fork or a relation answers, or else one on a block.
+fn run<F: Tree, R: AllocGlobal + Abort>(rt: &R, tree: &mut F, at: &Files, call: &str) -> String
     requires fit { AreFit at.now }
 {
     let (verb, words) = cut_at(call, " ");
     let (first, second) = cut_at(words, " ");
+    let alloc = rt.alloc();
     let done = match verb {
-        "truncate" => truncate(alloc, tree, at, REL, number(first)?, number(second)?),
-        "create" => create(alloc, tree, at, REL, fork_of(words)?),
+        "truncate" => truncate(alloc, tree, at, REL, number(rt, first), number(rt, second)),
+        "create" => create(alloc, tree, at, REL, fork_of(rt, first)),
         "drop" => {
-            let relation = number(words)?;
+            let relation = number(rt, first);
             drop_relation(alloc, tree, at, RelName { relation, ..REL })
         }
-        "bits" => map_bits(alloc, tree, at, REL, number(first)?, byte(second)? % 4),
-        _ => return on_block(alloc, tree, at, verb, words),
+        "bits" => map_bits(
+            alloc,
+            tree,
+            at,
+            REL,
+            number(rt, first),
+            byte(rt, second) % 4,
+        ),
+        _ => return on_block(rt, tree, at, verb, words),
     };
-    ended(alloc, done)
+    ended(rt, done)
 }
 
-// How many blocks a file has: two, but in the one row.
-fn per_file(call: &str) -> u32
-    ensures some { 0 < result }
-    ensures most { result ≤ 131072 }
+/// The files of the cluster at a root, each of at most so many blocks.
+pub(crate) fn files<R: AllocGlobal + Abort>(rt: &R, root: &Path, per_file: u32) -> Files
+    requires room { length root.now.parts ≤ 61 }
+    ensures { AreFit result }
 {
-    match call {
-        "sparse" => 131_072,
-        _ => 2,
+    assert!(rt; 0 < per_file && per_file <= 131_072, "no size of a file");
+    Files {
+        root: root.copy(rt.alloc()).expect(rt, "no memory"),
+        per_file,
     }
 }
 
 /// What a call on the cluster at a root answers, whose files have two blocks each but in one row.
 /// It is about relation 16384 of database 5, or another that is named.
-pub(crate) fn answer_fork<F: Tree>(
-    alloc: Global,
+pub(crate) fn answer_fork<F: Tree, R: AllocGlobal + Abort>(
+    rt: &R,
     tree: &mut F,
     root: &Path,
     call: &str,
-) -> Result<String, Fail> {
-    let at = Files {
-        root: root.copy(alloc)?,
-        per_file: per_file(call),
-    };
-    if at.root.len() > 61 {
-        return Err("too deep".into());
-    }
-    run(alloc, tree, &at, call)
+) -> String
+    requires room { length root.now.parts ≤ 61 }
+{
+    let per_file = if call == "sparse" { 131_072 } else { 2 };
+    run(rt, tree, &files(rt, root, per_file), call)
 }
