@@ -18,11 +18,13 @@ use Rattle.run_acts.specs.Causes.{IsFree}
 use Rattle.run_acts.specs.declared.cause.Cause.{Cause}
 use Rattle.cluster_causes.specs.Rewind.{rewind_cause}
 use Rattle.cmd_rewind.specs.Changes.{needed_changes}
-use Rattle.cmd_rewind.specs.Rewind.{AreOf, IsRewind, found_answer, made_acts, meant_answer, needed_answer, rewind_answer, rewind_report}
+use Rattle.cmd_rewind.specs.Rewind.{IsRewind, found_answer, made_acts, meant_answer, needed_answer, rewind_answer, rewind_report}
 use Rattle.cmd_rewind.specs.Tasks.{IsTaskFor, IsTaskOf, IsWet, planned_answer, task_acts}
 use Rattle.cmd_rewind.specs.declared.tasks.Task.{Task}
 use Rattle.cmd_rewind.specs.declared.tasks.Task.TheVariants as task
-use Rattle.cmd_rewind.proofs.BelowLemmas.{Aims, needed-of, plan-of, planned-aims}
+use Rattle.rewind_paths.specs.Laws.{AreOf}
+use Rattle.rewind_paths.proofs.BelowLemmas.{Aims, plan-of, planned-aims}
+use Rattle.cmd_rewind.proofs.BelowLemmas.{needed-of}
 use Rattle.cmd_rewind.proofs.MeantLemmas.{Looked, planned-looks}
 
 -- a rewind that is told of or made

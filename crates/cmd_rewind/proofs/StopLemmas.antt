@@ -16,7 +16,7 @@ use Rattle.rewind_core.specs.declared.outcome.Plan.{Plan}
 use Rattle.rewind_core.proofs.StopLemmas.{reads-leave, reads-on}
 use Rattle.run_acts.specs.declared.cause.Cause.{Cause}
 use Rattle.cmd_rewind.specs.Rewind.{IsDurable, IsLeftByRewind}
-use Rattle.cmd_rewind.proofs.BelowLemmas.{Aims, planned-aims}
+use Rattle.rewind_paths.proofs.BelowLemmas.{Aims, planned-aims}
 
 -- no call at all leaves all untouched
 pub still-left : (first : Moment) (n : Needing) → LeavesOnly (IsLeftBy n first) first.stops first.stops

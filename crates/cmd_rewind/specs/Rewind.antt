@@ -14,8 +14,9 @@ use Rattle.rewind_survey.specs.declared.outcome.Told.{Told}
 use Rattle.rewind_core.specs.Fits.{IsRewound}
 use Rattle.rewind_core.specs.Planned.{AtFork, Meant, Needing, Needs, OneTimeline, planned_of}
 use Rattle.rewind_core.specs.Stops.{IsUnderway}
+use Rattle.rewind_paths.specs.Laws.{AreOf}
 use Rattle.commands.specs.declared.rewind.RewindWords.{RewindWords}
-use Rattle.acts.specs.Acts.{Act, AreBelow, Do, Report}
+use Rattle.acts.specs.Acts.{Act, Do, Report}
 use Rattle.run_acts.specs.Answers.{Answer, refused, does}
 use Rattle.run_acts.specs.Causes.{IsOfLook}
 use Rattle.run_acts.specs.declared.cause.Cause.{Cause}
@@ -75,10 +76,6 @@ found_answer dry_run c (Err fault) = refused (rewind_cause fault)
 -- the time is in seconds since 1970
 abbrev pub rewind_answer : Contents → RewindWords → ℤ → Answer
 rewind_answer c words now = found_answer words.dry_run c (planned_of c words.target words.source now)
-
--- each of these changes is a sync, or of a path that the root holds
-abbrev pub AreOf : PathValue → List Change → Type 0
-AreOf root changes = AreBelow (root ∷ []) (map call_of changes)
 
 -- over every tree: a report, of a rewind only in a dry run; or else a rewind that is made, all of whose changes are of the target; or a refusal
 -- while it looks
