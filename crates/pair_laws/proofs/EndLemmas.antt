@@ -34,8 +34,8 @@ same_name root one other parts held =
 below_copy : (root : PathValue) (parts : List (List ℕ)) → Holds (target_of root) (below (copy_of root) parts) → ⊥
 below_copy root parts held = let byte : 99 ≡ 116 = same_name root (codes "t") (codes "c") parts held in absurd (omega (arith, byte))
 
-below_target : (root : PathValue) (parts : List (List ℕ)) → Holds (copy_of root) (below (target_of root) parts) → ⊥
-below_target root parts held = let byte : 116 ≡ 99 = same_name root (codes "c") (codes "t") parts held in absurd (omega (arith, byte))
+pub beside-copy : (root : PathValue) (parts : List (List ℕ)) → Holds (copy_of root) (below (target_of root) parts) → ⊥
+beside-copy root parts held = let byte : 116 ≡ 99 = same_name root (codes "c") (codes "t") parts held in absurd (omega (arith, byte))
 
 pub copy-stays : CopyStays
 copy-stays root seed blocks c d pair stays parts = stays (below (copy_of root) parts) (below_copy root parts) ∙ pair-at-c root seed blocks c pair.stands parts
@@ -72,4 +72,4 @@ pairs-end root seed blocks c c' target copy pair tried =
     let ended : IsSameCluster 131072 copy.files (copy_of root) target.files (target_of root) =
     subst (λ (a : After). IsSameCluster 131072 copy.files (copy_of root) a.files (target_of root)) other
     (subst (λ (a : After). IsSameCluster 131072 a.files (copy_of root) both.alike.after.files (target_of root)) one both.alike.same) in
-    same-stays 131072 copy.files target.files copy.files (copy_of root) (target_of root) (λ parts. tried.copy_alone (below (target_of root) parts) (below_target root parts)) ended
+    same-stays 131072 copy.files target.files copy.files (copy_of root) (target_of root) (λ parts. tried.copy_alone (below (target_of root) parts) (beside-copy root parts)) ended

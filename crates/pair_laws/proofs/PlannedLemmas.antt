@@ -43,13 +43,13 @@ use Rattle.pair_laws.proofs.ThereLemmas.{Holds, flawless, in_folders, source-hol
 
 -- ---- a root below which all that stands is as it is in a pair
 
-record IsThere {A : Type 0} (o : Option A) : Type 0 where
-  at : A
-  is : o ≡ Some at
+pub record IsThere {A : Type 0} (o : Option A) : Type 0 where
+  pub at : A
+  pub is : o ≡ Some at
 
-there_is : {A : Type 0} (o : Option A) → is_some o ≡ true → IsThere o
-there_is None h = absurd (true≢false (sym h))
-there_is (Some a) h = record { at = a; is = refl }
+pub there-is : {A : Type 0} (o : Option A) → is_some o ≡ true → IsThere o
+there-is None h = absurd (true≢false (sym h))
+there-is (Some a) h = record { at = a; is = refl }
 
 kind_is : (o : Option Entry) → is_some (kind_there o) ≡ true → IsThere o
 kind_is None h = absurd (true≢false (sym h))
@@ -71,7 +71,7 @@ module _ (c : Contents) (root : PathValue) (bytes : List ℕ) (is : IsCluster c 
 
   pub cluster-parts : HasParts c root
   cluster-parts parts some =
-      let there = there_is (entry_at c (below root parts)) some in
+      let there = there-is (entry_at c (below root parts)) some in
       list_all-append is_part root.parts parts ∙ ap (λ b. b && list_all is_part parts) is.proper ∙ (is.each parts there.at there.is).proper
 
   tells : TellsAll c root (filter_map walked (found_below c root))

@@ -94,12 +94,12 @@ none_of : (bytes : List ℕ) (parts : List (List ℕ)) (e : Entry) → relation_
 none_of bytes parts e none at is = absurd (cc)
 
 -- a file that is none of a relation's
-plain_sound : (parts : List (List ℕ)) (file : List ℕ) → relation_of (path_of false parts) ≡ None → entry_flaw (path_of false parts) (FileEntry file) ≡ None
-plain_sound parts file none = ap (λ o. if is_some o && not (length file % 8192 == 0) then Some (fault.OddSize (path_of false parts) (length file)) else None) none
+pub plain-sound : (parts : List (List ℕ)) (file : List ℕ) → relation_of (path_of false parts) ≡ None → entry_flaw (path_of false parts) (FileEntry file) ≡ None
+plain-sound parts file none = ap (λ o. if is_some o && not (length file % 8192 == 0) then Some (fault.OddSize (path_of false parts) (length file)) else None) none
 
-whole_if : (b : Bool) (path : PathValue) (size : ℕ) → size % 8192 ≡ 0 → (if b && not (size % 8192 == 0) then Some (fault.OddSize path size) else None) ≡ None
-whole_if true path size whole = ap (λ b. if not b then Some (fault.OddSize path size) else None) (eq-eqb (size % 8192) 0 whole)
-whole_if false path size whole = refl
+pub whole-sound : (b : Bool) (path : PathValue) (size : ℕ) → size % 8192 ≡ 0 → (if b && not (size % 8192 == 0) then Some (fault.OddSize path size) else None) ≡ None
+whole-sound true path size whole = ap (λ b. if not b then Some (fault.OddSize path size) else None) (eq-eqb (size % 8192) 0 whole)
+whole-sound false path size whole = refl
 
 some_same : (a b : RelName × ℕ) → Some a ≡ Some b → a ≡ b
 some_same a b h = cc h
@@ -188,7 +188,7 @@ module _ (bytes : List ℕ) (whole : length bytes % 8192 ≡ 0) where
     proper = refl;
     kind = tt;
     sort = refl;
-    sound = plain_sound (kept_parts (codes "PG_VERSION")) file no_version;
+    sound = plain-sound (kept_parts (codes "PG_VERSION")) file no_version;
     relation = none_of bytes (kept_parts (codes "PG_VERSION")) (FileEntry file) no_version;
     named = unnamed bytes (kept_parts (codes "PG_VERSION")) (FileEntry file) refl;
     kept = refl;
@@ -201,7 +201,7 @@ module _ (bytes : List ℕ) (whole : length bytes % 8192 ≡ 0) where
     proper = refl;
     kind = tt;
     sort = refl;
-    sound = plain_sound (kept_parts (codes "base/5/PG_VERSION")) file no_database_version;
+    sound = plain-sound (kept_parts (codes "base/5/PG_VERSION")) file no_database_version;
     relation = none_of bytes (kept_parts (codes "base/5/PG_VERSION")) (FileEntry file) no_database_version;
     named = unnamed bytes (kept_parts (codes "base/5/PG_VERSION")) (FileEntry file) refl;
     kept = refl;
@@ -214,7 +214,7 @@ module _ (bytes : List ℕ) (whole : length bytes % 8192 ≡ 0) where
     proper = refl;
     kind = tt;
     sort = refl;
-    sound = whole_if (is_some (relation_of (path_of false (kept_parts (codes "base/5/16384"))))) (path_of false (kept_parts (codes "base/5/16384"))) (length bytes) whole;
+    sound = whole-sound (is_some (relation_of (path_of false (kept_parts (codes "base/5/16384"))))) (path_of false (kept_parts (codes "base/5/16384"))) (length bytes) whole;
     relation = λ at is. (some_same at (pair_relation, 0) (sym is ∙ relation-here), refl);
     named = λ file its is named. same_name bytes its file only_file is named;
     kept = refl;
@@ -227,7 +227,7 @@ module _ (bytes : List ℕ) (whole : length bytes % 8192 ≡ 0) where
     proper = refl;
     kind = tt;
     sort = refl;
-    sound = plain_sound (kept_parts (codes "pg_wal/000000010000000000000001")) file no_first_log;
+    sound = plain-sound (kept_parts (codes "pg_wal/000000010000000000000001")) file no_first_log;
     relation = none_of bytes (kept_parts (codes "pg_wal/000000010000000000000001")) (FileEntry file) no_first_log;
     named = unnamed bytes (kept_parts (codes "pg_wal/000000010000000000000001")) (FileEntry file) refl;
     kept = refl;
@@ -240,7 +240,7 @@ module _ (bytes : List ℕ) (whole : length bytes % 8192 ≡ 0) where
     proper = refl;
     kind = tt;
     sort = refl;
-    sound = plain_sound (kept_parts (codes "pg_wal/00000002.history")) file no_history;
+    sound = plain-sound (kept_parts (codes "pg_wal/00000002.history")) file no_history;
     relation = none_of bytes (kept_parts (codes "pg_wal/00000002.history")) (FileEntry file) no_history;
     named = unnamed bytes (kept_parts (codes "pg_wal/00000002.history")) (FileEntry file) refl;
     kept = refl;
@@ -253,7 +253,7 @@ module _ (bytes : List ℕ) (whole : length bytes % 8192 ≡ 0) where
     proper = refl;
     kind = tt;
     sort = refl;
-    sound = plain_sound (kept_parts (codes "pg_wal/000000020000000000000001")) file no_second_log;
+    sound = plain-sound (kept_parts (codes "pg_wal/000000020000000000000001")) file no_second_log;
     relation = none_of bytes (kept_parts (codes "pg_wal/000000020000000000000001")) (FileEntry file) no_second_log;
     named = unnamed bytes (kept_parts (codes "pg_wal/000000020000000000000001")) (FileEntry file) refl;
     kept = refl;
@@ -266,7 +266,7 @@ module _ (bytes : List ℕ) (whole : length bytes % 8192 ≡ 0) where
     proper = refl;
     kind = tt;
     sort = refl;
-    sound = plain_sound (kept_parts (codes "global/pg_control")) file no_control;
+    sound = plain-sound (kept_parts (codes "global/pg_control")) file no_control;
     relation = none_of bytes (kept_parts (codes "global/pg_control")) (FileEntry file) no_control;
     named = unnamed bytes (kept_parts (codes "global/pg_control")) (FileEntry file) refl;
     kept = refl;
