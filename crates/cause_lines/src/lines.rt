@@ -226,6 +226,7 @@ fn path_cause_line(
         PathCause::NotFolder(path) => Line::Made(path_line(alloc, name, "NotFolder", path)?),
         PathCause::Link(path) => Line::Made(path_line(alloc, name, "Link", path)?),
         PathCause::NameNotText(path) => Line::Made(path_line(alloc, name, "NameNotText", path)?),
+        PathCause::Occupied(path) => Line::Made(path_line(alloc, name, "Occupied", path)?),
     })
 }
 
@@ -237,7 +238,6 @@ pub fn line_of(alloc: Global, name: Option<CommandName>, cause: &Cause) -> Resul
     Ok(match cause {
         Cause::Done => Line::Nothing,
         Cause::Usage => Line::Known(Fixed::Usage),
-        Cause::NotBuilt => Line::Known(Fixed::NotBuilt),
         Cause::ReadFault => Line::Known(Fixed::ReadFault),
         Cause::WriteFault => Line::Known(Fixed::WriteFault),
         Cause::SinkFault => Line::Known(Fixed::SinkFault),

@@ -1,4 +1,4 @@
--- The paths that a command's words give. Own: "Roots of at most 61 parts", "The folder of a dump", "The names of an archive", "The numbers of a reset".
+-- The paths that a command's words give. Own: "Roots of at most 61 parts", "The folder of a dump", "The names of an archive", "The numbers of a reset", "A pair from a number".
 use Rattle.std.specs.Prelude.{◌≡◌, ◌≤◌, true, is_some, length}
 use Rattle.archive_names.specs.Cleanup.{kept_of}
 use Rattle.cluster_tree.specs.Apart.{AreApart}
@@ -6,6 +6,7 @@ use Rattle.cluster_tree.specs.PathValue.{PathValue}
 use Rattle.commands.specs.declared.archivecleanup.ArchivecleanupWords.{ArchivecleanupWords}
 use Rattle.commands.specs.declared.command.Command.{Command}
 use Rattle.commands.specs.declared.command.Command.TheVariants as command
+use Rattle.commands.specs.declared.pair.PairWords.{PairWords}
 use Rattle.commands.specs.declared.resetwal.ResetwalWords.{ResetwalWords}
 use Rattle.commands.specs.declared.waldump.WaldumpWords.{WaldumpWords}
 use Rattle.commands.specs.declared.waldump.WaldumpWords.TheVariants as waldump
@@ -39,6 +40,11 @@ pub record IsFitResetwal (words : ResetwalWords) : Type 0 where
   pub depth : IsFitRoot words.root
   pub options : AreFitOptions words.options
 
+-- a pair's folder leaves room for its three clusters, of so many blocks each
+pub record IsFitPair (words : PairWords) : Type 0 where
+  pub depth : length words.root.parts ≤ 60
+  pub few : words.blocks ≤ 4096
+
 -- what a command may be carried out on
 abbrev pub IsFit : Command → Type 0
 IsFit (command.Rewind words) = AreFitRoots words.target words.source
@@ -48,3 +54,4 @@ IsFit (command.Resetwal words) = IsFitResetwal words
 IsFit (command.Archivecleanup words) = IsFitArchivecleanup words
 IsFit (command.Walreplay words) = IsFitRoot words.root
 IsFit (command.Walcompare words) = AreFitRoots words.first words.second
+IsFit (command.Pair words) = IsFitPair words

@@ -1,10 +1,10 @@
 // A command with what its words ask for.
 use crate::{
-    ArchivecleanupWords, ControldataWords, ResetwalWords, RewindWords, WalcompareWords,
+    ArchivecleanupWords, ControldataWords, PairWords, ResetwalWords, RewindWords, WalcompareWords,
     WaldumpWords, WalreplayWords,
 };
 
-/// A command with what its words ask for. Each command that is built has a variant.
+/// A command with what its words ask for.
 #[derive(Drop)]
 pub enum Command {
     /// pg_rewind.
@@ -21,4 +21,6 @@ pub enum Command {
     Walreplay(WalreplayWords),
     /// pg_walcompare.
     Walcompare(WalcompareWords),
+    /// pair.
+    Pair(PairWords),
 }

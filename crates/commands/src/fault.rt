@@ -8,9 +8,6 @@ pub enum CommandFault {
     /// The words are in no command's grammar, or break one of its rules.
     #[error("the words are in no command's grammar")]
     Usage,
-    /// The command isn't built yet.
-    #[error("the command isn't built yet")]
-    NotBuilt,
     /// A root or a folder has a part `..`.
     #[error("a path has a part '..'")]
     DotDot,

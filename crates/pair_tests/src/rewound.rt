@@ -27,8 +27,8 @@ const ROWS: [(u64, u32, &str); 7] = [
     (18446744073709551615, 10, "6 records to 0/100218"),
 ];
 
-// What a command puts on both outputs, where it is carried out.
-fn told(
+/// What a command puts on both outputs, where it is carried out.
+pub(crate) fn told(
     alloc: Global,
     tree: &mut MemoryTree,
     words: &[&str],

@@ -4,3 +4,4 @@ pub mod GrowSteps
 pub mod UnseenSteps
 pub mod MadeSteps
 pub mod LawLemmas
+pub mod WithinSteps

@@ -11,7 +11,6 @@ use Rattle.run_acts.specs.declared.cause.PathCause.TheVariants as paths
 abbrev pub ending_of : Cause → Ending
 ending_of cause.Done = Done
 ending_of cause.Usage = Refused
-ending_of cause.NotBuilt = Refused
 ending_of cause.ReadFault = ReadFailed
 ending_of cause.WriteFault = WriteFailed
 ending_of cause.SinkFault = SinkFailed
@@ -42,12 +41,12 @@ is_of_text paths.PathsOverlap = true
 is_of_text (paths.NotFolder path) = false
 is_of_text (paths.Link path) = false
 is_of_text (paths.NameNotText path) = false
+is_of_text (paths.Occupied path) = false
 
 -- what a command may answer of the files, whatever its words
 abbrev pub is_of_files : Cause → Bool
 is_of_files cause.Done = false
 is_of_files cause.Usage = false
-is_of_files cause.NotBuilt = false
 is_of_files cause.ReadFault = true
 is_of_files cause.WriteFault = false
 is_of_files cause.SinkFault = true
@@ -76,7 +75,6 @@ cause_of (Err e) = e
 abbrev pub has_values : Cause → Bool
 has_values cause.Done = false
 has_values cause.Usage = false
-has_values cause.NotBuilt = false
 has_values cause.ReadFault = false
 has_values cause.WriteFault = false
 has_values cause.SinkFault = false
@@ -89,6 +87,7 @@ has_values (cause.Paths paths.PathsOverlap) = false
 has_values (cause.Paths (paths.NotFolder path)) = true
 has_values (cause.Paths (paths.Link path)) = true
 has_values (cause.Paths (paths.NameNotText path)) = true
+has_values (cause.Paths (paths.Occupied path)) = true
 has_values (cause.Control c) = true
 has_values (cause.History (history.HistoryMissing root tli)) = true
 has_values (cause.History (history.BadLine root tli n)) = true
@@ -107,7 +106,6 @@ status_of cause.WriteFault = 3
 status_of cause.SinkFault = 3
 status_of cause.OutOfMemory = 4
 status_of cause.Usage = 1
-status_of cause.NotBuilt = 1
 status_of (cause.Changed path) = 1
 status_of (cause.Unfinished path) = 1
 status_of (cause.Paths p) = 1

@@ -6,15 +6,13 @@ use page_layout::RedoWhy;
 use wal_base::{Lsn, OutOfMemory};
 use wal_records::Why;
 
-/// Why a run ended. Each command that is built adds its causes.
+/// Why a run ended.
 #[derive(Drop)]
 pub enum Cause {
     /// The command was carried out.
     Done,
     /// The words are in no command's grammar.
     Usage,
-    /// The command isn't built yet.
-    NotBuilt,
     /// A read of the tree failed.
     ReadFault,
     /// A change of the tree failed.
@@ -65,6 +63,8 @@ pub enum PathCause {
     /// A folder holds a name that isn't text. In a rewind or a comparison it is the folder's path below
     /// its root.
     NameNotText(Path),
+    /// Something stands where a pair is to be made: the first such path.
+    Occupied(Path),
 }
 
 /// What is wrong with a control file. Its root comes first.

@@ -25,7 +25,6 @@ impl Exit {
             Cause::ReadFault | Cause::WriteFault | Cause::SinkFault => 3,
             Cause::OutOfMemory => 4,
             Cause::Usage
-            | Cause::NotBuilt
             | Cause::Changed(_)
             | Cause::Unfinished(_)
             | Cause::Paths(_)

@@ -5,6 +5,7 @@ use Rattle.clap.proofs.OnLiterals.{clap_on_literals}
 use Rattle.command_words.specs.Table.{command_with}
 use Rattle.tool_words.specs.Archivecleanup.{archivecleanup_table}
 use Rattle.tool_words.specs.Controldata.{controldata_table}
+use Rattle.tool_words.specs.Pair.{pair_table}
 use Rattle.tool_words.specs.Resetwal.{resetwal_table}
 use Rattle.tool_words.specs.Rewind.{rewind_table}
 use Rattle.tool_words.specs.Walcompare.{walcompare_table}
@@ -38,3 +39,7 @@ walreplay_is_simple = refl
 pub walcompare_is_simple : is_simple_and_free (command_with walcompare_table) ≡ true
 unfolding walcompare_table clap_on_literals
 walcompare_is_simple = refl
+
+pub pair_is_simple : is_simple_and_free (command_with pair_table) ≡ true
+unfolding pair_table clap_on_literals
+pair_is_simple = refl

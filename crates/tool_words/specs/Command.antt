@@ -1,5 +1,5 @@
 -- What the program's words ask for: PostgreSQL 16 manual, reference pages of pg_rewind, pg_controldata, pg_waldump, pg_resetwal and pg_archivecleanup. Own: "The order of what
--- is wrong with roots", "The folder of a dump", "Commands of this project's own".
+-- is wrong with roots", "The folder of a dump", "Commands of this project's own", "A pair from a number".
 use Rattle.std.specs.Prelude.{ℕ, ◌==◌, ◌||◌, Bool, true, false, if◌then◌else◌, List, length, codes, Option, None, Some, unwrap_or, option_map, Result, Ok, Err}
 use Rattle.cluster_tree.specs.Apart.{overlap}
 use Rattle.cluster_tree.specs.Causes.{given}
@@ -17,13 +17,15 @@ use Rattle.commands.specs.declared.name.CommandName.TheVariants as name
 use Rattle.commands.specs.declared.waldump.WaldumpWords.TheVariants as asked
 use Rattle.tool_words.specs.Archivecleanup.{archivecleanup_of}
 use Rattle.tool_words.specs.Controldata.{controldata_of}
-use Rattle.tool_words.specs.Paths.{root_named, folder_named}
+use Rattle.tool_words.specs.Pair.{pair_texts_of}
+use Rattle.tool_words.specs.Paths.{folder_named, pair_root_named, root_named}
 use Rattle.tool_words.specs.Resetwal.{resetwal_of}
 use Rattle.tool_words.specs.Rewind.{rewind_of}
 use Rattle.tool_words.specs.Walcompare.{walcompare_of}
 use Rattle.tool_words.specs.Waldump.{waldump_of}
 use Rattle.tool_words.specs.Walreplay.{walreplay_of}
 use Rattle.tool_words.specs.declared.archivecleanup.ArchivecleanupTexts.{ArchivecleanupTexts}
+use Rattle.tool_words.specs.declared.pair.PairTexts.{PairTexts}
 use Rattle.tool_words.specs.declared.resetwal.ResetwalTexts.{ResetwalTexts}
 use Rattle.tool_words.specs.declared.rewind.RewindTexts.{RewindTexts}
 use Rattle.tool_words.specs.declared.walcompare.WalcompareTexts.{WalcompareTexts}
@@ -127,7 +129,15 @@ abbrev pub archivecleanup_asked : Option ArchivecleanupTexts → Result Command 
 archivecleanup_asked None = Err fault.Usage
 archivecleanup_asked (Some words) = given (folder_named words.folder) (λ folder. Ok (cleanup_in_folder words folder))
 
--- what the words of the command of this name ask for; pair isn't built yet, whatever its words
+-- pair in its folder
+abbrev pub pair_in_folder : PairTexts → PathValue → Command
+pair_in_folder words root = command.Pair (record { seed = words.seed; blocks = words.blocks; root = root })
+
+abbrev pub pair_asked : Option PairTexts → Result Command CommandFault
+pair_asked None = Err fault.Usage
+pair_asked (Some words) = given (pair_root_named words.root) (λ root. Ok (pair_in_folder words root))
+
+-- what the words of the command of this name ask for
 unfoldable pub command_named : Option CommandName → List (List ℕ) → Result Command CommandFault
 command_named None words = Err fault.Usage
 command_named (Some name.PgRewind) words = rewind_asked (rewind_of words)
@@ -137,7 +147,7 @@ command_named (Some name.PgResetwal) words = resetwal_asked (resetwal_of words)
 command_named (Some name.PgArchivecleanup) words = archivecleanup_asked (archivecleanup_of words)
 command_named (Some name.PgWalreplay) words = given (root_asked (walreplay_of words)) (λ root. Ok (walreplay_at root))
 command_named (Some name.PgWalcompare) words = walcompare_asked (walcompare_of words)
-command_named (Some name.Pair) words = Err fault.NotBuilt
+command_named (Some name.Pair) words = pair_asked (pair_texts_of words)
 
 -- the command that the words ask for, or why there is none; the first word is its name
 abbrev pub command_of : List (List ℕ) → Result Command CommandFault

@@ -9,5 +9,6 @@ pub mod Resetwal
 pub mod Waldump
 pub mod Walreplay
 pub mod Walcompare
+pub mod Pair
 pub mod Command
 pub mod Laws

@@ -27,6 +27,10 @@ path_named most text = path_read most text (checked 0 text)
 abbrev pub root_named : List ℕ → Result PathValue CommandFault
 root_named = path_named 61
 
+-- the folder of a pair, which leaves room for three clusters
+abbrev pub pair_root_named : List ℕ → Result PathValue CommandFault
+pair_root_named = path_named 60
+
 -- the folder of a log, which leaves room for pg_wal and a file in it
 abbrev pub folder_named : List ℕ → Result PathValue CommandFault
 folder_named = path_named 62

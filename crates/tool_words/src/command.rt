@@ -5,8 +5,9 @@ ghost use Rattle.commands.specs.Faults.{IsFree};
 ghost use Rattle.commands.specs.Fit.{IsFit, IsFitRoot};
 ghost use Rattle.command_words.specs.Answers.{AnswersAs};
 ghost use Rattle.tool_words.specs.Command.{archivecleanup_asked, command_of, resetwal_asked, rewind_asked};
-ghost use Rattle.tool_words.specs.Command.{root_asked, walcompare_asked, waldump_asked};
+ghost use Rattle.tool_words.specs.Command.{pair_asked, root_asked, walcompare_asked, waldump_asked};
 ghost use Rattle.tool_words.specs.Archivecleanup.{archivecleanup_of};
+ghost use Rattle.tool_words.specs.Pair.{pair_texts_of};
 ghost use Rattle.tool_words.specs.Resetwal.{resetwal_of};
 ghost use Rattle.tool_words.specs.Rewind.{rewind_of};
 ghost use Rattle.tool_words.specs.Walcompare.{walcompare_of};
@@ -15,7 +16,8 @@ ghost use Rattle.tool_words.specs.Waldump.{waldump_of};
 use crate::archivecleanup::archivecleanup_words;
 use crate::controldata::controldata_words;
 use crate::dump::dump_asked;
-use crate::paths::{MOST_OF_FOLDER, MOST_OF_ROOT, path_named};
+use crate::pair::pair_words;
+use crate::paths::{MOST_OF_FOLDER, MOST_OF_PAIR, MOST_OF_ROOT, path_named};
 use crate::resetwal::resetwal_words;
 use crate::rewind::rewind_words;
 use crate::roots::two_roots;
@@ -25,8 +27,8 @@ use crate::walreplay::walreplay_words;
 use cluster_tree::Path;
 use command_words::WordsFault;
 use commands::{
-    ArchivecleanupWords, Command, CommandFault, CommandName, ControldataWords, ResetwalWords,
-    RewindWords, WalcompareWords, WaldumpWords, WalreplayWords, name_of,
+    ArchivecleanupWords, Command, CommandFault, CommandName, ControldataWords, PairWords,
+    ResetwalWords, RewindWords, WalcompareWords, WaldumpWords, WalreplayWords, name_of,
 };
 use std::alloc::Global;
 use wal_base::Text;
@@ -127,11 +129,28 @@ fn archivecleanup_asked(alloc: Global, words: &[String]) -> Result<Command, Comm
     }
 }
 
+fn pair_asked(alloc: Global, words: &[String]) -> Result<Command, CommandFault>
+    ensures answer { Meets IsFree (pair_asked (pair_texts_of (map string_bytes words.now))) result }
+    ensures fit { IfOk result IsFit }
+{
+    match pair_words(alloc, words) {
+        Ok(texts) => {
+            let root = path_named(alloc, MOST_OF_PAIR, texts.root.as_str())?;
+            Ok(Command::Pair(PairWords {
+                seed: texts.seed,
+                blocks: texts.blocks,
+                root,
+            }))
+        }
+        Err(WordsFault::Usage) => Err(CommandFault::Usage),
+        Err(WordsFault::OutOfMemory) => Err(CommandFault::OutOfMemory),
+    }
+}
+
 /// What the words ask for, the first of them being a command's name.
 ///
-/// Answers `Usage` where they are in no command's grammar, `NotBuilt` where they name a command that
-/// isn't built, `DotDot` and `TooDeep` for a root or a folder, and `PathsOverlap` for two roots; and
-/// `OutOfMemory` only for want of memory.
+/// Answers `Usage` where they are in no command's grammar, `DotDot` and `TooDeep` for a root or a
+/// folder, and `PathsOverlap` for two roots; and `OutOfMemory` only for want of memory.
 #[tactic(auto, unfolding(crate::specs::Command::command_named))]
 pub fn read_command(alloc: Global, words: &[String]) -> Result<Command, CommandFault>
     ensures answer { Meets IsFree (command_of (map string_bytes words.now)) result }
@@ -152,6 +171,6 @@ pub fn read_command(alloc: Global, words: &[String]) -> Result<Command, CommandF
             Ok(Command::Walreplay(WalreplayWords { root }))
         }
         Some(CommandName::PgWalcompare) => walcompare_asked(alloc, words),
-        Some(CommandName::Pair) => Err(CommandFault::NotBuilt),
+        Some(CommandName::Pair) => pair_asked(alloc, words),
     }
 }

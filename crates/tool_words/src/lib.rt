@@ -9,6 +9,7 @@ mod forms;
 mod front;
 mod laws;
 mod numbers;
+mod pair;
 mod paths;
 mod resetwal;
 mod rewind;

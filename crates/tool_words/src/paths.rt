@@ -14,6 +14,9 @@ use std::alloc::Global;
 /// A root leaves room for the files below it, up to the 64 parts of a path.
 pub(crate) const MOST_OF_ROOT: usize = 61;
 
+/// A pair's folder leaves room for its three clusters.
+pub(crate) const MOST_OF_PAIR: usize = 60;
+
 /// A folder leaves room for pg_wal and a file in it.
 pub(crate) const MOST_OF_FOLDER: usize = 62;
 

@@ -36,6 +36,11 @@ use Rattle.commands.specs.declared.walcompare.WalcompareWords.{WalcompareWords}
 use Rattle.cmd_walreplay.specs.Walreplay.{IsWalreplay, LeavesReplayed, StaysMarked, walreplay_answer}
 use Rattle.cmd_walreplay.proofs.FormLemmas.{answer-form as replay-form, answer-looks as replay-looks}
 use Rattle.commands.specs.declared.walreplay.WalreplayWords.{WalreplayWords}
+use Rattle.cmd_pair.specs.Pair.{IsPair, pair_answer}
+use Rattle.cmd_pair.specs.Tried.{LeavesPair}
+use Rattle.cmd_pair.proofs.FormLemmas.{answer-form as pair-form, answer-looks as pair-looks}
+use Rattle.commands.specs.declared.pair.PairWords.{PairWords}
+use Rattle.pair_maker.specs.Pair.{StaysBeside}
 use Rattle.wal_tools.specs.Answers.{IsAnswer, answered}
 use Rattle.rewound_laws.proofs.ConvergeLemmas.{follows}
 use Rattle.wal_tools.specs.Converges.{ConvergesAsked}
@@ -51,6 +56,7 @@ answered-form c now (Ok (command.Resetwal words)) = reset-form c words now
 answered-form c now (Ok (command.Archivecleanup words)) = cleanup-form c words
 answered-form c now (Ok (command.Walreplay words)) = replay-form c words
 answered-form c now (Ok (command.Walcompare words)) = compare-form c words
+answered-form c now (Ok (command.Pair words)) = pair-form c words
 answered-form c now (Err e) = refl
 
 pub answered-looks : (c : Contents) (now : ℤ) (asked : Result Command CommandFault) → Looks ((answered c now asked).acts)
@@ -61,6 +67,7 @@ answered-looks c now (Ok (command.Resetwal words)) = reset-looks c words now
 answered-looks c now (Ok (command.Archivecleanup words)) = cleanup-looks c words
 answered-looks c now (Ok (command.Walreplay words)) = replay-looks c words
 answered-looks c now (Ok (command.Walcompare words)) = compare-looks c words
+answered-looks c now (Ok (command.Pair words)) = pair-looks c words
 answered-looks c now (Err e) = tt
 
 -- what is carried out of words
@@ -176,6 +183,7 @@ converges_left (Ok (command.Resetwal words)) now tells c c' out out' left = tt
 converges_left (Ok (command.Archivecleanup words)) now tells c c' out out' left = tt
 converges_left (Ok (command.Walreplay words)) now tells c c' out out' left = tt
 converges_left (Ok (command.Walcompare words)) now tells c c' out out' left = tt
+converges_left (Ok (command.Pair words)) now tells c c' out out' left = tt
 converges_left (Err e) now tells c c' out out' left = tt
 
 -- what pg_walreplay does is seen where the tree tells
@@ -203,6 +211,31 @@ replayed_at {k} {words} r now tells c c' out out' is left = let Q : Command → 
 pub stays_at : {k : Command} {words : WalreplayWords} (c c' : Contents) {ended : Cause} → k ≡ command.Walreplay words → StaysMarked words c c' ended → StaysAsked (Ok k) c c' ended
 stays_at {k} {words} c c' {ended} is stays = let Q : Command → Type 0 = λ x. StaysAsked (Ok x) c c' ended in subst Q (sym is) stays
 
+-- what pair does is seen where the tree tells
+seen_pair : (T : Type 0) (words : PairWords) → IsSeen T (Ok (command.Pair words)) → T
+seen_pair T words (inl t) = t
+seen_pair T words (inr none) = absurd (none tt)
+
+-- it was carried out
+pub of_pair : (tells : Bool) (c : Contents) (now : ℤ) {k : Command} {words : PairWords} {o e : Bool} {ended : Cause} {s u : Seen} → k ≡ command.Pair words
+    → CarriesUnseen (IsTrue tells) (IsTrue tells) (pair_answer c words) (IsPair words) o e ended s u → CarriesOut tells c now o e (Ok k) ended s u
+of_pair tells c now {words = words} {o} {e} {ended} {s} {u} is p =
+    let P : Command → Type 0 = λ x. CarriesOut tells c now o e (Ok x) ended s u in
+    subst P (sym is) (unseen_by (seen_pair (IsTrue tells) words) (λ t. inl t) (unseen_known (by_tree tells) p))
+
+-- it may change files
+pub pair_may : {k : Command} {words : PairWords} → k ≡ command.Pair words → MayChange (Ok k)
+pair_may {k} {words} is = let P : Command → Type 0 = λ x. MayChange (Ok x) in subst P (sym is) tt
+
+-- what it leaves
+pub paired_at : {k : Command} {words : PairWords} (r : Result (Unit {0}) Cause) (now : ℤ) (tells : Bool) (c c' : Contents) (out out' : List ℕ) → k ≡ command.Pair words → OnOk r (LeavesPair words tells c c' out out')
+    → OnOk r (LeavesAsked (Ok k) now tells c c' out out')
+paired_at {k} {words} r now tells c c' out out' is left = let Q : Command → Type 0 = λ x. OnOk r (LeavesAsked (Ok x) now tells c c' out out') in subst Q (sym is) left
+
+-- and what stays
+pub beside_at : {k : Command} {words : PairWords} (c c' : Contents) (ended : Cause) → k ≡ command.Pair words → StaysBeside words.root c c' → StaysAsked (Ok k) c c' ended
+beside_at {k} {words} c c' ended is stays = let Q : Command → Type 0 = λ x. StaysAsked (Ok x) c c' ended in subst Q (sym is) stays
+
 -- what stays does so where a fault of a device, or want of memory, stands in place of the cause
 stays_free : (asked : Result Command CommandFault) (c c' : Contents) (own : Cause) {ended : Cause} → IsFree ended → StaysAsked asked c c' own → StaysAsked asked c c' ended
 stays_free (Ok (command.Rewind words)) c c' own free stays = tt
@@ -212,6 +245,7 @@ stays_free (Ok (command.Resetwal words)) c c' own free stays = tt
 stays_free (Ok (command.Archivecleanup words)) c c' own free stays = tt
 stays_free (Ok (command.Walreplay words)) c c' own free stays = record { log = stays.log; mark = λ s is. inl free }
 stays_free (Ok (command.Walcompare words)) c c' own free stays = tt
+stays_free (Ok (command.Pair words)) c c' own free stays = stays
 stays_free (Err e) c c' own free stays = tt
 
 -- where nothing was done, for want of memory
@@ -223,6 +257,7 @@ stays_unmade (Ok (command.Resetwal words)) c = tt
 stays_unmade (Ok (command.Archivecleanup words)) c = tt
 stays_unmade (Ok (command.Walreplay words)) c = record { log = λ path holds. refl; mark = λ s is. inl (inr (inr (inr refl))) }
 stays_unmade (Ok (command.Walcompare words)) c = tt
+stays_unmade (Ok (command.Pair words)) c = λ path beside. refl
 stays_unmade (Err e) c = tt
 
 -- where the words are refused
@@ -268,6 +303,7 @@ needless (Ok (command.Resetwal words)) need may = need
 needless (Ok (command.Archivecleanup words)) need may = need
 needless (Ok (command.Walreplay words)) need may = need
 needless (Ok (command.Walcompare words)) need may = need
+needless (Ok (command.Pair words)) need may = need
 needless (Err e) need may = may
 
 seen_by : (T : Type 0) (asked : Result Command CommandFault) → T ⊎ NeedsNoTree asked → IsSeen T asked
@@ -281,7 +317,6 @@ module _ (tells : Bool) (c : Contents) (now : ℤ) (asked : Result Command Comma
 
   refuses : (f : CommandFault) → CarriesOut tells c now o e (Err f) (words_cause f) (seen c k out err) (seen c k out err)
   refuses fault.Usage = unseen_still refl refl (λ d j. carries_refused cause.Usage refl (λ h. refl) refl refl refl)
-  refuses fault.NotBuilt = unseen_still refl refl (λ d j. carries_refused cause.NotBuilt refl (λ h. refl) refl refl refl)
   refuses fault.DotDot = unseen_still refl refl (λ d j. carries_refused (words_cause fault.DotDot) refl (λ h. refl) refl refl refl)
   refuses (fault.TooDeep path) = unseen_still refl refl (λ d j. carries_refused (words_cause (fault.TooDeep path)) refl (λ h. refl) refl refl refl)
   refuses fault.PathsOverlap = unseen_still refl refl (λ d j. carries_refused (words_cause fault.PathsOverlap) refl (λ h. refl) refl refl refl)

@@ -10,9 +10,12 @@ use Rattle.commands.specs.declared.command.Command.{Command}
 use Rattle.commands.specs.declared.command.Command.TheVariants as command
 use Rattle.commands.specs.declared.fault.CommandFault.{CommandFault}
 use Rattle.commands.specs.declared.archivecleanup.ArchivecleanupWords.{ArchivecleanupWords}
+use Rattle.commands.specs.declared.pair.PairWords.{PairWords}
 use Rattle.commands.specs.declared.resetwal.ResetwalWords.{ResetwalWords}
 use Rattle.commands.specs.declared.rewind.RewindWords.{RewindWords}
 use Rattle.commands.specs.declared.walreplay.WalreplayWords.{WalreplayWords}
+use Rattle.cmd_archivecleanup.specs.Left.{IsLeftByCleanup}
+use Rattle.cmd_pair.specs.Left.{IsLeftByPair}
 use Rattle.cmd_resetwal.specs.Resetwal.{IsLeftByReset}
 use Rattle.cmd_rewind.specs.Rewind.{IsDurable, IsLeftByRewind}
 use Rattle.cmd_walreplay.specs.Walreplay.{IsLeftByWalreplay}
@@ -29,9 +32,10 @@ within (Ok (command.Rewind words)) now first c u = inl u
 within (Ok (command.Controldata words)) now first c u = u
 within (Ok (command.Waldump words)) now first c u = u
 within (Ok (command.Resetwal words)) now first c u = inl u
-within (Ok (command.Archivecleanup words)) now first c u = tt
+within (Ok (command.Archivecleanup words)) now first c u = (c, u, λ path. inl refl)
 within (Ok (command.Walreplay words)) now first c u = inl u
 within (Ok (command.Walcompare words)) now first c u = u
+within (Ok (command.Pair words)) now first c u = (c, u, λ path beside. refl)
 within (Err e) now first c u = u
 
 -- nothing was done
@@ -45,8 +49,12 @@ pub read_left : {F : Type 0} (t : Ghosts F) (asked : Result Command CommandFault
 read_left t asked now old new reads = subst (LeavesOnly (IsLeftAsked asked now (moment_of t old)) (t.stops old)) (sym reads.unstopped) (still_left asked now (moment_of t old))
 
 -- pg_archivecleanup was carried out
-pub left_of_cleanup : {k : Command} {words : ArchivecleanupWords} (now : ℤ) (first : Moment) (a b : Stops) → k ≡ command.Archivecleanup words → LeavesOnly (IsLeftAsked (Ok k) now first) a b
-left_of_cleanup {k} {words} now first a b is = let P : Command → Type 0 = λ x. LeavesOnly (IsLeftAsked (Ok x) now first) a b in subst P (sym is) (record { each = λ c left. tt })
+pub left_of_cleanup : {k : Command} {words : ArchivecleanupWords} (now : ℤ) (first : Moment) (a b : Stops) → k ≡ command.Archivecleanup words → LeavesOnly (IsLeftByCleanup words first) a b → LeavesOnly (IsLeftAsked (Ok k) now first) a b
+left_of_cleanup {k} {words} now first a b is left = let P : Command → Type 0 = λ x. LeavesOnly (IsLeftAsked (Ok x) now first) a b in subst P (sym is) left
+
+-- pair was
+pub left_of_pair : {k : Command} {words : PairWords} (now : ℤ) (first : Moment) (a b : Stops) → k ≡ command.Pair words → LeavesOnly (IsLeftByPair words first) a b → LeavesOnly (IsLeftAsked (Ok k) now first) a b
+left_of_pair {k} {words} now first a b is left = let P : Command → Type 0 = λ x. LeavesOnly (IsLeftAsked (Ok x) now first) a b in subst P (sym is) left
 
 -- pg_rewind was, with the time under another name
 pub left_of_rewind : {k : Command} {words : RewindWords} {n m : ℤ} (first : Moment) (a b : Stops) → k ≡ command.Rewind words → n ≡ m → LeavesOnly (IsLeftByRewind words n first) a b → LeavesOnly (IsLeftAsked (Ok k) m first) a b

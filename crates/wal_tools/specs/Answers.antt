@@ -7,6 +7,7 @@ use Rattle.commands.specs.declared.fault.CommandFault.{CommandFault}
 use Rattle.run_acts.specs.Answers.{Answer, refused}
 use Rattle.cmd_archivecleanup.specs.Archivecleanup.{IsArchivecleanup, archivecleanup_answer}
 use Rattle.cmd_controldata.specs.Controldata.{IsControldata, controldata_answer}
+use Rattle.cmd_pair.specs.Pair.{IsPair, pair_answer}
 use Rattle.cmd_resetwal.specs.Resetwal.{IsResetwal, resetwal_answer}
 use Rattle.cmd_rewind.specs.Rewind.{IsRewind, rewind_answer}
 use Rattle.cmd_walcompare.specs.Walcompare.{IsWalcompare, walcompare_answer}
@@ -23,6 +24,7 @@ answered c now (Ok (command.Resetwal words)) = resetwal_answer c words now
 answered c now (Ok (command.Archivecleanup words)) = archivecleanup_answer c words
 answered c now (Ok (command.Walreplay words)) = walreplay_answer c words
 answered c now (Ok (command.Walcompare words)) = walcompare_answer c words
+answered c now (Ok (command.Pair words)) = pair_answer c words
 answered c now (Err e) = refused (words_cause e)
 
 -- what the command may do over any tree
@@ -34,4 +36,5 @@ IsAnswer now (Ok (command.Resetwal words)) answer = IsResetwal words now answer
 IsAnswer now (Ok (command.Archivecleanup words)) answer = IsArchivecleanup words answer
 IsAnswer now (Ok (command.Walreplay words)) answer = IsWalreplay words answer
 IsAnswer now (Ok (command.Walcompare words)) answer = IsWalcompare answer
+IsAnswer now (Ok (command.Pair words)) answer = IsPair words answer
 IsAnswer now (Err e) answer = answer ≡ refused (words_cause e)

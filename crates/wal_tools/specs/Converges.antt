@@ -18,4 +18,5 @@ ConvergesAsked (Ok (command.Resetwal words)) now c c' = Unit {0}
 ConvergesAsked (Ok (command.Archivecleanup words)) now c c' = Unit {0}
 ConvergesAsked (Ok (command.Walreplay words)) now c c' = Unit {0}
 ConvergesAsked (Ok (command.Walcompare words)) now c c' = Unit {0}
+ConvergesAsked (Ok (command.Pair words)) now c c' = Unit {0}
 ConvergesAsked (Err e) now c c' = Unit {0}

@@ -1,17 +1,21 @@
--- What a run of pg_rewind and of pg_walreplay leaves, and what one of pg_walcompare found: PostgreSQL 16 manual, reference page of pg_rewind;
--- src/backend/access/transam/xlogrecovery.c, PerformWalRecovery. Own: "The plan of a rewind", "The answer of a replay", "What a comparison of clusters shows".
+-- What a run of pg_rewind, of pg_walreplay and of pair leaves, and what one of pg_walcompare found: PostgreSQL 16 manual, reference page of pg_rewind;
+-- src/backend/access/transam/xlogrecovery.c, PerformWalRecovery. Own: "The plan of a rewind", "The answer of a replay", "What a comparison of clusters shows",
+-- "A pair from a number".
 use Rattle.std.specs.Prelude.{ℕ, ℤ, Bool, List, Result, Ok, Err}
 use Rattle.cluster_tree.specs.Contents.{Contents}
 use Rattle.commands.specs.declared.command.Command.{Command}
 use Rattle.commands.specs.declared.command.Command.TheVariants as command
 use Rattle.commands.specs.declared.fault.CommandFault.{CommandFault}
+use Rattle.cmd_pair.specs.Tried.{LeavesPair}
 use Rattle.cmd_rewind.specs.Rewind.{LeavesRewound}
 use Rattle.cmd_walcompare.specs.Walcompare.{AreSame}
 use Rattle.cmd_walreplay.specs.Walreplay.{LeavesReplayed, StaysMarked}
+use Rattle.pair_maker.specs.Pair.{StaysBeside}
 use Rattle.run_acts.specs.declared.cause.Cause.{Cause}
 
 -- What a run leaves that is done. A rewind that was asked for, needed and made leaves the rewound tree below the target's root, path by path. A replay
--- leaves the replayed files, and standard output goes on by the line on their log. Of a comparison the two clusters are the same.
+-- leaves the replayed files, and standard output goes on by the line on their log. Of a comparison the two clusters are the same. Of
+-- pair the three clusters were made and tried, and standard output goes on by the line on them.
 abbrev pub LeavesAsked : Result Command CommandFault → ℤ → (tells : Bool) → (c c' : Contents) → (out out' : List ℕ) → Type 0
 LeavesAsked (Ok (command.Rewind words)) now tells c c' out out' = LeavesRewound words now c c'
 LeavesAsked (Ok (command.Controldata words)) now tells c c' out out' = Unit {0}
@@ -20,9 +24,11 @@ LeavesAsked (Ok (command.Resetwal words)) now tells c c' out out' = Unit {0}
 LeavesAsked (Ok (command.Archivecleanup words)) now tells c c' out out' = Unit {0}
 LeavesAsked (Ok (command.Walreplay words)) now tells c c' out out' = LeavesReplayed words tells c c' out out'
 LeavesAsked (Ok (command.Walcompare words)) now tells c c' out out' = AreSame c words
+LeavesAsked (Ok (command.Pair words)) now tells c c' out out' = LeavesPair words tells c c' out out'
 LeavesAsked (Err e) now tells c c' out out' = Unit {0}
 
--- What a run leaves whatever its cause. A replay leaves the log as it was, and the mark where it is refused behind its first change.
+-- What a run leaves whatever its cause. A replay leaves the log as it was, and the mark where it is refused behind its first change; pair
+-- leaves all but its three clusters as it was.
 abbrev pub StaysAsked : Result Command CommandFault → (c c' : Contents) → (ended : Cause) → Type 0
 StaysAsked (Ok (command.Rewind words)) c c' ended = Unit {0}
 StaysAsked (Ok (command.Controldata words)) c c' ended = Unit {0}
@@ -31,4 +37,5 @@ StaysAsked (Ok (command.Resetwal words)) c c' ended = Unit {0}
 StaysAsked (Ok (command.Archivecleanup words)) c c' ended = Unit {0}
 StaysAsked (Ok (command.Walreplay words)) c c' ended = StaysMarked words c c' ended
 StaysAsked (Ok (command.Walcompare words)) c c' ended = Unit {0}
+StaysAsked (Ok (command.Pair words)) c c' ended = StaysBeside words.root c c'
 StaysAsked (Err e) c c' ended = Unit {0}

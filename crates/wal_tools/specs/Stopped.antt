@@ -5,21 +5,24 @@ use Rattle.cluster_tree.specs.Run.{Moment}
 use Rattle.commands.specs.declared.command.Command.{Command}
 use Rattle.commands.specs.declared.command.Command.TheVariants as command
 use Rattle.commands.specs.declared.fault.CommandFault.{CommandFault}
+use Rattle.cmd_archivecleanup.specs.Left.{IsLeftByCleanup}
+use Rattle.cmd_pair.specs.Left.{IsLeftByPair}
 use Rattle.cmd_resetwal.specs.Resetwal.{IsLeftByReset}
 use Rattle.cmd_rewind.specs.Rewind.{IsDurable, IsLeftByRewind}
 use Rattle.cmd_walreplay.specs.Walreplay.{IsLeftByWalreplay}
 use Rattle.marked_runs.specs.Moments.{IsUntouched, StandsSynced}
 
--- A command that changes a cluster leaves it untouched, marked as unfinished or whole; one that only reads leaves all untouched. Of pg_archivecleanup, which
--- has no mark, nothing is said.
+-- A command that changes a cluster leaves it untouched, marked as unfinished or whole; a clean-up leaves all but some of the files that go, and pair all but
+-- its three clusters; one that only reads leaves all untouched.
 abbrev pub IsLeftAsked : Result Command CommandFault → ℤ → Moment → Contents → Type 0
 IsLeftAsked (Ok (command.Rewind words)) now first c = IsLeftByRewind words now first c
 IsLeftAsked (Ok (command.Controldata words)) now first c = IsUntouched first c
 IsLeftAsked (Ok (command.Waldump words)) now first c = IsUntouched first c
 IsLeftAsked (Ok (command.Resetwal words)) now first c = IsLeftByReset words now first c
-IsLeftAsked (Ok (command.Archivecleanup words)) now first c = Unit {0}
+IsLeftAsked (Ok (command.Archivecleanup words)) now first c = IsLeftByCleanup words first c
 IsLeftAsked (Ok (command.Walreplay words)) now first c = IsLeftByWalreplay words first c
 IsLeftAsked (Ok (command.Walcompare words)) now first c = IsUntouched first c
+IsLeftAsked (Ok (command.Pair words)) now first c = IsLeftByPair words first c
 IsLeftAsked (Err e) now first c = IsUntouched first c
 
 -- Once it is done, a stop leaves what stands, and nothing else: of a rewind that was asked for and needed, of a reset that was asked for, and of a replay.
@@ -31,4 +34,5 @@ IsDurableAsked (Ok (command.Resetwal words)) now c moment = words.options.dry �
 IsDurableAsked (Ok (command.Archivecleanup words)) now c moment = Unit {0}
 IsDurableAsked (Ok (command.Walreplay words)) now c moment = StandsSynced moment.state.contents moment
 IsDurableAsked (Ok (command.Walcompare words)) now c moment = Unit {0}
+IsDurableAsked (Ok (command.Pair words)) now c moment = Unit {0}
 IsDurableAsked (Err e) now c moment = Unit {0}

@@ -13,7 +13,6 @@ use Rattle.cmd_waldump.specs.Waldump.{AskForList, BreakRule}
 -- the cause of words that ask for no command
 abbrev pub words_cause : CommandFault → Cause
 words_cause fault.Usage = cause.Usage
-words_cause fault.NotBuilt = cause.NotBuilt
 words_cause fault.DotDot = cause.Paths paths.DotDot
 words_cause (fault.TooDeep path) = cause.Paths (paths.TooDeep path)
 words_cause fault.PathsOverlap = cause.Paths paths.PathsOverlap
@@ -28,6 +27,7 @@ refused_by_words (Ok (command.Resetwal words)) = None
 refused_by_words (Ok (command.Archivecleanup words)) = None
 refused_by_words (Ok (command.Walreplay words)) = None
 refused_by_words (Ok (command.Walcompare words)) = None
+refused_by_words (Ok (command.Pair words)) = None
 refused_by_words (Err e) = Some (words_cause e)
 
 -- Words are faulty: they are in no command's grammar, or they are pg_waldump's and break a rule on its start and its end where segments have some size.
@@ -39,6 +39,7 @@ AreFaulty (Ok (command.Resetwal words)) = ⊥
 AreFaulty (Ok (command.Archivecleanup words)) = ⊥
 AreFaulty (Ok (command.Walreplay words)) = ⊥
 AreFaulty (Ok (command.Walcompare words)) = ⊥
+AreFaulty (Ok (command.Pair words)) = ⊥
 AreFaulty (Err e) = e ≡ fault.Usage
 
 -- what is asked for needs no tree: the list of resource managers, and words that refuse alone
@@ -50,9 +51,10 @@ NeedsNoTree (Ok (command.Resetwal words)) = ⊥
 NeedsNoTree (Ok (command.Archivecleanup words)) = ⊥
 NeedsNoTree (Ok (command.Walreplay words)) = ⊥
 NeedsNoTree (Ok (command.Walcompare words)) = ⊥
+NeedsNoTree (Ok (command.Pair words)) = ⊥
 NeedsNoTree (Err e) = Unit {0}
 
--- a command that may make changing calls: pg_rewind, pg_resetwal and pg_archivecleanup, but for a dry run, and pg_walreplay
+-- a command that may make changing calls: pg_rewind, pg_resetwal and pg_archivecleanup, but for a dry run, pg_walreplay and pair
 abbrev pub MayChange : Result Command CommandFault → Type 0
 MayChange (Ok (command.Rewind words)) = IsTrue (not words.dry_run)
 MayChange (Ok (command.Controldata words)) = ⊥
@@ -61,6 +63,7 @@ MayChange (Ok (command.Resetwal words)) = IsTrue (not (is_some words.options.dry
 MayChange (Ok (command.Archivecleanup words)) = IsTrue (not words.dry_run)
 MayChange (Ok (command.Walreplay words)) = Unit {0}
 MayChange (Ok (command.Walcompare words)) = ⊥
+MayChange (Ok (command.Pair words)) = Unit {0}
 MayChange (Err e) = ⊥
 
 -- a command that walks over folders, or removes those that a record names, and may find a path below its roots that is too deep
@@ -72,6 +75,7 @@ Walks (Ok (command.Resetwal words)) = ⊥
 Walks (Ok (command.Archivecleanup words)) = ⊥
 Walks (Ok (command.Walreplay words)) = Unit {0}
 Walks (Ok (command.Walcompare words)) = Unit {0}
+Walks (Ok (command.Pair words)) = ⊥
 Walks (Err e) = ⊥
 
 -- what a run does to the tree is seen: the tree tells what it holds, or the command changes nothing

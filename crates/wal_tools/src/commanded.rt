@@ -16,6 +16,7 @@ ghost use Rattle.wal_tools.specs.Words.{AreFaulty, IsSeen, MayChange, NeedsNoTre
 use cluster_tree::{Sink, Tree};
 use cmd_archivecleanup::archivecleanup;
 use cmd_controldata::controldata;
+use cmd_pair::pair;
 use cmd_resetwal::resetwal;
 use cmd_rewind::rewind;
 use cmd_walcompare::walcompare;
@@ -78,5 +79,6 @@ pub(crate) fn carry_out<F: Tree, O: Sink, E: Sink>(
         Command::Archivecleanup(words) => archivecleanup(alloc, tree, out, err, words),
         Command::Walreplay(words) => walreplay(alloc, tree, out, words),
         Command::Walcompare(words) => walcompare(alloc, tree, out, words),
+        Command::Pair(words) => pair(alloc, tree, out, words),
     }
 }

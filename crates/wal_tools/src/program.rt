@@ -75,8 +75,6 @@ fn answer<F: Tree, O: Sink, E: Sink>(
     ensures durable { IsTrue F.tells → OnOk result (IsDurableAsked
         (command_of (map string_bytes words.now)) now (F.contents tree.old)
         (moment_of F.Tree tree.new)) }
-    ensures built { result ≡ Err Cause.NotBuilt →
-        refused_by_words (command_of (map string_bytes words.now)) ≡ Some Cause.NotBuilt }
     ensures undone { result ≢ Err Cause.Done }
 {
     match command_of(alloc, words) {
@@ -137,7 +135,7 @@ pub fn run<F: Tree, O: Sink, E: Sink>(
     ensures changed { IsTrue F.tells → (p : PathValue) → result.cause ≢ Cause.Changed p }
 
     // a rewind that is done leaves the rewound tree, and a replay the replayed one, which it tells; of a
-    // comparison that is done the clusters are the same
+    // comparison that is done the clusters are the same; and a pair that is done was made and tried
     ensures leaves { IsTrue F.tells → result.cause ≡ Cause.Done → LeavesAsked
         (command_of (map string_bytes words.now)) now O.tells (F.contents tree.old)
         (F.contents tree.new) (O.written out.old) (O.written out.new) }
@@ -145,7 +143,8 @@ pub fn run<F: Tree, O: Sink, E: Sink>(
     // log gives below it what it gives below a whole copy of the source
     ensures converges { IsTrue F.tells → result.cause ≡ Cause.Done → ConvergesAsked
         (command_of (map string_bytes words.now)) now (F.contents tree.old) (F.contents tree.new) }
-    // whatever its cause, a replay leaves the log, and a refusal behind its first change the mark
+    // whatever its cause, a replay leaves the log, and a refusal behind its first change the mark; and
+    // pair all but its clusters
     ensures stays { IsTrue F.tells → StaysAsked (command_of (map string_bytes words.now))
         (F.contents tree.old) (F.contents tree.new) result.cause }
     // a stop at any moment leaves a cluster untouched, marked as unfinished or whole
@@ -161,8 +160,6 @@ pub fn run<F: Tree, O: Sink, E: Sink>(
     ensures usage { result.cause ≡ Cause.Usage →
         AreFaulty (command_of (map string_bytes words.now)) }
     ensures nameless { name_of (map string_bytes words.now) ≡ None → result.cause ≡ Cause.Usage }
-    ensures built { result.cause ≡ Cause.NotBuilt →
-        refused_by_words (command_of (map string_bytes words.now)) ≡ Some Cause.NotBuilt }
     ensures unfit { (e : Cause) → refused_by_words (command_of (map string_bytes words.now))
         ≡ Some e → (result.cause ≡ e) ⊎ (result.cause ≡ Cause.OutOfMemory) }
     // and where a walk over folders finds a path that is too deep

@@ -32,7 +32,6 @@ pub(crate) fn words_cause(fault: CommandFault) -> Cause
 {
     match fault {
         CommandFault::Usage => Cause::Usage,
-        CommandFault::NotBuilt => Cause::NotBuilt,
         CommandFault::DotDot => Cause::Paths(PathCause::DotDot),
         CommandFault::TooDeep(path) => Cause::Paths(PathCause::TooDeep(path)),
         CommandFault::PathsOverlap => Cause::Paths(PathCause::PathsOverlap),

@@ -3,7 +3,7 @@ use super::driver::check;
 use super::names::NAMES;
 use std::test::Fail;
 
-// Words that are in no grammar, and commands that are not built.
+// Words that are in no grammar, and folders with no room for a pair.
 const REFUSED: &str = "case words that are refused
 control t
 control t2
@@ -80,8 +80,47 @@ status 1
 run pg_walcompare
 err pg_walcompare: error: Usage
 status 1
+run pair
+err pair: error: Usage
+status 1
+run pair 1 10
+err pair: error: Usage
+status 1
+run pair 1 10 d e
+err pair: error: Usage
+status 1
+run pair 1 0 d
+err pair: error: Usage
+status 1
+run pair 1 4097 d
+err pair: error: Usage
+status 1
+run pair 01 10 d
+err pair: error: Usage
+status 1
+run pair +1 10 d
+err pair: error: Usage
+status 1
+run pair 18446744073709551616 10 d
+err pair: error: Usage
+status 1
+run pair 1 10 d/..
+err pair: error: DotDot
+status 1
+run pair 1 10 a/a/a/a/a/a/a/a/a/a/a/a/a/a/a/a/a/a/a/a/a/a/a/a/a/a/a/a/a/a/a/a/a/a/a/a/a/a/a/a/a/a/a/a/a/a/a/a/a/a/a/a/a/a/a/a/a/a/a/a/a
+err pair: error: TooDeep a/a/a/a/a/a/a/a/a/a/a/a/a/a/a/a/a/a/a/a/a/a/a/a/a/a/a/a/a/a/a/a/a/a/a/a/a/a/a/a/a/a/a/a/a/a/a/a/a/a/a/a/a/a/a/a/a/a/a/a/a
+status 1
 run pair 1 10 d
-err pair: error: NotBuilt
+err pair: error: NotFolder d
+status 1
+run pair 18446744073709551615 4096 d
+err pair: error: NotFolder d
+status 1
+run pair 1 10 t/global/pg_control
+err pair: error: NotFolder t/global/pg_control
+status 1
+run pair 1 10 .
+err pair: error: Occupied t
 status 1
 ";
 

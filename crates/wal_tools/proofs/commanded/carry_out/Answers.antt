@@ -2,8 +2,9 @@ use Rattle.std.proofs.Common.{FitsSigned, Ok, rules, w64}
 use Rattle.std.proofs.lemmas.Int.{to_z-of_z}
 use Rattle.acts.specs.Acts.{sunk}
 use Rattle.cluster_tree.specs.Frame.{moment_of}
-use Rattle.wal_tools.proofs.RunLemmas.{at_time, dried_cleanup, dried_reset, dried_rewind, of_archivecleanup, of_controldata, of_resetwal, of_rewind, of_waldump, of_walcompare, of_walreplay, replay_may, replayed_at, rewound_at, same_at, stays_at}
-use Rattle.wal_tools.proofs.StopLemmas.{durable_replay, durable_reset, durable_rewind, left_of_cleanup, left_of_replay, left_of_reset, left_of_rewind, read_left}
+use Rattle.run_acts.specs.Causes.{cause_of}
+use Rattle.wal_tools.proofs.RunLemmas.{at_time, beside_at, dried_cleanup, dried_reset, dried_rewind, of_archivecleanup, of_controldata, of_pair, of_resetwal, of_rewind, of_waldump, of_walcompare, of_walreplay, pair_may, paired_at, replay_may, replayed_at, rewound_at, same_at, stays_at}
+use Rattle.wal_tools.proofs.StopLemmas.{durable_replay, durable_reset, durable_rewind, left_of_cleanup, left_of_pair, left_of_replay, left_of_reset, left_of_rewind, read_left}
 use Rattle.wal_tools.proofs.commanded.carry_out.Goals as goal
 
 pub returns-in-Rewind-clause-carries : goal.returns-in-Rewind-clause-carries
@@ -111,7 +112,7 @@ returns-in-Resetwal-clause-stops g c t =
     left_of_reset (moment_of g.F.Tree c.args.tree.now) (g.F.Tree.stops c.args.tree.now) (g.F.Tree.stops c.resetwal.new.tree) c.in-Resetwal.is (to_z-of_z w64 c.args.now fits) (c.resetwal.ensures.stops t)
 
 pub returns-in-Archivecleanup-clause-stops : goal.returns-in-Archivecleanup-clause-stops
-returns-in-Archivecleanup-clause-stops g c t = left_of_cleanup c.args.now (moment_of g.F.Tree c.args.tree.now) (g.F.Tree.stops c.args.tree.now) (g.F.Tree.stops c.archivecleanup.new.tree) c.in-Archivecleanup.is
+returns-in-Archivecleanup-clause-stops g c t = left_of_cleanup c.args.now (moment_of g.F.Tree c.args.tree.now) (g.F.Tree.stops c.args.tree.now) (g.F.Tree.stops c.archivecleanup.new.tree) c.in-Archivecleanup.is (c.archivecleanup.ensures.stops t)
 
 pub returns-in-Walreplay-clause-stops : goal.returns-in-Walreplay-clause-stops
 returns-in-Walreplay-clause-stops g c t = left_of_replay c.args.now (moment_of g.F.Tree c.args.tree.now) (g.F.Tree.stops c.args.tree.now) (g.F.Tree.stops c.walreplay.new.tree) c.in-Walreplay.is (c.walreplay.ensures.stops t)
@@ -129,3 +130,26 @@ returns-in-Resetwal-clause-durable g c t = durable_reset c.resetwal.result c.arg
 
 pub returns-in-Walreplay-clause-durable : goal.returns-in-Walreplay-clause-durable
 returns-in-Walreplay-clause-durable g c t = durable_replay c.walreplay.result c.args.now (g.F.Tree.contents c.args.tree.now) (moment_of g.F.Tree c.walreplay.new.tree) c.in-Walreplay.is (c.walreplay.ensures.synced t)
+
+pub returns-in-Pair-clause-carries : goal.returns-in-Pair-clause-carries
+returns-in-Pair-clause-carries g c =
+    of_pair g.F.Tree.tells (g.F.Tree.contents c.args.tree.now) c.args.now c.in-Pair.is
+    (c.pair.ensures.carries g.E.Sink.tells (sunk (g.E.Sink.written c.args.err.now) (g.E.Sink.failed_writes c.args.err.now)))
+
+pub returns-in-Pair-clause-blames : goal.returns-in-Pair-clause-blames
+returns-in-Pair-clause-blames g c = c.pair.ensures.blames (g.E.Sink.failed_writes c.args.err.now)
+
+pub returns-in-Pair-clause-reads : goal.returns-in-Pair-clause-reads
+returns-in-Pair-clause-reads g c none = absurd (none (pair_may c.in-Pair.is))
+
+pub returns-in-Pair-clause-leaves : goal.returns-in-Pair-clause-leaves
+returns-in-Pair-clause-leaves g c t =
+    paired_at c.pair.result _ g.O.Sink.tells (g.F.Tree.contents c.args.tree.now) (g.F.Tree.contents c.pair.new.tree)
+    (g.O.Sink.written c.args.out.now) (g.O.Sink.written c.pair.new.out) c.in-Pair.is (c.pair.ensures.leaves t)
+
+pub returns-in-Pair-clause-stays : goal.returns-in-Pair-clause-stays
+returns-in-Pair-clause-stays g c t =
+    beside_at (g.F.Tree.contents c.args.tree.now) (g.F.Tree.contents c.pair.new.tree) (cause_of c.pair.result) c.in-Pair.is (c.pair.ensures.beside t)
+
+pub returns-in-Pair-clause-stops : goal.returns-in-Pair-clause-stops
+returns-in-Pair-clause-stops g c t = left_of_pair c.args.now (moment_of g.F.Tree c.args.tree.now) (g.F.Tree.stops c.args.tree.now) (g.F.Tree.stops c.pair.new.tree) c.in-Pair.is (c.pair.ensures.stops t)

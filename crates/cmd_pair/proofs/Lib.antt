@@ -1,0 +1,13 @@
+pub mod RoomLemmas
+pub mod FormLemmas
+pub mod CountLemmas
+pub mod TouchedLemmas
+pub mod StayLemmas
+pub mod PlaceLemmas
+pub mod MakeLemmas
+pub mod RewindLemmas
+pub mod ReplayLemmas
+pub mod TrialLemmas
+pub mod CompareLemmas
+pub mod CarryLemmas
+pub mod LeftLemmas

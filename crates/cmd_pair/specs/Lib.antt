@@ -1,0 +1,4 @@
+pub mod Pair
+pub mod Stays
+pub mod Tried
+pub mod Left
