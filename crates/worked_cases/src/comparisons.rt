@@ -4,7 +4,6 @@ use super::driver::check;
 use super::names::NAMES;
 use super::replays::FOLLOWS;
 use super::rewinds::CLUSTERS;
-use std::test::Fail;
 
 // Clusters that were replayed. A whole copy of the source has at first what a rewind copies; or its page
 // is at its last stage, at 0/105000, while the log has an image of it that ends at 0/101000.
@@ -375,21 +374,21 @@ status 3
 ";
 
 #[test]
-fn replayed_clusters_are_compared(rt: HostRuntime) -> Result<(), Fail> {
-    check(&rt, &[NAMES, CLUSTERS, FOLLOWS, REPLAYED])
+fn replayed_clusters_are_compared(rt: HostRuntime) {
+    check(&rt, &[NAMES, CLUSTERS, FOLLOWS, REPLAYED]);
 }
 
 #[test]
-fn differences_are_told(rt: HostRuntime) -> Result<(), Fail> {
-    check(&rt, &[NAMES, FOLLOWS, COMPARED])
+fn differences_are_told(rt: HostRuntime) {
+    check(&rt, &[NAMES, FOLLOWS, COMPARED]);
 }
 
 #[test]
-fn a_comparison_is_refused(rt: HostRuntime) -> Result<(), Fail> {
-    check(&rt, &[NAMES, FOLLOWS, REFUSED])
+fn a_comparison_is_refused(rt: HostRuntime) {
+    check(&rt, &[NAMES, FOLLOWS, REFUSED]);
 }
 
 #[test]
-fn a_comparison_breaks_off(rt: HostRuntime) -> Result<(), Fail> {
-    check(&rt, &[NAMES, FOLLOWS, FAULTS])
+fn a_comparison_breaks_off(rt: HostRuntime) {
+    check(&rt, &[NAMES, FOLLOWS, FAULTS]);
 }

@@ -1,7 +1,6 @@
 // Control files of clusters, whose checksums an independent script gives.
 use super::driver::check;
 use super::names::NAMES;
-use std::test::Fail;
 
 // What is looked at in two control files, in order.
 const PAIRS: &str = "case Crc t 95208C9A A4E9CA92 of a pair
@@ -198,21 +197,21 @@ status 0
 ";
 
 #[test]
-fn a_rewind_looks_at_both_control_files(rt: HostRuntime) -> Result<(), Fail> {
-    check(&rt, &[NAMES, PAIRS])
+fn a_rewind_looks_at_both_control_files(rt: HostRuntime) {
+    check(&rt, &[NAMES, PAIRS]);
 }
 
 #[test]
-fn a_control_file_is_missing_or_short(rt: HostRuntime) -> Result<(), Fail> {
-    check(&rt, &[MISSING])
+fn a_control_file_is_missing_or_short(rt: HostRuntime) {
+    check(&rt, &[MISSING]);
 }
 
 #[test]
-fn a_control_file_is_shown(rt: HostRuntime) -> Result<(), Fail> {
-    check(&rt, &[SHOWN])
+fn a_control_file_is_shown(rt: HostRuntime) {
+    check(&rt, &[SHOWN]);
 }
 
 #[test]
-fn a_device_that_fails_ends_a_run(rt: HostRuntime) -> Result<(), Fail> {
-    check(&rt, &[NAMES, FAULTS])
+fn a_device_that_fails_ends_a_run(rt: HostRuntime) {
+    check(&rt, &[NAMES, FAULTS]);
 }

@@ -1,6 +1,6 @@
 // Runs the cases of texts. README.md has the lines of such a text.
 mod asked;
-mod bad_line;
+mod calls;
 mod control;
 mod files;
 mod line;
@@ -12,35 +12,26 @@ mod scene;
 mod setup;
 mod told;
 
-use self::bad_line::BadLine;
 use self::scene::Scene;
-use std::alloc::Global;
 use std::process::Abort;
-use std::test::Fail;
 
 // Takes the lines of a text.
-fn take_text(scene: &mut Scene, text: &str) -> Result<(), BadLine> {
+fn take_text<R: AllocGlobal + Abort>(rt: &R, scene: &mut Scene, text: &str) {
     for line in text.split('\n') {
-        if let Err(bad) = scene.take(line) {
-            scene.tell_line(line, bad)?;
-        }
+        scene.take(rt, line);
     }
-    Ok(())
 }
 
-/// What differs from what the cases of these texts want, a line for each difference, and each line
-/// that isn't one of a case.
-pub(crate) fn differences(alloc: Global, texts: &[&str]) -> Result<String, BadLine> {
-    let mut scene = Scene::new(alloc);
+/// What differs from what the cases of these texts want, a line for each difference.
+pub(crate) fn differences<R: AllocGlobal + Abort>(rt: &R, texts: &[&str]) -> String {
+    let mut scene = Scene::new(rt.alloc());
     for text in texts {
-        take_text(&mut scene, text)?;
+        take_text(rt, &mut scene, text);
     }
-    scene.told()
+    scene.told(rt)
 }
 
 /// Runs the cases of these texts, in which nothing may differ.
-pub(crate) fn check<R: AllocGlobal + Abort>(rt: &R, texts: &[&str]) -> Result<(), Fail> {
-    let told = differences(rt.alloc(), texts)?;
-    assert_eq!(rt; told.as_str(), "");
-    Ok(())
+pub(crate) fn check<R: AllocGlobal + Abort>(rt: &R, texts: &[&str]) {
+    assert_eq!(rt; differences(rt, texts).as_str(), "");
 }

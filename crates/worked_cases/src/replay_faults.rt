@@ -4,7 +4,6 @@ use super::driver::check;
 use super::names::NAMES;
 use super::replays::FOLLOWS;
 use std::process::Abort;
-use std::test::Fail;
 
 // A cluster that follows the source, and its replay: ten looks at the cluster and its log come before the
 // mark, and six at the relation's file and its page before that page is written.
@@ -156,36 +155,35 @@ status 0
 ";
 
 // Lets this call of the tree fail, from 1, and compares what is wanted then.
-fn fail_at<R: AllocGlobal + Abort>(rt: &R, call: u32, wanted: &str) -> Result<(), Fail> {
-    let fails = format!(in rt.alloc(); "failing tree at {call}\n")?;
-    check(rt, &[NAMES, FOLLOWS, FOLLOWER, fails.as_str(), wanted])
+fn fail_at<R: AllocGlobal + Abort>(rt: &R, call: u32, wanted: &str) {
+    let fails = format!(in rt.alloc(); "failing tree at {call}\n").expect(rt, "no memory");
+    check(rt, &[NAMES, FOLLOWS, FOLLOWER, fails.as_str(), wanted]);
 }
 
 #[test]
-fn a_look_that_fails_leaves_the_cluster(rt: HostRuntime) -> Result<(), Fail> {
+fn a_look_that_fails_leaves_the_cluster(rt: HostRuntime) {
     for call in 1..=10u32 {
-        fail_at(&rt, call, LOOK)?;
+        fail_at(&rt, call, LOOK);
     }
-    Ok(())
 }
 
 #[test]
-fn a_call_that_fails_behind_the_mark_leaves_it(rt: HostRuntime) -> Result<(), Fail> {
-    fail_at(&rt, 11, MARK_NOT_MADE)?;
-    fail_at(&rt, 12, MARK_EMPTY)?;
-    fail_at(&rt, 13, MARK_NOT_DURABLE)?;
+fn a_call_that_fails_behind_the_mark_leaves_it(rt: HostRuntime) {
+    fail_at(&rt, 11, MARK_NOT_MADE);
+    fail_at(&rt, 12, MARK_EMPTY);
+    fail_at(&rt, 13, MARK_NOT_DURABLE);
     for call in 14..=19u32 {
-        fail_at(&rt, call, PAGE_NOT_READ)?;
+        fail_at(&rt, call, PAGE_NOT_READ);
     }
-    fail_at(&rt, 20, PAGE_NOT_WRITTEN)?;
-    fail_at(&rt, 21, CONTROL_NOT_WRITTEN)
+    fail_at(&rt, 20, PAGE_NOT_WRITTEN);
+    fail_at(&rt, 21, CONTROL_NOT_WRITTEN);
 }
 
 #[test]
-fn a_call_that_fails_at_the_end_of_a_replay(rt: HostRuntime) -> Result<(), Fail> {
-    fail_at(&rt, 22, LABEL_STAYS)?;
-    fail_at(&rt, 23, NOT_DURABLE)?;
-    fail_at(&rt, 24, MARK_STAYS)?;
-    fail_at(&rt, 25, MARK_MAY_STAY)?;
-    fail_at(&rt, 26, NONE_FAILS)
+fn a_call_that_fails_at_the_end_of_a_replay(rt: HostRuntime) {
+    fail_at(&rt, 22, LABEL_STAYS);
+    fail_at(&rt, 23, NOT_DURABLE);
+    fail_at(&rt, 24, MARK_STAYS);
+    fail_at(&rt, 25, MARK_MAY_STAY);
+    fail_at(&rt, 26, NONE_FAILS);
 }

@@ -2,7 +2,6 @@
 use super::driver::check;
 use super::names::NAMES;
 use super::replays::FOLLOWS;
-use std::test::Fail;
 
 const REFUSED: &str = "case a cluster that ends too soon
 take follower t
@@ -78,6 +77,6 @@ status 1
 ";
 
 #[test]
-fn a_replay_is_refused(rt: HostRuntime) -> Result<(), Fail> {
-    check(&rt, &[NAMES, FOLLOWS, REFUSED])
+fn a_replay_is_refused(rt: HostRuntime) {
+    check(&rt, &[NAMES, FOLLOWS, REFUSED]);
 }

@@ -3,7 +3,6 @@
 use super::driver::check;
 use super::names::NAMES;
 use super::rewinds::CLUSTERS;
-use std::test::Fail;
 
 /// The source's log behind the fork: an insert into block 2 at 0/1000A0, and a shutdown checkpoint at
 /// 0/1000E0. Of a cluster that follows it: its control file, three empty heap pages, its history, its log
@@ -288,11 +287,11 @@ absent t/pg_walreplay.unfinished
 ";
 
 #[test]
-fn a_log_is_replayed(rt: HostRuntime) -> Result<(), Fail> {
-    check(&rt, &[NAMES, CLUSTERS, FOLLOWS, MADE])
+fn a_log_is_replayed(rt: HostRuntime) {
+    check(&rt, &[NAMES, CLUSTERS, FOLLOWS, MADE]);
 }
 
 #[test]
-fn a_replay_breaks_off(rt: HostRuntime) -> Result<(), Fail> {
-    check(&rt, &[NAMES, CLUSTERS, FOLLOWS, BROKEN])
+fn a_replay_breaks_off(rt: HostRuntime) {
+    check(&rt, &[NAMES, CLUSTERS, FOLLOWS, BROKEN]);
 }

@@ -1,6 +1,5 @@
 // The words of pg_resetwal.
 use super::driver::check;
-use std::test::Fail;
 
 // Values of options, by the control file's text.
 const NUMBERS: &str = "case numbers are decimal, octal behind a 0 and hexadecimal behind 0x
@@ -273,11 +272,11 @@ status 1
 ";
 
 #[test]
-fn numbers_of_a_reset_are_read(rt: HostRuntime) -> Result<(), Fail> {
-    check(&rt, &[NUMBERS])
+fn numbers_of_a_reset_are_read(rt: HostRuntime) {
+    check(&rt, &[NUMBERS]);
 }
 
 #[test]
-fn faulty_words_of_a_reset_are_told(rt: HostRuntime) -> Result<(), Fail> {
-    check(&rt, &[FAULTY])
+fn faulty_words_of_a_reset_are_told(rt: HostRuntime) {
+    check(&rt, &[FAULTY]);
 }

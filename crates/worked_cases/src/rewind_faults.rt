@@ -3,7 +3,6 @@
 use super::driver::check;
 use super::names::NAMES;
 use super::rewinds::CLUSTERS;
-use std::test::Fail;
 
 // A call of the tree. Behind 35 looks come the mark and its sync, a file's kind, the file, its bytes and
 // their write, and so on.
@@ -366,6 +365,6 @@ status 1
 ";
 
 #[test]
-fn a_call_that_fails_ends_a_rewind(rt: HostRuntime) -> Result<(), Fail> {
-    check(&rt, &[NAMES, CLUSTERS, CALLS])
+fn a_call_that_fails_ends_a_rewind(rt: HostRuntime) {
+    check(&rt, &[NAMES, CLUSTERS, CALLS]);
 }

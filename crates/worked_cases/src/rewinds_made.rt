@@ -3,7 +3,6 @@
 use super::driver::check;
 use super::names::NAMES;
 use super::rewinds::CLUSTERS;
-use std::test::Fail;
 
 // What is changed, call by call, and what stands there then.
 const MADE: &str = "case the example pair
@@ -380,16 +379,16 @@ status 1
 ";
 
 #[test]
-fn a_rewind_is_made(rt: HostRuntime) -> Result<(), Fail> {
-    check(&rt, &[NAMES, CLUSTERS, MADE])
+fn a_rewind_is_made(rt: HostRuntime) {
+    check(&rt, &[NAMES, CLUSTERS, MADE]);
 }
 
 #[test]
-fn a_path_refuses(rt: HostRuntime) -> Result<(), Fail> {
-    check(&rt, &[NAMES, CLUSTERS, PATHS])
+fn a_path_refuses(rt: HostRuntime) {
+    check(&rt, &[NAMES, CLUSTERS, PATHS]);
 }
 
 #[test]
-fn a_line_that_fails_ends_a_rewind(rt: HostRuntime) -> Result<(), Fail> {
-    check(&rt, &[NAMES, CLUSTERS, LINES])
+fn a_line_that_fails_ends_a_rewind(rt: HostRuntime) {
+    check(&rt, &[NAMES, CLUSTERS, LINES]);
 }

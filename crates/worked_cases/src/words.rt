@@ -1,7 +1,6 @@
 // The words of the commands.
 use super::driver::check;
 use super::names::NAMES;
-use std::test::Fail;
 
 // Words that are in no grammar, and folders with no room for a pair.
 const REFUSED: &str = "case words that are refused
@@ -206,16 +205,16 @@ status 0
 ";
 
 #[test]
-fn words_are_refused(rt: HostRuntime) -> Result<(), Fail> {
-    check(&rt, &[REFUSED])
+fn words_are_refused(rt: HostRuntime) {
+    check(&rt, &[REFUSED]);
 }
 
 #[test]
-fn the_roots_of_a_rewind_are_refused(rt: HostRuntime) -> Result<(), Fail> {
-    check(&rt, &[ROOTS])
+fn the_roots_of_a_rewind_are_refused(rt: HostRuntime) {
+    check(&rt, &[ROOTS]);
 }
 
 #[test]
-fn words_are_read_in_each_form(rt: HostRuntime) -> Result<(), Fail> {
-    check(&rt, &[NAMES, FORMS])
+fn words_are_read_in_each_form(rt: HostRuntime) {
+    check(&rt, &[NAMES, FORMS]);
 }

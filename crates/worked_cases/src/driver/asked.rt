@@ -1,14 +1,15 @@
 // The lines that say what is run, and what it has to do.
-use super::bad_line::BadLine;
-use super::line::{first_word, narrow, number, plan};
+use super::line::{add, first_word, narrow, number, owned, plan};
 use cluster_tree::FailPlan;
 use std::alloc::Global;
+use std::process::Abort;
 
 /// What a run is asked to do, and what it has to do then.
 #[derive(Drop)]
 pub(crate) struct Asked {
     pub(crate) words: Vec<String>,
     pub(crate) now: i64,
+    pub(crate) status: u8,
     pub(crate) tree_fails: FailPlan,
     pub(crate) out_fails: FailPlan,
     pub(crate) err_fails: FailPlan,
@@ -21,15 +22,10 @@ pub(crate) struct Asked {
     pub(crate) calls: String,
 }
 
-fn now(text: &str) -> Result<i64, BadLine> {
-    narrow(text)
-}
-
 // Adds a line to a text.
-fn add_line(text: &mut String, line: &str) -> Result<(), BadLine> {
-    text.push_str(line)?;
-    text.push_str("\n")?;
-    Ok(())
+fn add_line<R: Abort>(rt: &R, text: &mut String, line: &str) {
+    add(rt, text, line);
+    add(rt, text, "\n");
 }
 
 impl Asked {
@@ -38,6 +34,7 @@ impl Asked {
         Asked {
             words: Vec::new(alloc),
             now: 1700000000,
+            status: 0,
             tree_fails: FailPlan::Never,
             out_fails: FailPlan::Never,
             err_fails: FailPlan::Never,
@@ -49,47 +46,50 @@ impl Asked {
         }
     }
 
+    // A word of the run.
+    fn add_word<R: AllocGlobal + Abort>(&mut self, rt: &R, word: &str) {
+        self.words.push(owned(rt, word)).expect(rt, "no memory");
+    }
+
     // `run WORD ..`: the words of the run, of which none is empty or has a blank.
-    fn add_words(&mut self, alloc: Global, behind: &str) -> Result<(), BadLine> {
-        for word in behind.split(' ').filter(|word| !word.is_empty()) {
-            self.words.push(String::from_str(alloc, word)?)?;
+    fn add_words<R: AllocGlobal + Abort>(&mut self, rt: &R, behind: &str) {
+        for word in behind.split(' ') {
+            self.add_word(rt, word);
         }
-        Ok(())
     }
 
     // `failing tree|out|err at|from N`: which calls fail.
-    fn fail(&mut self, behind: &str) -> Result<(), BadLine> {
+    fn fail<R: Abort>(&mut self, rt: &R, behind: &str) {
         let (what, behind) = first_word(behind);
-        let plan = plan(behind)?;
+        let plan = plan(rt, behind);
         match what {
             "tree" => self.tree_fails = plan,
             "out" => self.out_fails = plan,
             "err" => self.err_fails = plan,
-            _ => return Err(BadLine::Form),
+            _ => panic!(rt; "what fails?"),
         }
-        Ok(())
     }
 
     /// Takes a line that says what is run or wanted, if it is one.
-    pub(crate) fn take(
+    pub(crate) fn take<R: AllocGlobal + Abort>(
         &mut self,
-        alloc: Global,
+        rt: &R,
         verb: &str,
         behind: &str,
-    ) -> Result<bool, BadLine> {
+    ) -> bool {
         match verb {
-            "run" => self.add_words(alloc, behind)?,
-            "word" => self.words.push(String::from_str(alloc, behind)?)?,
-            "failing" => self.fail(behind)?,
-            "now" => self.now = now(behind)?,
-            "reads" => self.reads = Some(number(behind)?),
-            "out" => add_line(&mut self.out, behind)?,
-            "err" => add_line(&mut self.err, behind)?,
-            "has" => add_line(&mut self.has, behind)?,
-            "call" => add_line(&mut self.calls, behind)?,
-            _ => return Ok(false),
+            "run" => self.add_words(rt, behind),
+            "word" => self.add_word(rt, behind),
+            "failing" => self.fail(rt, behind),
+            "now" => self.now = narrow(rt, behind),
+            "reads" => self.reads = Some(number(rt, behind)),
+            "out" => add_line(rt, &mut self.out, behind),
+            "err" => add_line(rt, &mut self.err, behind),
+            "has" => add_line(rt, &mut self.has, behind),
+            "call" => add_line(rt, &mut self.calls, behind),
+            _ => return false,
         }
-        Ok(true)
+        true
     }
 
     /// The command's name, as it stands in the line of a cause.

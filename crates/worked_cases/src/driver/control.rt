@@ -1,6 +1,6 @@
 // Control files.
-use super::bad_line::BadLine;
 use super::line::number;
+use std::process::Abort;
 use wal_base::Crc32c;
 
 const SIZE: usize = 8192;
@@ -63,14 +63,16 @@ fn put(file: &mut [u8; SIZE], at: usize, width: usize, value: u64) {
     }
 }
 
-fn put_field(file: &mut [u8; SIZE], field: &str, value: u64) -> Result<(), BadLine> {
-    match FIELDS.iter().find(|(name, _, _)| *name == field) {
-        Some((_, at, width)) => {
-            put(file, *at, *width, value);
-            Ok(())
-        }
-        None => Err(BadLine::Form),
-    }
+fn put_field<R: Abort>(rt: &R, file: &mut [u8; SIZE], field: &str, value: u64) {
+    let known = FIELDS.iter().find(|(name, _, _)| *name == field);
+    let (_, at, width) = known.expect(rt, "no such field");
+    put(file, *at, *width, value);
+}
+
+// `NAME=VALUE`.
+fn put_named<R: Abort>(rt: &R, file: &mut [u8; SIZE], field: &str) {
+    let (name, value) = field.split_once('=').expect(rt, "no value of a field");
+    put_field(rt, file, name, number(rt, value));
 }
 
 fn checksum(file: &[u8; SIZE]) -> u32 {
@@ -79,25 +81,24 @@ fn checksum(file: &[u8; SIZE]) -> u32 {
     sum.value()
 }
 
-fn shut_down() -> Result<[u8; SIZE], BadLine> {
+fn shut_down<R: Abort>(rt: &R) -> [u8; SIZE] {
     let mut file = [0; SIZE];
     for (field, value) in SHUT_DOWN {
-        put_field(&mut file, field, value)?;
+        put_field(rt, &mut file, field, value);
     }
-    Ok(file)
+    file
 }
 
 /// The bytes of the control file of a cluster that was shut down on timeline 1, with these fields
 /// changed (`NAME=VALUE ..`) and the checksum of them.
-pub(crate) fn control_bytes(fields: &str) -> Result<[u8; SIZE], BadLine> {
-    let mut file = shut_down()?;
-    for field in fields.split(' ').filter(|field| !field.is_empty()) {
-        let Some((name, value)) = field.split_once('=') else {
-            return Err(BadLine::Form);
-        };
-        put_field(&mut file, name, number(value)?)?;
+pub(crate) fn control_bytes<R: Abort>(rt: &R, fields: &str) -> [u8; SIZE] {
+    let mut file = shut_down(rt);
+    for field in fields.split(' ') {
+        if !field.is_empty() {
+            put_named(rt, &mut file, field);
+        }
     }
     let crc = checksum(&file);
     put(&mut file, CRC_AT, 4, u64::from(crc));
-    Ok(file)
+    file
 }

@@ -1,71 +1,44 @@
 // The lines that say what the tree has to hold.
-use super::bad_line::BadLine;
-use super::line::{bytes, first_word, number, path};
-use super::told::Told;
+use super::line::{bytes, first_word, number, path, zeros};
 use cluster_tree::{Kind, MemoryTree, Tree};
-use std::alloc::Global;
+use std::process::Abort;
 
-// `bytes PATH AT HEX`: a file has these bytes from a place on.
-fn look_at_bytes(
-    alloc: Global,
+// `bytes PATH AT HEX`: whether a file has these bytes from a place on.
+fn has_bytes<R: AllocGlobal + Abort>(
+    rt: &R,
     tree: &mut MemoryTree,
-    behind: &str,
-    told: &mut Told,
-) -> Result<(), BadLine> {
-    let (file, behind) = first_word(behind);
-    let (at, hex) = first_word(behind);
-    let wanted = bytes(alloc, hex)?;
-    let mut found = Vec::from_elem(alloc, 0, wanted.len())?;
-    tree.read_at(&path(alloc, file)?, number(at)?, &mut found)?;
-    if found.as_slice() != wanted.as_slice() {
-        let what = format!(in alloc; "{file} has other bytes at {at}")?;
-        told.tell(&what)?;
-    }
-    Ok(())
+    file: &str,
+    words: &str,
+) -> bool {
+    let (at, hex) = first_word(words);
+    let wanted = bytes(rt, hex);
+    let mut found = zeros(rt, wanted.len());
+    let read = tree.read_at(&path(rt, file), number(rt, at), &mut found);
+    read.is_ok() && found.as_slice() == wanted.as_slice()
 }
 
-// `size PATH N`: a file has this size.
-fn look_at_size(
-    alloc: Global,
-    tree: &mut MemoryTree,
-    behind: &str,
-    told: &mut Told,
-) -> Result<(), BadLine> {
-    let (file, size) = first_word(behind);
-    if tree.size(&path(alloc, file)?)? != number(size)? {
-        let what = format!(in alloc; "{file} has another size")?;
-        told.tell(&what)?;
-    }
-    Ok(())
+// `size PATH N`: whether a file has this size.
+fn has_size<R: AllocGlobal + Abort>(rt: &R, tree: &mut MemoryTree, file: &str, size: &str) -> bool {
+    tree.size(&path(rt, file)) == Ok(number(rt, size))
 }
 
-// `absent PATH`: nothing stands there.
-fn look_for(
-    alloc: Global,
-    tree: &mut MemoryTree,
-    behind: &str,
-    told: &mut Told,
-) -> Result<(), BadLine> {
-    if tree.kind(&path(alloc, behind)?)? != Kind::Absent {
-        let what = format!(in alloc; "{behind} is there")?;
-        told.tell(&what)?;
-    }
-    Ok(())
+// `absent PATH`: whether nothing stands there.
+fn is_absent<R: AllocGlobal + Abort>(rt: &R, tree: &mut MemoryTree, file: &str) -> bool {
+    tree.kind(&path(rt, file)) == Ok(Kind::Absent)
 }
 
-/// Compares what the tree holds with a line, if it is one of what it has to hold.
-pub(crate) fn look(
-    alloc: Global,
+/// Whether the tree holds what a line says, if it is one of what it has to hold.
+pub(crate) fn holds<R: AllocGlobal + Abort>(
+    rt: &R,
     tree: &mut MemoryTree,
     verb: &str,
     behind: &str,
-    told: &mut Told,
-) -> Result<bool, BadLine> {
+) -> Option<bool> {
+    let (file, words) = first_word(behind);
     match verb {
-        "bytes" => look_at_bytes(alloc, tree, behind, told)?,
-        "size" => look_at_size(alloc, tree, behind, told)?,
-        "absent" => look_for(alloc, tree, behind, told)?,
-        _ => return Ok(false),
+        "bytes" => Some(has_bytes(rt, tree, file, words)),
+        "size" => Some(has_size(rt, tree, file, words)),
+        "absent" => Some(is_absent(rt, tree, file)),
+        _ => None,
     }
-    Ok(true)
 }

@@ -1,9 +1,8 @@
 // Logs, record by record.
-use super::bad_line::BadLine;
-use super::line::{bytes, first_word, narrow, number, path};
+use super::line::{below, bytes, first_word, narrow, number, path};
 use super::setup::add_file;
 use cluster_tree::{MemoryTree, Path};
-use std::alloc::Global;
+use std::process::Abort;
 use wal_base::{Lsn, SegSize, Segment};
 use wal_records::LogWriter;
 
@@ -30,86 +29,99 @@ fn value_of<'a>(fields: &'a str, name: &str) -> Option<&'a str> {
 }
 
 // Where the log begins, as a position.
-fn start_of(fields: &str) -> Result<u64, BadLine> {
-    match value_of(fields, "at") {
-        None => Ok(0x10_0000),
-        Some(text) => match Lsn::parse(text) {
-            Some(start) => Ok(start.0),
-            None => Err(BadLine::Form),
-        },
-    }
+fn start_of<R: Abort>(rt: &R, fields: &str) -> Lsn {
+    Lsn::parse(value_of(fields, "at").unwrap_or("0/100000")).expect(rt, "no position")
 }
 
-fn size_of(fields: &str) -> Result<SegSize, BadLine> {
-    match SegSize::new(narrow(value_of(fields, "size").unwrap_or("1048576"))?) {
-        Some(size) => Ok(size),
-        None => Err(BadLine::Form),
-    }
+fn size_of<R: Abort>(rt: &R, fields: &str) -> SegSize {
+    let size = narrow(rt, value_of(fields, "size").unwrap_or("1048576"));
+    SegSize::new(size).expect(rt, "no size of segments")
+}
+
+// A log of no records yet.
+fn writer_of<R: AllocGlobal + Abort>(
+    rt: &R,
+    start: Lsn,
+    tli: u32,
+    size: SegSize,
+    fields: &str,
+) -> LogWriter {
+    let system = number(
+        rt,
+        value_of(fields, "system").unwrap_or("7300000000000000001"),
+    );
+    assert!(rt;
+        start.0 % u64::from(size.bytes()) == 0 && start.0 < 1 << 63,
+        "no start of a segment"
+    );
+    LogWriter::new(rt.alloc(), start, tli, system, size).expect(rt, "no memory")
 }
 
 impl NewLog {
     /// `log FOLDER [at=X/X] [tli=N] [size=BYTES] [system=N]`: a log of no records yet, from a
     /// segment's start on; without these of the segment at 0/100000, timeline 1, segments of 1 MB, and
     /// the system 7300000000000000001.
-    pub(crate) fn new(alloc: Global, behind: &str) -> Result<NewLog, BadLine> {
+    pub(crate) fn new<R: AllocGlobal + Abort>(rt: &R, behind: &str) -> NewLog {
         let (folder, fields) = first_word(behind);
-        let tli = narrow(value_of(fields, "tli").unwrap_or("1"))?;
-        let system = number(value_of(fields, "system").unwrap_or("7300000000000000001"))?;
-        let start = start_of(fields)?;
-        let size = size_of(fields)?;
-        if start % u64::from(size.bytes()) != 0 || start >= 1 << 63 {
-            return Err(BadLine::Form);
-        }
-        Ok(NewLog {
-            folder: path(alloc, folder)?,
+        let tli = narrow(rt, value_of(fields, "tli").unwrap_or("1"));
+        let start = start_of(rt, fields);
+        let size = size_of(rt, fields);
+        NewLog {
+            folder: path(rt, folder),
             tli,
-            start,
+            start: start.0,
             size,
-            writer: LogWriter::new(alloc, Lsn(start), tli, system, size)?,
-        })
+            writer: writer_of(rt, start, tli, size, fields),
+        }
     }
 
     #[tactic(auto, using(wal_records::proofs::NearLemmas::ends_near))]
-    fn append(&mut self, xid: u32, info: u8, manager: u8, body: &[u8]) -> Result<(), BadLine> {
-        if manager > 21 || self.writer.position().0 > 1 << 62 {
-            return Err(BadLine::Record);
-        }
-        match self.writer.append(xid, info, manager, body) {
-            Ok(_) => Ok(()),
-            Err(_) => Err(BadLine::Record),
-        }
+    fn append<R: Abort>(&mut self, rt: &R, xid: u32, info: u8, manager: u8, body: &[u8]) {
+        assert!(rt;
+            manager <= 21 && self.writer.position().0 <= 1 << 62,
+            "no such record"
+        );
+        self.writer
+            .append(xid, info, manager, body)
+            .expect(rt, "no such record");
     }
 
     /// `record XID INFO MANAGER HEX`: appends a record with this body.
-    pub(crate) fn add_record(&mut self, alloc: Global, behind: &str) -> Result<(), BadLine> {
+    pub(crate) fn add_record<R: AllocGlobal + Abort>(&mut self, rt: &R, behind: &str) {
         let (xid, behind) = first_word(behind);
         let (info, behind) = first_word(behind);
         let (manager, body) = first_word(behind);
-        let body = bytes(alloc, body)?;
-        self.append(narrow(xid)?, narrow(info)?, narrow(manager)?, &body)
+        let body = bytes(rt, body);
+        self.append(
+            rt,
+            narrow(rt, xid),
+            narrow(rt, info),
+            narrow(rt, manager),
+            &body,
+        );
     }
 
     /// `filler SIZE`: appends a NOOP of so many bytes in all, which say nothing.
-    pub(crate) fn add_filler(&mut self, alloc: Global, behind: &str) -> Result<(), BadLine> {
-        let total: u32 = narrow(behind)?;
+    pub(crate) fn add_filler<R: AllocGlobal + Abort>(&mut self, rt: &R, behind: &str) {
+        let total: u32 = narrow(rt, behind);
         let main = total.saturating_sub(29);
-        let mut body = vec![in alloc; 254]?;
-        body.extend_from_slice(&main.to_le_bytes())?;
-        for _ in 0..main {
-            body.push(0x5A)?;
-        }
-        self.append(0, 0x20, 0, &body)
+        let mut body = vec![in rt.alloc(); 254].expect(rt, "no memory");
+        body.extend_from_slice(&main.to_le_bytes())
+            .expect(rt, "no memory");
+        body.resize(body.len() + main as usize, 0x5A)
+            .expect(rt, "no memory");
+        self.append(rt, 0, 0x20, 0, &body);
     }
 
     /// Puts the segments that the log has so far into its folder.
-    pub(crate) fn put(&self, alloc: Global, tree: &mut MemoryTree) -> Result<(), BadLine> {
+    pub(crate) fn put<R: AllocGlobal + Abort>(&self, rt: &R, tree: &mut MemoryTree) {
         let size = self.size.bytes();
         let mut at = self.start;
         for bytes in self.writer.bytes().chunks(size as usize) {
-            let name = Segment::of(self.tli, Lsn(at), self.size).name(alloc)?;
-            add_file(tree, &self.folder.join(alloc, name.as_str())?, bytes)?;
+            let segment = Segment::of(self.tli, Lsn(at), self.size);
+            let name = segment.name(rt.alloc()).expect(rt, "no memory");
+            add_file(rt, tree, &below(rt, &self.folder, name.as_str()), bytes);
             at = at.saturating_add(u64::from(size));
         }
-        Ok(())
     }
 }

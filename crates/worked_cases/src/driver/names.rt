@@ -1,7 +1,7 @@
 // Names for what many lines say.
-use super::bad_line::BadLine;
-use super::line::first_word;
+use super::line::{first_word, owned};
 use std::alloc::Global;
+use std::process::Abort;
 
 /// Names, each with what it stands for.
 #[derive(Drop)]
@@ -18,26 +18,24 @@ impl Named {
     }
 
     /// `name NAME TEXT`: the name stands for the text.
-    pub(crate) fn add(&mut self, alloc: Global, behind: &str) -> Result<(), BadLine> {
+    pub(crate) fn add<R: AllocGlobal + Abort>(&mut self, rt: &R, behind: &str) {
         let (name, text) = first_word(behind);
-        let name = String::from_str(alloc, name)?;
-        let text = String::from_str(alloc, text)?;
-        self.entries.push((name, text))?;
-        Ok(())
+        let entry = (owned(rt, name), owned(rt, text));
+        self.entries.push(entry).expect(rt, "no memory");
     }
 
-    /// What `$NAME` stands for; every other text is itself.
-    pub(crate) fn text_of<'a>(&'a self, text: &'a str) -> Result<&'a str, BadLine> {
+    /// What `$NAME` stands for, if it was named; every other text is itself.
+    pub(crate) fn text_of<'a>(&'a self, text: &'a str) -> Option<&'a str> {
         let Some(name) = text.strip_prefix('$') else {
-            return Ok(text);
+            return Some(text);
         };
         match self
             .entries
             .iter()
             .find(|(known, _)| known.as_str() == name)
         {
-            Some((_, meant)) => Ok(meant.as_str()),
-            None => Err(BadLine::Form),
+            Some((_, meant)) => Some(meant.as_str()),
+            None => None,
         }
     }
 }

@@ -1,7 +1,7 @@
 // Lines that many cases have.
-use super::bad_line::BadLine;
-use super::line::first_word;
+use super::line::{add, first_word, owned};
 use std::alloc::Global;
+use std::process::Abort;
 
 /// Lines with a name.
 #[derive(Drop)]
@@ -27,50 +27,54 @@ impl Parts {
     }
 
     // `part NAME`: what follows up to `whole` are the lines of that part.
-    fn begin(&mut self, alloc: Global, name: &str) -> Result<(), BadLine> {
+    fn begin<R: AllocGlobal + Abort>(&mut self, rt: &R, name: &str) {
         self.open = Some(Part {
-            name: String::from_str(alloc, name)?,
-            lines: String::new(alloc),
+            name: owned(rt, name),
+            lines: String::new(rt.alloc()),
         });
-        Ok(())
     }
 
-    /// Keeps a line that belongs to a part, if it does. A part may take another one's lines.
-    pub(crate) fn keep(&mut self, alloc: Global, line: &str) -> Result<bool, BadLine> {
+    // Keeps a line of a part. A part may take another one's lines.
+    fn keep_in<R: AllocGlobal + Abort>(&mut self, rt: &R, mut part: Part, line: &str) {
         let (verb, behind) = first_word(line);
-        if verb == "part" {
-            self.begin(alloc, behind)?;
-            return Ok(true);
-        }
-        let Some(mut part) = self.open.take() else {
-            return Ok(false);
-        };
-        if verb == "whole" {
-            self.parts.push(part)?;
-            return Ok(true);
-        }
-        if verb == "take" {
-            part.lines.push_str(&self.lines_of(alloc, behind)?)?;
-        } else {
-            part.lines.push_str(line)?;
-            part.lines.push_str("\n")?;
+        match verb {
+            "whole" => return self.parts.push(part).expect(rt, "no memory"),
+            "take" => add(rt, &mut part.lines, &self.lines_of(rt, behind)),
+            _ => {
+                add(rt, &mut part.lines, line);
+                add(rt, &mut part.lines, "\n");
+            }
         }
         self.open = Some(part);
-        Ok(true)
+    }
+
+    /// Keeps a line that belongs to a part, if it does.
+    pub(crate) fn keep<R: AllocGlobal + Abort>(&mut self, rt: &R, line: &str) -> bool {
+        if let Some(name) = line.strip_prefix("part ") {
+            self.begin(rt, name);
+            return true;
+        }
+        match self.open.take() {
+            Some(part) => {
+                self.keep_in(rt, part, line);
+                true
+            }
+            None => false,
+        }
     }
 
     /// `take NAME ROOT`: the lines of a part, with a root in the place of each `%`.
-    pub(crate) fn lines_of(&self, alloc: Global, behind: &str) -> Result<String, BadLine> {
+    pub(crate) fn lines_of<R: AllocGlobal + Abort>(&self, rt: &R, behind: &str) -> String {
         let (name, root) = first_word(behind);
         let Some(part) = self.parts.iter().find(|part| part.name.as_str() == name) else {
-            return Err(BadLine::Form);
+            panic!(rt; "no such part: {name}")
         };
         let mut pieces = part.lines.split('%');
-        let mut lines = String::from_str(alloc, pieces.next().unwrap_or(""))?;
+        let mut lines = owned(rt, pieces.next().unwrap_or(""));
         for piece in pieces {
-            lines.push_str(root)?;
-            lines.push_str(piece)?;
+            add(rt, &mut lines, root);
+            add(rt, &mut lines, piece);
         }
-        Ok(lines)
+        lines
     }
 }

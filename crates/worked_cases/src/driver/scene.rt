@@ -1,8 +1,7 @@
 // What the lines so far made.
 use super::asked::Asked;
-use super::bad_line::BadLine;
-use super::files::look;
-use super::line::{first_word, narrow};
+use super::files::holds;
+use super::line::{first_word, narrow, owned};
 use super::log::NewLog;
 use super::names::Named;
 use super::outcome::run_and_compare;
@@ -12,11 +11,11 @@ use super::told::Told;
 use cluster_tree::MemoryTree;
 use std::alloc::Global;
 use std::mem;
+use std::process::Abort;
 
 /// What the lines so far made: a tree, maybe a log that is being written, and what is asked next.
 #[derive(Drop)]
 pub(crate) struct Scene {
-    alloc: Global,
     named: Named,
     parts: Parts,
     tree: MemoryTree,
@@ -29,7 +28,6 @@ impl Scene {
     /// No line was taken.
     pub(crate) fn new(alloc: Global) -> Scene {
         Scene {
-            alloc,
             named: Named::new(alloc),
             parts: Parts::new(alloc),
             tree: MemoryTree::new(alloc),
@@ -40,102 +38,100 @@ impl Scene {
     }
 
     // `case NAME`: an empty tree.
-    fn begin(&mut self, name: &str) -> Result<(), BadLine> {
-        self.end_run()?;
+    fn begin<R: AllocGlobal + Abort>(&mut self, rt: &R, name: &str) {
+        self.end_run(rt);
         self.log = None;
-        self.tree = MemoryTree::new(self.alloc);
-        self.told.begin(name)
+        self.tree = MemoryTree::new(rt.alloc());
+        self.told.begin(rt, name);
     }
 
     // Tells words that were not run.
-    fn end_run(&mut self) -> Result<(), BadLine> {
+    fn end_run<R: AllocGlobal + Abort>(&mut self, rt: &R) {
         if !self.asked.words.is_empty() {
-            self.asked = Asked::new(self.alloc);
-            self.told.tell("words without a status")?;
+            self.asked = Asked::new(rt.alloc());
+            self.told.tell(rt, "words without a status");
         }
-        Ok(())
     }
 
     // `status N`: runs what was asked, which has to end so.
-    fn run(&mut self, behind: &str) -> Result<(), BadLine> {
-        let status = narrow(behind)?;
-        let asked = mem::replace(&mut self.asked, Asked::new(self.alloc));
-        let tree = mem::replace(&mut self.tree, MemoryTree::new(self.alloc));
-        self.tree = run_and_compare(self.alloc, tree, &asked, status, &mut self.told)?;
-        Ok(())
+    fn run<R: AllocGlobal + Abort>(&mut self, rt: &R, behind: &str) {
+        let mut asked = mem::replace(&mut self.asked, Asked::new(rt.alloc()));
+        asked.status = narrow(rt, behind);
+        let tree = mem::replace(&mut self.tree, MemoryTree::new(rt.alloc()));
+        self.tree = run_and_compare(rt, tree, &asked, &mut self.told);
     }
 
     // A line of a log that is being written: each record, and where it ends the segments so far.
-    fn take_log(&mut self, verb: &str, behind: &str) -> Result<bool, BadLine> {
+    fn take_log<R: AllocGlobal + Abort>(&mut self, rt: &R, verb: &str, behind: &str) -> bool {
         match (verb, &mut self.log) {
-            ("log", _) => self.log = Some(NewLog::new(self.alloc, behind)?),
-            ("record", Some(log)) => log.add_record(self.alloc, behind)?,
-            ("filler", Some(log)) => log.add_filler(self.alloc, behind)?,
+            ("log", _) => self.log = Some(NewLog::new(rt, behind)),
+            ("record", Some(log)) => log.add_record(rt, behind),
+            ("filler", Some(log)) => log.add_filler(rt, behind),
             ("end", Some(log)) => {
-                log.put(self.alloc, &mut self.tree)?;
+                log.put(rt, &mut self.tree);
                 self.log = None;
             }
-            _ => return Ok(false),
+            _ => return false,
         }
-        Ok(true)
+        true
     }
 
     // A line that belongs to no part of a case.
-    fn take_own(&mut self, verb: &str, behind: &str) -> Result<bool, BadLine> {
+    fn take_own<R: AllocGlobal + Abort>(&mut self, rt: &R, verb: &str, behind: &str) -> bool {
         match verb {
             "" | "#" => {}
-            "name" => self.named.add(self.alloc, behind)?,
-            "case" => self.begin(behind)?,
-            "status" => self.run(behind)?,
-            _ => return Ok(false),
+            "name" => self.named.add(rt, behind),
+            "case" => self.begin(rt, behind),
+            "status" => self.run(rt, behind),
+            _ => return false,
         }
-        Ok(true)
+        true
+    }
+
+    // A line of what the tree has to hold.
+    fn look<R: AllocGlobal + Abort>(&mut self, rt: &R, verb: &str, behind: &str) -> bool {
+        let seen = holds(rt, &mut self.tree, verb, behind);
+        if seen == Some(false) {
+            self.told.not_so(rt, verb, behind);
+        }
+        seen.is_some()
     }
 
     // Takes a line by its first word and what stands behind it.
-    fn take_words(&mut self, verb: &str, behind: &str) -> Result<(), BadLine> {
-        if self.take_own(verb, behind)?
-            || self.asked.take(self.alloc, verb, behind)?
-            || self.take_log(verb, behind)?
-            || set_up(self.alloc, &mut self.tree, verb, behind)?
-            || look(self.alloc, &mut self.tree, verb, behind, &mut self.told)?
-        {
-            return Ok(());
-        }
-        Err(BadLine::Form)
+    fn take_words<R: AllocGlobal + Abort>(&mut self, rt: &R, verb: &str, behind: &str) -> bool {
+        self.take_own(rt, verb, behind)
+            || self.asked.take(rt, verb, behind)
+            || self.take_log(rt, verb, behind)
+            || set_up(rt, &mut self.tree, verb, behind)
+            || self.look(rt, verb, behind)
     }
 
     // Takes a line that belongs to no part.
-    fn take_line(&mut self, line: &str) -> Result<(), BadLine> {
+    fn take_line<R: AllocGlobal + Abort>(&mut self, rt: &R, line: &str) {
         let (verb, behind) = first_word(line);
-        let behind = String::from_str(self.alloc, self.named.text_of(behind)?)?;
-        self.take_words(verb, &behind)
+        let behind = owned(rt, self.named.text_of(behind).expect(rt, "no such name"));
+        assert!(rt;
+            self.take_words(rt, verb, &behind),
+            "not a line of a case: {line}"
+        );
     }
 
     /// Takes a line.
-    pub(crate) fn take(&mut self, line: &str) -> Result<(), BadLine> {
-        if self.parts.keep(self.alloc, line)? {
-            return Ok(());
+    pub(crate) fn take<R: AllocGlobal + Abort>(&mut self, rt: &R, line: &str) {
+        if self.parts.keep(rt, line) {
+            return;
         }
         let Some(part) = line.strip_prefix("take ") else {
-            return self.take_line(line);
+            return self.take_line(rt, line);
         };
-        let lines = self.parts.lines_of(self.alloc, part)?;
-        for line in lines.split('\n') {
-            self.take_line(line)?;
+        for line in self.parts.lines_of(rt, part).split('\n') {
+            self.take_line(rt, line);
         }
-        Ok(())
-    }
-
-    /// Tells a line that could not be carried out.
-    pub(crate) fn tell_line(&mut self, line: &str, bad: BadLine) -> Result<(), BadLine> {
-        let what = format!(in self.alloc; "{bad}: {line}")?;
-        self.told.tell(&what)
     }
 
     /// All that was told.
-    pub(crate) fn told(mut self) -> Result<String, BadLine> {
-        self.end_run()?;
-        Ok(self.told.text())
+    pub(crate) fn told<R: AllocGlobal + Abort>(mut self, rt: &R) -> String {
+        self.end_run(rt);
+        self.told.text()
     }
 }

@@ -1,64 +1,75 @@
 // The lines that describe a tree.
-use super::bad_line::BadLine;
 use super::control::control_bytes;
-use super::line::{bytes, first_word, narrow, number, path};
+use super::line::{below, bytes, first_word, narrow, number, path, zeros};
 use cluster_tree::{MemoryTree, Path, Tree};
-use std::alloc::Global;
+use std::process::Abort;
+
+/// Makes a folder.
+fn add_folder<R: Abort>(rt: &R, tree: &mut MemoryTree, folder: &Path) {
+    tree.make_folder(folder).expect(rt, "no room for a folder");
+}
 
 /// Makes a file of these bytes.
-pub(crate) fn add_file(tree: &mut MemoryTree, file: &Path, bytes: &[u8]) -> Result<(), BadLine> {
-    tree.make_file(file)?;
-    tree.write_at(file, 0, bytes)?;
-    Ok(())
+pub(crate) fn add_file<R: Abort>(rt: &R, tree: &mut MemoryTree, file: &Path, bytes: &[u8]) {
+    tree.make_file(file).expect(rt, "no room for a file");
+    tree.write_at(file, 0, bytes)
+        .expect(rt, "no room for bytes");
 }
 
 // `control ROOT NAME=VALUE ..`: a cluster's root, its folder `global`, and its control file.
-fn add_control(alloc: Global, tree: &mut MemoryTree, behind: &str) -> Result<(), BadLine> {
-    let (root, fields) = first_word(behind);
-    let root = path(alloc, root)?;
-    let folder = root.join(alloc, "global")?;
-    tree.make_folder(&root)?;
-    tree.make_folder(&folder)?;
-    add_file(
-        tree,
-        &folder.join(alloc, "pg_control")?,
-        &control_bytes(fields)?,
-    )
-}
-
-// `zeros PATH SIZE`: a file of so many zeros.
-fn add_zeros(alloc: Global, tree: &mut MemoryTree, behind: &str) -> Result<(), BadLine> {
-    let (file, size) = first_word(behind);
-    let zeros = Vec::from_elem(alloc, 0, narrow(size)?)?;
-    add_file(tree, &path(alloc, file)?, &zeros)
+fn add_control<R: AllocGlobal + Abort>(rt: &R, tree: &mut MemoryTree, root: &Path, fields: &str) {
+    let folder = below(rt, root, "global");
+    add_folder(rt, tree, root);
+    add_folder(rt, tree, &folder);
+    let file = below(rt, &folder, "pg_control");
+    add_file(rt, tree, &file, &control_bytes(rt, fields));
 }
 
 // `put PATH AT HEX`: these bytes in a file, from a place on.
-fn put_bytes(alloc: Global, tree: &mut MemoryTree, behind: &str) -> Result<(), BadLine> {
-    let (file, behind) = first_word(behind);
-    let (at, hex) = first_word(behind);
-    tree.write_at(&path(alloc, file)?, number(at)?, &bytes(alloc, hex)?)?;
-    Ok(())
+fn put_bytes<R: AllocGlobal + Abort>(rt: &R, tree: &mut MemoryTree, file: &Path, words: &str) {
+    let (at, hex) = first_word(words);
+    tree.write_at(file, number(rt, at), &bytes(rt, hex))
+        .expect(rt, "no such file");
+}
+
+// `cut PATH SIZE`: a file of this size.
+fn cut<R: AllocGlobal + Abort>(rt: &R, tree: &mut MemoryTree, file: &Path, size: &str) {
+    tree.cut(file, number(rt, size)).expect(rt, "no such file");
+}
+
+// Makes or changes the entry at a path.
+fn set_at<R: AllocGlobal + Abort>(
+    rt: &R,
+    tree: &mut MemoryTree,
+    verb: &str,
+    path: &Path,
+    words: &str,
+) {
+    match verb {
+        "folder" => add_folder(rt, tree, path),
+        "file" => add_file(rt, tree, path, &bytes(rt, words)),
+        "zeros" => add_file(rt, tree, path, &zeros(rt, narrow(rt, words))),
+        "put" => put_bytes(rt, tree, path, words),
+        "cut" => cut(rt, tree, path, words),
+        "link" => tree.add_link(path).expect(rt, "no room for a link"),
+        "badname" => tree.add_bad_name(path).expect(rt, "no such folder"),
+        _ => add_control(rt, tree, path, words),
+    }
 }
 
 /// Carries out a line that describes a tree, if it is one.
-pub(crate) fn set_up(
-    alloc: Global,
+pub(crate) fn set_up<R: AllocGlobal + Abort>(
+    rt: &R,
     tree: &mut MemoryTree,
     verb: &str,
     behind: &str,
-) -> Result<bool, BadLine> {
-    let (text, more) = first_word(behind);
+) -> bool {
+    let (text, words) = first_word(behind);
     match verb {
-        "folder" => tree.make_folder(&path(alloc, text)?)?,
-        "file" => add_file(tree, &path(alloc, text)?, &bytes(alloc, more)?)?,
-        "zeros" => add_zeros(alloc, tree, behind)?,
-        "put" => put_bytes(alloc, tree, behind)?,
-        "cut" => tree.cut(&path(alloc, text)?, number(more)?)?,
-        "link" => tree.add_link(&path(alloc, text)?)?,
-        "badname" => tree.add_bad_name(&path(alloc, text)?)?,
-        "control" => add_control(alloc, tree, behind)?,
-        _ => return Ok(false),
+        "folder" | "file" | "zeros" | "put" | "cut" | "link" | "badname" | "control" => {
+            set_at(rt, tree, verb, &path(rt, text), words);
+            true
+        }
+        _ => false,
     }
-    Ok(true)
 }

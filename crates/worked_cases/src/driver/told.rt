@@ -1,11 +1,11 @@
 // What differs from what is wanted.
-use super::bad_line::BadLine;
+use super::line::owned;
 use std::alloc::Global;
+use std::process::Abort;
 
 /// What differs, a line for each difference, with the case that it stands in.
 #[derive(Drop)]
 pub(crate) struct Told {
-    alloc: Global,
     case: String,
     text: String,
 }
@@ -14,39 +14,45 @@ impl Told {
     /// Nothing differs.
     pub(crate) fn new(alloc: Global) -> Told {
         Told {
-            alloc,
             case: String::new(alloc),
             text: String::new(alloc),
         }
     }
 
     /// What follows stands in this case.
-    pub(crate) fn begin(&mut self, case: &str) -> Result<(), BadLine> {
-        self.case = String::from_str(self.alloc, case)?;
-        Ok(())
+    pub(crate) fn begin<R: AllocGlobal + Abort>(&mut self, rt: &R, case: &str) {
+        self.case = owned(rt, case);
     }
 
     /// Tells a difference.
-    pub(crate) fn tell(&mut self, what: &str) -> Result<(), BadLine> {
-        let line = format!(in self.alloc; "{}: {what}\n", self.case)?;
-        self.text.push_str(&line)?;
-        Ok(())
+    pub(crate) fn tell<R: Abort>(&mut self, rt: &R, what: &str) {
+        writeln!(self.text, "{}: {what}", self.case).expect(rt, "no memory");
     }
 
-    /// Tells where bytes aren't the ones that are wanted.
-    pub(crate) fn compare(
+    /// Tells a line that isn't so.
+    pub(crate) fn not_so<R: Abort>(&mut self, rt: &R, verb: &str, behind: &str) {
+        let case = self.case.as_str();
+        writeln!(self.text, "{case}: not so: {verb} {behind}").expect(rt, "no memory");
+    }
+
+    /// Tells where bytes aren't those of the text that is wanted.
+    pub(crate) fn compare<R: AllocGlobal + Abort>(
         &mut self,
+        rt: &R,
         what: &str,
         found: &[u8],
-        wanted: &[u8],
-    ) -> Result<(), BadLine> {
-        if found == wanted {
-            return Ok(());
+        wanted: &str,
+    ) {
+        if found == wanted.as_bytes() {
+            return;
         }
-        let found = String::from_utf8_lossy(self.alloc, found)?;
-        let wanted = String::from_utf8_lossy(self.alloc, wanted)?;
-        let line = format!(in self.alloc; "{what} has '{found}' in place of '{wanted}'")?;
-        self.tell(&line)
+        let found = String::from_utf8_lossy(rt.alloc(), found).expect(rt, "no memory");
+        let case = self.case.as_str();
+        writeln!(
+            self.text,
+            "{case}: {what} has '{found}' in place of '{wanted}'"
+        )
+        .expect(rt, "no memory");
     }
 
     /// All that was told.
