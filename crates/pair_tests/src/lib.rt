@@ -10,4 +10,6 @@ mod made;
 #[cfg(test)]
 mod rewound;
 #[cfg(test)]
+mod said;
+#[cfg(test)]
 mod sums;

@@ -4,30 +4,27 @@ ghost use Rattle.cluster_tree.specs.PathValue.{parsed};
 
 use cluster_tree::{FailPlan, FailingTree, FileFault, MemoryTree, Path, Tree};
 use pair_maker::make_pair;
-use std::alloc::Global;
 use std::process::Abort;
-use std::test::Fail;
 
 /// The path of a text.
-pub(crate) fn path(alloc: Global, text: &str, rt: &impl Abort) -> Path
+pub(crate) fn path<R: AllocGlobal + Abort>(rt: &R, text: &str) -> Path
     ensures { result ≡ parsed text.now }
 {
-    Path::parse(alloc, text).expect(rt, "a path")
+    Path::parse(rt.alloc(), text).expect(rt, "no path")
 }
 
 /// What is left where a pair is made below the root of an empty tree, whose calls fail by a plan, and how
 /// that ended. It has at most 4096 blocks.
 #[tactic(auto, using(crate::proofs::RoomLemmas::has_room))]
-pub(crate) fn made(
-    alloc: Global,
+pub(crate) fn made<R: AllocGlobal + Abort>(
+    rt: &R,
     seed: u64,
     blocks: u32,
     plan: FailPlan,
-    rt: &impl Abort,
 ) -> (MemoryTree, &'static str) {
-    let mut tree = FailingTree::new(MemoryTree::new(alloc), plan);
-    let root = path(alloc, ".", rt);
-    let ended = match make_pair(alloc, &mut tree, &root, seed, blocks.min(4096)) {
+    let mut tree = FailingTree::new(MemoryTree::new(rt.alloc()), plan);
+    let root = path(rt, ".");
+    let ended = match make_pair(rt.alloc(), &mut tree, &root, seed, blocks.min(4096)) {
         Ok(_) => "made",
         Err(FileFault::WriteFault) => "a write failed",
         Err(FileFault::OutOfMemory) => "out of memory",
@@ -37,24 +34,21 @@ pub(crate) fn made(
 }
 
 /// A pair that is made.
-pub(crate) fn pair(alloc: Global, seed: u64, blocks: u32, rt: &impl Abort) -> MemoryTree {
-    let (tree, ended) = made(alloc, seed, blocks, FailPlan::Never, rt);
+pub(crate) fn pair<R: AllocGlobal + Abort>(rt: &R, seed: u64, blocks: u32) -> MemoryTree {
+    let (tree, ended) = made(rt, seed, blocks, FailPlan::Never);
     assert_eq!(rt; ended, "made", "seed {seed}, blocks {blocks}");
     tree
 }
 
-/// The bytes of a file, none where there is no file.
-pub(crate) fn bytes_of(
-    alloc: Global,
+/// The bytes of a file.
+pub(crate) fn bytes_of<R: AllocGlobal + Abort>(
+    rt: &R,
     tree: &mut MemoryTree,
-    text: &str,
-    rt: &impl Abort,
-) -> Result<Vec<u8>, Fail> {
-    let file = path(alloc, text, rt);
-    let size = tree.size(&file).unwrap_or(0);
-    let mut bytes = vec![in alloc; 0; size as usize]?;
-    if tree.read_at(&file, 0, &mut bytes).is_err() {
-        bytes.clear();
-    }
-    Ok(bytes)
+    file: &str,
+) -> Vec<u8> {
+    let file = path(rt, file);
+    let size = tree.size(&file).expect(rt, "no file");
+    let mut bytes = vec![in rt.alloc(); 0; size as usize].expect(rt, "no memory");
+    tree.read_at(&file, 0, &mut bytes).expect(rt, "no bytes");
+    bytes
 }

@@ -1,9 +1,7 @@
 // The files of pairs, by their checksums, which come from a script of its own that follows the formats.
 use crate::made::{bytes_of, pair};
 use cluster_tree::MemoryTree;
-use std::alloc::Global;
 use std::process::Abort;
-use std::test::Fail;
 use wal_base::Crc32c;
 
 // The files that a pair's number decides: of the control files the bytes before their own checksum.
@@ -68,51 +66,40 @@ const ALWAYS: [(&str, &str); 11] = [
     ("c/backup_label", "E85167C4"),
 ];
 
-// The checksum of the first bytes of a file, so many or all of them.
-fn sum_of(
-    alloc: Global,
+// The checksum of the first bytes of a file, so many or all of them, is this.
+fn check_sum<R: AllocGlobal + Abort>(
+    rt: &R,
     tree: &mut MemoryTree,
     file: &str,
     size: usize,
-    rt: &impl Abort,
-) -> Result<String, Fail> {
-    let bytes = bytes_of(alloc, tree, file, rt)?;
+    wanted: &str,
+) {
+    let bytes = bytes_of(rt, tree, file);
     let mut sum = Crc32c::new();
     sum.add(bytes.get(..size).unwrap_or(&bytes));
-    let sum = sum.value();
-    Ok(format!(in alloc; "{sum:08X}")?)
+    let sum = format!(in rt.alloc(); "{:08X}", sum.value()).expect(rt, "no memory");
+    assert_eq!(rt; sum.as_str(), wanted, "{file}");
+}
+
+// The files that a pair's number decides have these checksums.
+fn check_own<R: AllocGlobal + Abort>(rt: &R, tree: &mut MemoryTree, sums: &str) {
+    for ((file, size), wanted) in FILES.iter().zip(sums.split(' ')) {
+        check_sum(rt, tree, file, *size, wanted);
+    }
+}
+
+// The files that are the same in every pair have their checksums.
+fn check_others<R: AllocGlobal + Abort>(rt: &R, tree: &mut MemoryTree) {
+    for (file, wanted) in ALWAYS {
+        check_sum(rt, tree, file, usize::MAX, wanted);
+    }
 }
 
 #[test]
-fn a_pair_is_of_its_number(rt: HostRuntime) -> Result<(), Fail> {
-    let alloc = rt.alloc();
+fn each_file_of_a_pair_is_of_its_number(rt: HostRuntime) {
     for (seed, blocks, sums) in PAIRS {
-        let mut tree = pair(alloc, seed, blocks, &rt);
-        for ((file, size), wanted) in FILES.iter().zip(sums.split(' ')) {
-            let sum = sum_of(alloc, &mut tree, file, *size, &rt)?;
-            assert_eq!(rt;
-                sum.as_str(),
-                wanted,
-                "{file} of seed {seed}, blocks {blocks}"
-            );
-        }
+        let mut tree = pair(&rt, seed, blocks);
+        check_own(&rt, &mut tree, sums);
+        check_others(&rt, &mut tree);
     }
-    Ok(())
-}
-
-#[test]
-fn a_pair_has_what_all_have(rt: HostRuntime) -> Result<(), Fail> {
-    let alloc = rt.alloc();
-    for (seed, blocks, _) in PAIRS {
-        let mut tree = pair(alloc, seed, blocks, &rt);
-        for (file, wanted) in ALWAYS {
-            let sum = sum_of(alloc, &mut tree, file, usize::MAX, &rt)?;
-            assert_eq!(rt;
-                sum.as_str(),
-                wanted,
-                "{file} of seed {seed}, blocks {blocks}"
-            );
-        }
-    }
-    Ok(())
 }
