@@ -7,12 +7,12 @@ ghost use Rattle.wal_records.specs.Place.{place_at};
 ghost use Rattle.wal_records.specs.Writer.{NewRecord, in_pages};
 ghost use Rattle.wal_records.specs.Stored.{Wrote, IsPathOf, IsStored, end_why};
 
-use crate::logs::{FIRST, SYSTEM, path_of, size};
+use crate::logs::{FIRST, SYSTEM, log_path, one_timeline, size};
 use crate::written::{log_of, tree_with};
 use cluster_tree::{FailPlan, FailingTree, Tree};
 use std::alloc::Global;
-use std::test::*;
-use wal_base::{Lsn, Spans};
+use std::process::Abort;
+use wal_base::Lsn;
 use wal_pages::LogPath;
 use wal_records::{LogFault, LogWriter, RecordCursor, Step, Why, written_log_is_read_back};
 
@@ -80,18 +80,21 @@ fn written_xids<F: Tree>(
 }
 
 /// What is read back of a writer's log from a tree that has it.
-fn read_back(alloc: Global, writer: &LogWriter, xids: &mut Vec<u32>) -> Result<(u64, Why), Fail> {
-    let mut tree = FailingTree::new(tree_with(alloc, writer)?, FailPlan::Never);
-    let log = path_of(alloc, size()?, Spans::one(alloc, 1)?, Some(SYSTEM))?;
-    Ok(written_xids(alloc, writer, log, Lsn(FIRST), &mut tree, xids)?)
+fn read_back<R: AllocGlobal + Abort>(
+    rt: &R,
+    writer: &LogWriter,
+    xids: &mut Vec<u32>,
+) -> Result<(u64, Why), LogFault> {
+    let mut tree = FailingTree::new(tree_with(rt, writer), FailPlan::Never);
+    let log = log_path(rt, size(rt), one_timeline(rt), Some(SYSTEM));
+    written_xids(rt.alloc(), writer, log, Lsn(FIRST), &mut tree, xids)
 }
 
 #[test]
-fn what_a_writer_wrote_is_given_once(rt: HostRuntime) -> Result<(), Fail> {
-    let (writer, _) = log_of(rt.alloc(), "0 10 50, 0 10 24")?;
+fn what_a_writer_wrote_is_given_once(rt: HostRuntime) {
+    let (writer, _) = log_of(&rt, "0 10 50, 0 10 24");
     let mut xids = Vec::new(rt.alloc());
-    let end = read_back(rt.alloc(), &writer, &mut xids)?;
-    assert_eq!(rt; end, (0x10_0078, Why::ZeroLength));
+    let end = read_back(&rt, &writer, &mut xids);
+    assert_eq!(rt; end, Ok((0x10_0078, Why::ZeroLength)));
     assert_eq!(rt; xids.as_slice(), [700, 701].as_slice());
-    Ok(())
 }

@@ -23,6 +23,8 @@ mod record_rows;
 #[cfg(test)]
 mod records;
 #[cfg(test)]
+mod rows;
+#[cfg(test)]
 mod texts;
 #[cfg(test)]
 mod told;

@@ -1,11 +1,10 @@
 // The logs that are read, put together field by field.
-ghost use Rattle.std.specs.Prelude.{◌≡◌, ◌≤◌, length, IfOk};
+ghost use Rattle.std.specs.Prelude.{◌≡◌, ◌≤◌, length};
 ghost use Rattle.wal_base.specs.Segment.{bytes_of};
 
-use crate::texts::{bytes_of, cut_at, half, number, position};
-use cluster_tree::{MemoryTree, Path, Tree};
-use std::alloc::Global;
-use std::test::Fail;
+use crate::texts::{bytes_of, cut_at, filled, half, number, path_of, position};
+use cluster_tree::{MemoryTree, Tree};
+use std::process::Abort;
 use wal_base::{Crc32c, SegSize, Spans};
 use wal_pages::LogPath;
 
@@ -52,86 +51,83 @@ pub fn page(at: u64, info: u16, remaining: u32) -> [u8; 40] {
 }
 
 /// A tree with the folder `log`, and in it what stands there, or nothing.
-pub fn tree_of(alloc: Global, cells: &str) -> Result<MemoryTree, Fail> {
-    let mut tree = MemoryTree::new(alloc);
-    tree.make_folder(&Path::parse(alloc, "log")?)?;
+pub fn tree_of<R: AllocGlobal + Abort>(rt: &R, cells: &str) -> MemoryTree {
+    let mut tree = MemoryTree::new(rt.alloc());
+    tree.make_folder(&path_of(rt, "log"))
+        .expect(rt, "no folder");
     for cell in cells.split(", ") {
         if !cell.is_empty() {
-            put(alloc, &mut tree, cell)?;
+            put(rt, &mut tree, cell);
         }
     }
-    Ok(tree)
+    tree
 }
 
 /// Puts something into a tree: `folder PATH`, `link PATH`, or what lies at a position of the log.
-fn put(alloc: Global, tree: &mut MemoryTree, cell: &str) -> Result<(), Fail> {
+fn put<R: AllocGlobal + Abort>(rt: &R, tree: &mut MemoryTree, cell: &str) {
     let (kind, behind) = cut_at(cell, " ");
     let (at, words) = cut_at(behind, " ");
     match kind {
-        "folder" => Ok(tree.make_folder(&Path::parse(alloc, at)?)?),
-        "link" => Ok(tree.add_link(&Path::parse(alloc, at)?)?),
-        _ => put_at(alloc, tree, kind, position(at)?, words),
+        "folder" => tree
+            .make_folder(&path_of(rt, behind))
+            .expect(rt, "no folder"),
+        "link" => tree.add_link(&path_of(rt, behind)).expect(rt, "no link"),
+        _ => put_at(rt, tree, kind, position(rt, at), words),
     }
 }
 
 /// Puts at a position: `file SIZE`, the segment's file of so many zeros; `page FLAGS REMAINING`, the header of a
 /// page with how many bytes are to come; `record TOTAL LINK`, of a length, with a link back, whose body is of
-/// bytes 5A, and of which what doesn't fit on its page stands behind the short header of the next one; or bytes.
-fn put_at(
-    alloc: Global,
-    tree: &mut MemoryTree,
-    kind: &str,
-    at: u64,
-    words: &str,
-) -> Result<(), Fail> {
+/// bytes 5A, and of which what doesn't fit on its page stands behind the short header of the next one; or `bytes BYTES`.
+fn put_at<R: AllocGlobal + Abort>(rt: &R, tree: &mut MemoryTree, kind: &str, at: u64, words: &str) {
     let (first, second) = cut_at(words, " ");
     match kind {
-        "file" => add_file(alloc, tree, name_at(at), number(first)?),
-        "page" => put_page(alloc, tree, at, half(first)?, number(second)?),
+        "file" => add_file(rt, tree, name_at(at), number(rt, words)),
+        "page" => put_page(rt, tree, at, half(rt, first), number(rt, second)),
         "record" => {
-            let record = record_of(alloc, number(first)?, position(second)?)?;
-            put_record(alloc, tree, at, &record)
+            let record = record_of(rt, number(rt, first), position(rt, second));
+            put_record(rt, tree, at, &record);
         }
-        _ => write(alloc, tree, at, &bytes_of(alloc, words)?),
+        "bytes" => write(rt, tree, at, &bytes_of(rt, words)),
+        _ => panic!(rt; "no such cell"),
     }
 }
 
 /// Writes the header of a page, which is long at a segment's start.
-fn put_page(
-    alloc: Global,
+fn put_page<R: AllocGlobal + Abort>(
+    rt: &R,
     tree: &mut MemoryTree,
     at: u64,
     info: u16,
     remaining: u32,
-) -> Result<(), Fail> {
+) {
     let header = page(at, info, remaining);
     let size = if at % FIRST == 0 { 40 } else { 24 };
-    write(alloc, tree, at, &header[..size])
+    write(rt, tree, at, &header[..size]);
 }
 
 /// Adds a file of so many bytes of zeros.
-pub fn add_file(alloc: Global, tree: &mut MemoryTree, name: &str, size: u32) -> Result<(), Fail> {
-    let path = Path::parse(alloc, name)?;
-    tree.make_file(&path)?;
-    tree.write_at(&path, 0, &vec![in alloc; 0; size as usize]?)?;
-    Ok(())
+pub fn add_file<R: AllocGlobal + Abort>(rt: &R, tree: &mut MemoryTree, name: &str, size: u32) {
+    let path = path_of(rt, name);
+    tree.make_file(&path).expect(rt, "no file");
+    tree.write_at(&path, 0, &filled(rt, 0, size))
+        .expect(rt, "no bytes");
 }
 
 /// Writes the bytes of a record, those that don't fit on its page behind the header of the next.
-fn put_record(alloc: Global, tree: &mut MemoryTree, at: u64, bytes: &[u8]) -> Result<(), Fail> {
+fn put_record<R: AllocGlobal + Abort>(rt: &R, tree: &mut MemoryTree, at: u64, bytes: &[u8]) {
     let room = 8192 - at % 8192;
     let first = bytes.len().min(room as usize);
-    write(alloc, tree, at, &bytes[..first])?;
+    write(rt, tree, at, &bytes[..first]);
     if first < bytes.len() {
-        write(alloc, tree, at.saturating_add(room + 24), &bytes[first..])?;
+        write(rt, tree, at.saturating_add(room + 24), &bytes[first..]);
     }
-    Ok(())
 }
 
 /// Writes bytes at a position of the log.
-pub fn write<F: Tree>(alloc: Global, tree: &mut F, at: u64, bytes: &[u8]) -> Result<(), Fail> {
-    tree.write_at(&Path::parse(alloc, name_at(at))?, at % FIRST, bytes)?;
-    Ok(())
+pub fn write<F: Tree, R: AllocGlobal + Abort>(rt: &R, tree: &mut F, at: u64, bytes: &[u8]) {
+    tree.write_at(&path_of(rt, name_at(at)), at % FIRST, bytes)
+        .expect(rt, "no bytes");
 }
 
 /// The header of a record with this body.
@@ -150,38 +146,42 @@ pub fn header(link: u64, manager: u8, info: u8, body: &[u8]) -> [u8; 24] {
 }
 
 /// The bytes of a record of a length, with a link back, whose body is of bytes 5A.
-fn record_of(alloc: Global, total: u32, link: u64) -> Result<Vec<u8>, Fail> {
-    let mut bytes = vec![in alloc; 0x5A; total.max(24) as usize]?;
+fn record_of<R: AllocGlobal + Abort>(rt: &R, total: u32, link: u64) -> Vec<u8> {
+    let size = total.max(24) as usize;
+    let mut bytes = vec![in rt.alloc(); 0x5A; size].expect(rt, "no memory");
     let header = header(link, 10, 0, &bytes[24..]);
     bytes.as_mut_slice()[..24].copy_from_slice(&header);
-    Ok(bytes)
+    bytes
 }
 
 /// How long its segments are: 1 MiB.
-pub fn size() -> Result<SegSize, Fail>
-    ensures { IfOk result (λ size. bytes_of size ≡ 0x10_0000) }
+pub fn size<R: Abort>(rt: &R) -> SegSize
+    ensures { bytes_of result ≡ 0x10_0000 }
 {
-    Ok(SegSize::new(0x10_0000).ok_or("no size")?)
+    SegSize::new(0x10_0000).expect(rt, "no size")
+}
+
+/// Timeline 1 alone.
+pub fn one_timeline<R: AllocGlobal + Abort>(rt: &R) -> Spans {
+    Spans::one(rt.alloc(), 1).expect(rt, "no memory")
 }
 
 /// The log in the folder `log`, in segments of a size of these timelines.
-pub fn path_of(
-    alloc: Global,
+pub fn log_path<R: AllocGlobal + Abort>(
+    rt: &R,
     size: SegSize,
     spans: Spans,
     system: Option<u64>,
-) -> Result<LogPath, Fail>
-    ensures shallow { IfOk result (λ log. length log.folder.parts ≤ 63) }
-    ensures size { IfOk result (λ log. log.size ≡ size) }
+) -> LogPath
+    ensures shallow { length result.folder.parts ≤ 63 }
+    ensures size { result.size ≡ size }
 {
     let log = LogPath {
-        folder: Path::parse(alloc, "log")?,
+        folder: path_of(rt, "log"),
         spans,
         size,
         system,
     };
-    if log.folder.len() > 63 {
-        return Err("too deep".into());
-    }
-    Ok(log)
+    assert!(rt; log.folder.len() <= 63, "too deep");
+    log
 }

@@ -5,8 +5,7 @@ use crate::one_record::cursor_over;
 use crate::told::Told;
 use block_refs::{Parts, image_page, split_into, split_record};
 use rmgr_desc::describe;
-use std::alloc::Global;
-use std::test::Fail;
+use std::process::Abort;
 use wal_records::Record;
 
 /// The body of an INSERT+INIT: block 7 of 1663/5/16384 with three bytes; block 8 of the free space map of the same relation with
@@ -43,17 +42,18 @@ BlockRef { id: 4, name: BlockName { rel: RelName { space: 1664, database: 0, rel
 None None 3";
 
 /// Whether a record's main bytes, the bytes of its blocks 0, 1, 4 and 2, and what it says are those that are meant.
-fn has_bytes(alloc: Global, rec: &Record, parts: &Parts) -> Result<bool, Fail>
+fn has_bytes<R: AllocGlobal + Abort>(rt: &R, rec: &Record, parts: &Parts) -> bool
     requires parts { ArePartsOf rec.now parts.now }
 {
     let mut told = Told::new(BYTES);
     told.shows("", &parts.main_bytes(rec));
-    for id in [0, 1, 4, 2] {
-        told.shows(" ", &parts.block_bytes(rec, id));
-    }
-    told.text(" ");
-    told.text(describe(alloc, rec, parts)?.as_str());
-    Ok(told.is_all())
+    told.shows(" ", &parts.block_bytes(rec, 0));
+    told.shows(" ", &parts.block_bytes(rec, 1));
+    told.shows(" ", &parts.block_bytes(rec, 4));
+    told.shows(" ", &parts.block_bytes(rec, 2));
+    let says = describe(rt.alloc(), rec, parts).expect(rt, "no memory");
+    told.says(" ", &says.as_str());
+    told.is_all()
 }
 
 const BYTES: &str = "\
@@ -77,31 +77,28 @@ fn has_images(rec: &Record, parts: &Parts) -> bool
 
 const IMAGES: &str = "false true true 117 true [118, 119, 170]";
 
-/// Whether the record has its references, its bytes or its images, by what is asked, or its references where its parts
-/// stand in parts that were there.
-fn has(alloc: Global, call: &str) -> Result<bool, Fail> {
-    let cursor = cursor_over(alloc, 10, 0x80, &THREE_BLOCKS)?;
-    let rec = cursor.current().ok_or("no record")?;
-    let parts = split_record(rec)?;
-    match call {
-        "references" => Ok(has_references(&parts)),
-        "bytes" => has_bytes(alloc, rec, &parts),
-        "images" => Ok(has_images(rec, &parts)),
-        _ => has_same_parts(rec),
+/// Whether a record has its references, its bytes and its images.
+fn has_all<R: AllocGlobal + Abort>(rt: &R, rec: &Record) -> (bool, bool, bool) {
+    match split_record(rec) {
+        Ok(parts) => (
+            has_references(&parts),
+            has_bytes(rt, rec, &parts),
+            has_images(rec, &parts),
+        ),
+        Err(_) => (false, false, false),
     }
 }
 
 /// Whether a record has its references where its parts stand in parts that were there.
-fn has_same_parts(rec: &Record) -> Result<bool, Fail> {
+fn has_same_parts(rec: &Record) -> bool {
     let mut parts = Parts::new();
-    split_into(rec, &mut parts)?;
-    Ok(has_references(&parts))
+    split_into(rec, &mut parts).is_ok() && has_references(&parts)
 }
 
 #[test]
-fn a_record_has_its_references_bytes_and_images(rt: HostRuntime) -> Result<(), Fail> {
-    for call in ["references", "bytes", "images", "same parts"] {
-        assert!(rt; has(rt.alloc(), call)?, "{call}");
-    }
-    Ok(())
+fn a_record_has_its_references_bytes_and_images(rt: HostRuntime) {
+    let cursor = cursor_over(&rt, 10, 0x80, &THREE_BLOCKS);
+    let rec = cursor.current().expect(&rt, "no record");
+    let has = (has_all(&rt, rec), has_same_parts(rec));
+    assert_eq!(rt; has, ((true, true, true), true));
 }

@@ -3,70 +3,84 @@
 use crate::logs::{FIRST, FIRST_NAME, SECOND, SYSTEM, size, tree_of, write};
 use crate::record_rows::CHECKPOINT;
 use crate::records::is_read;
-use crate::texts::{byte, cut_at, number};
+use crate::rows::{Rows, check};
+use crate::texts::{byte, cut_at, filled, number, path_of};
 use crate::told::Told;
-use cluster_tree::{MemoryTree, Path, Tree};
-use std::alloc::Global;
-use std::test::*;
+use cluster_tree::{MemoryTree, Tree};
+use std::process::Abort;
 use wal_base::Lsn;
 use wal_records::LogWriter;
 
-/// Appends a record of a transaction: the operation and its manager, and the bytes of its body.
-pub fn append(writer: &mut LogWriter, xid: u32, kind: (u8, u8), body: &[u8]) -> Result<u64, Fail> {
+/// Appends a record of a transaction: the operation and its manager, and the bytes of its body. Answers where it starts.
+pub fn append<R: Abort>(
+    rt: &R,
+    writer: &mut LogWriter,
+    xid: u32,
+    kind: (u8, u8),
+    body: &[u8],
+) -> u64 {
     let (info, manager) = kind;
-    if manager > 21 || writer.position().0 > 1 << 62 {
-        return Err("no such record".into());
-    }
-    Ok(writer.append(xid, info, manager, body)?.0)
+    let end = writer.position();
+    assert!(rt; manager <= 21 && end.0 <= 1 << 62, "no such record");
+    writer
+        .append(xid, info, manager, body)
+        .expect(rt, "no record")
+        .0
 }
 
 /// A log of timeline 1 in segments of 1 MiB from 0/100000 on.
-fn new_writer(alloc: Global) -> Result<LogWriter, Fail> {
-    Ok(LogWriter::new(alloc, Lsn(FIRST), 1, SYSTEM, size()?)?)
+fn new_writer<R: AllocGlobal + Abort>(rt: &R) -> LogWriter {
+    LogWriter::new(rt.alloc(), Lsn(FIRST), 1, SYSTEM, size(rt)).expect(rt, "no memory")
 }
 
 /// Such a log of one record: the operation and its manager, and the bytes of its body.
-pub fn writer_of(alloc: Global, kind: (u8, u8), body: &[u8]) -> Result<LogWriter, Fail> {
-    let mut writer = new_writer(alloc)?;
-    append(&mut writer, 0, kind, body)?;
-    Ok(writer)
+pub fn writer_of<R: AllocGlobal + Abort>(rt: &R, kind: (u8, u8), body: &[u8]) -> LogWriter {
+    let mut writer = new_writer(rt);
+    append(rt, &mut writer, 0, kind, body);
+    writer
 }
 
 /// Appends a record of a transaction, whose body is of bytes 5A: its operation, its manager and its length.
-fn append_new(alloc: Global, writer: &mut LogWriter, xid: u32, new: &str) -> Result<u64, Fail> {
+fn append_new<R: AllocGlobal + Abort>(rt: &R, writer: &mut LogWriter, xid: u32, new: &str) -> u64 {
     let (info, behind) = cut_at(new, " ");
     let (manager, total) = cut_at(behind, " ");
-    let (kind, total) = ((byte(info)?, byte(manager)?), number(total)?);
-    let body = vec![in alloc; 0x5A; total.saturating_sub(24) as usize]?;
-    append(writer, xid, kind, &body)
+    let body = filled(rt, 0x5A, number(rt, total).saturating_sub(24));
+    append(rt, writer, xid, (byte(rt, info), byte(rt, manager)), &body)
 }
 
 /// Such a log with these records, of the transactions from 700 on, and where the last one starts.
-pub fn log_of(alloc: Global, records: &str) -> Result<(LogWriter, u64), Fail> {
-    let mut writer = new_writer(alloc)?;
+pub fn log_of<R: AllocGlobal + Abort>(rt: &R, records: &str) -> (LogWriter, u64) {
+    let mut writer = new_writer(rt);
     let mut last = 0;
     for (new, xid) in records.split(", ").zip(700..) {
         if new != "-" {
-            last = append_new(alloc, &mut writer, xid, new)?;
+            last = append_new(rt, &mut writer, xid, new);
         }
     }
-    Ok((writer, last))
+    (writer, last)
 }
 
 /// A tree with that log in its segment files, which go on in zeros.
-pub fn tree_with(alloc: Global, writer: &LogWriter) -> Result<MemoryTree, Fail> {
-    let mut tree = tree_of(alloc, "file 0/100000 1048576, file 0/200000 1048576")?;
+pub fn tree_with<R: AllocGlobal + Abort>(rt: &R, writer: &LogWriter) -> MemoryTree {
+    let mut tree = tree_of(rt, "file 0/100000 1048576, file 0/200000 1048576");
     let bytes = writer.bytes();
     let first = bytes.len().min(0x10_0000);
-    write(alloc, &mut tree, FIRST, &bytes[..first])?;
-    write(alloc, &mut tree, SECOND, &bytes[first..])?;
-    Ok(tree)
+    write(rt, &mut tree, FIRST, &bytes[..first]);
+    write(rt, &mut tree, SECOND, &bytes[first..]);
+    tree
+}
+
+/// A tree with that log in a file that ends where its last page does.
+pub fn short_tree<R: AllocGlobal + Abort>(rt: &R, writer: &LogWriter) -> MemoryTree {
+    let mut tree = tree_of(rt, "file 0/100000 0");
+    write(rt, &mut tree, FIRST, writer.bytes());
+    tree
 }
 
 /// A tree with a log of such records.
-pub fn log_tree(alloc: Global, records: &str) -> Result<MemoryTree, Fail> {
-    let (writer, _) = log_of(alloc, records)?;
-    tree_with(alloc, &writer)
+pub fn log_tree<R: AllocGlobal + Abort>(rt: &R, records: &str) -> MemoryTree {
+    let (writer, _) = log_of(rt, records);
+    tree_with(rt, &writer)
 }
 
 /// A log of such records; where the last one starts and ends, the place where the log ends, and why.
@@ -95,52 +109,47 @@ fn is_written(writer: &LogWriter, start: u64, wanted: &str) -> bool {
 }
 
 /// Whether a log is written, and read again, as its row says.
-fn is_so(alloc: Global, records: &str, wanted: &str) -> Result<bool, Fail> {
-    let (last, end) = cut_at(wanted, ", ");
-    let (writer, start) = log_of(alloc, records)?;
+pub fn is_row<R: AllocGlobal + Abort>(rt: &R, records: &str, meant: &str) -> bool {
+    let (last, end) = cut_at(meant, ", ");
+    let (writer, start) = log_of(rt, records);
     let read = if records == "-" { "none" } else { last };
-    let mut tree = tree_with(alloc, &writer)?;
-    Ok(is_written(&writer, start, last) && is_read(alloc, &mut tree, FIRST, (read, end))?)
+    let mut tree = tree_with(rt, &writer);
+    is_written(&writer, start, last) && is_read(rt, &mut tree, FIRST, (read, end))
 }
 
 #[test]
-fn what_was_written_is_read_again(rt: HostRuntime) -> Result<(), Fail> {
-    for row in ROWS.split('\n') {
-        if let Some((records, wanted)) = row.split_once(" = ") {
-            assert!(rt; is_so(rt.alloc(), records, wanted)?, "{row}");
-        }
-    }
-    Ok(())
+fn what_was_written_is_read_again(rt: HostRuntime) {
+    check(&rt, Rows::Written, &[ROWS]);
 }
 
 /// All bytes of the first segment's file.
-fn segment_of(alloc: Global, tree: &mut MemoryTree) -> Result<Vec<u8>, Fail> {
-    let mut bytes = vec![in alloc; 0; 0x10_0000]?;
-    tree.read_at(&Path::parse(alloc, FIRST_NAME)?, 0, &mut bytes)?;
-    Ok(bytes)
+fn segment_of<R: AllocGlobal + Abort>(rt: &R, tree: &mut MemoryTree) -> Vec<u8> {
+    let mut bytes = filled(rt, 0, 0x10_0000);
+    tree.read_at(&path_of(rt, FIRST_NAME), 0, &mut bytes)
+        .expect(rt, "no bytes");
+    bytes
 }
 
 /// The first segment as it was stored.
-fn stored_segment(alloc: Global) -> Result<Vec<u8>, Fail> {
-    let mut stored = tree_of(alloc, "file 0/100000 1048576, page 0/100000 2 0")?;
-    write(alloc, &mut stored, 0x10_0028, &CHECKPOINT)?;
-    segment_of(alloc, &mut stored)
+fn stored_segment<R: AllocGlobal + Abort>(rt: &R) -> Vec<u8> {
+    let mut stored = tree_of(rt, "file 0/100000 1048576, page 0/100000 2 0");
+    write(rt, &mut stored, 0x10_0028, &CHECKPOINT);
+    segment_of(rt, &mut stored)
 }
 
 /// The first segment as a writer's bytes are in it.
-fn written_segment(alloc: Global, writer: &LogWriter) -> Result<Vec<u8>, Fail> {
-    segment_of(alloc, &mut tree_with(alloc, writer)?)
+fn written_segment<R: AllocGlobal + Abort>(rt: &R, writer: &LogWriter) -> Vec<u8> {
+    segment_of(rt, &mut tree_with(rt, writer))
 }
 
 /// A segment with one shutdown checkpoint, whose bytes and sum come from an independent script: all
 /// of it, of which the writer gives the first page.
 #[test]
-fn a_segment_is_written_as_it_was_stored(rt: HostRuntime) -> Result<(), Fail> {
-    let mut writer = new_writer(rt.alloc())?;
-    let start = append(&mut writer, 0, (0, 0), &CHECKPOINT[24..])?;
+fn a_segment_is_written_as_it_was_stored(rt: HostRuntime) {
+    let mut writer = new_writer(&rt);
+    let start = append(&rt, &mut writer, 0, (0, 0), &CHECKPOINT[24..]);
     let told = (start, writer.position(), writer.bytes().len());
     assert_eq!(rt; told, (0x10_0028, Lsn(0x10_00A0), 8192));
-    let written = written_segment(rt.alloc(), &writer)?;
-    assert!(rt; written.as_slice() == stored_segment(rt.alloc())?.as_slice());
-    Ok(())
+    let written = written_segment(&rt, &writer);
+    assert!(rt; written.as_slice() == stored_segment(&rt).as_slice());
 }

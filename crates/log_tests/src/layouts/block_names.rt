@@ -1,8 +1,8 @@
 //! Names of forks, relations and blocks, as src/common/relpath.c and pg_waldump have them.
-use crate::texts::{byte, cut_at, numbers};
+use crate::texts::{byte, cut_at, first_number, number};
 use crate::told::Told;
 use block_refs::{BlockName, Fork, RelName};
-use std::test::Fail;
+use std::process::Abort;
 
 pub(crate) const NAMES: &str = "\
 fork 0 = Main main 0
@@ -24,42 +24,46 @@ fn fork(told: &mut Told<'_>, number: u8) {
     told.shows(" ", &fork.number());
 }
 
-/// A block by its numbers.
-fn numbered(words: &str) -> Result<BlockName, Fail> {
-    let [space, database, relation, fork, block] = numbers(words)?;
+/// A block by its five numbers.
+fn numbered<R: Abort>(rt: &R, words: &str) -> BlockName {
+    let (space, behind) = first_number(rt, words);
+    let (database, behind) = first_number(rt, behind);
+    let (relation, behind) = first_number(rt, behind);
+    let (fork, block) = cut_at(behind, " ");
     let rel = RelName {
         space,
         database,
         relation,
     };
-    match Fork::from_number(u8::try_from(fork).unwrap_or(u8::MAX)) {
-        Some(fork) => Ok(BlockName { rel, fork, block }),
-        None => Err("no fork".into()),
+    BlockName {
+        rel,
+        fork: Fork::from_number(byte(rt, fork)).expect(rt, "no fork"),
+        block: number(rt, block),
     }
 }
 
 /// Whether each block is below the next one.
-fn is_rising(blocks: &str) -> Result<bool, Fail> {
+fn is_rising<R: Abort>(rt: &R, blocks: &str) -> bool {
     let (first, behind) = cut_at(blocks, ", ");
-    let mut last = numbered(first)?;
+    let mut last = numbered(rt, first);
     for words in behind.split(", ") {
-        let block = numbered(words)?;
+        let block = numbered(rt, words);
         if last >= block {
-            return Ok(false);
+            return false;
         }
         last = block;
     }
-    Ok(true)
+    true
 }
 
 /// Whether a line of a verb is as a row says: `fork N`, `shown SPACE DATABASE RELATION FORK BLOCK`, or `rising` of
 /// such blocks.
-pub(crate) fn block_name(verb: &str, behind: &str, meant: &str) -> Result<bool, Fail> {
+pub(crate) fn block_name<R: Abort>(rt: &R, verb: &str, behind: &str, meant: &str) -> bool {
     let mut told = Told::new(meant);
     match verb {
-        "fork" => fork(&mut told, byte(behind)?),
-        "shown" => told.says("", &numbered(behind)?),
-        _ => told.shows("", &is_rising(behind)?),
+        "fork" => fork(&mut told, byte(rt, behind)),
+        "shown" => told.says("", &numbered(rt, behind)),
+        _ => told.shows("", &is_rising(rt, behind)),
     }
-    Ok(told.is_all())
+    told.is_all()
 }

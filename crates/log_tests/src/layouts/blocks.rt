@@ -1,9 +1,8 @@
 //! Layouts of the bytes of blocks, by their kinds.
-use crate::texts::{cut_at, half};
+use crate::texts::{cut_at, decoded, half};
 use crate::told::Told;
 use block_layouts::*;
-use std::alloc::Global;
-use std::test::Fail;
+use std::process::Abort;
 
 fn insert(told: &mut Told<'_>, bytes: &[u8]) {
     let Some(tuple) = insert_tuple(bytes) else {
@@ -133,12 +132,12 @@ fn layout(told: &mut Told<'_>, kind: &str, one: u16, other: u16, bytes: &[u8]) {
 
 /// `block KIND A B HEX`: whether the bytes of a block are read as a row says; A and B are the numbers that the main
 /// bytes tell, or 1 for a part that is there.
-pub fn block(alloc: Global, behind: &str, meant: &str) -> Result<bool, Fail> {
+pub fn block<R: AllocGlobal + Abort>(rt: &R, behind: &str, meant: &str) -> bool {
     let (kind, behind) = cut_at(behind, " ");
     let (one, behind) = cut_at(behind, " ");
     let (other, digits) = cut_at(behind, " ");
-    let (one, other) = (half(one)?, half(other)?);
+    let (one, other) = (half(rt, one), half(rt, other));
     let mut told = Told::new(meant);
-    layout(&mut told, kind, one, other, &hex::decode(alloc, digits)?);
-    Ok(told.is_all())
+    layout(&mut told, kind, one, other, &decoded(rt, digits));
+    told.is_all()
 }

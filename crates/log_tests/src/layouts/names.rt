@@ -5,22 +5,27 @@ use record_layouts::Operation;
 use rmgr_desc::{
     add_manager_name, add_operation_name, manager_name, manager_named, operation_name,
 };
-use std::alloc::Global;
-use std::test::Fail;
+use std::process::Abort;
 
 /// Whether an operation's name is added to that of its manager as a row says.
-fn is_added(alloc: Global, manager: u8, info: u8, meant: &str) -> Result<bool, Fail> {
-    let mut text = String::new(alloc);
-    add_manager_name(&mut text, manager)?;
-    text.push_str(" ")?;
-    add_operation_name(&mut text, manager, info)?;
-    Ok(text.as_str() == meant)
+fn is_added<R: AllocGlobal + Abort>(rt: &R, manager: u8, info: u8, meant: &str) -> bool {
+    let mut text = String::new(rt.alloc());
+    add_manager_name(&mut text, manager).expect(rt, "no memory");
+    text.push(' ').expect(rt, "no memory");
+    add_operation_name(&mut text, manager, info).expect(rt, "no memory");
+    text.as_str() == meant
 }
 
 /// Whether an operation has a name, which is also added behind what is there.
-fn operation(alloc: Global, manager: u8, info: u8, meant: &str) -> Result<bool, Fail> {
-    let is_named = meant.ends_with(operation_name(alloc, manager, info)?.as_str());
-    Ok(is_named && is_added(alloc, manager, info, meant)?)
+fn operation<R: AllocGlobal + Abort>(rt: &R, manager: u8, info: u8, meant: &str) -> bool {
+    let name = operation_name(rt.alloc(), manager, info).expect(rt, "no memory");
+    meant.ends_with(name.as_str()) && is_added(rt, manager, info, meant)
+}
+
+/// Whether a manager has the name that a row says.
+fn manager<R: AllocGlobal + Abort>(rt: &R, manager: u8, meant: &str) -> bool {
+    let name = manager_name(rt.alloc(), manager).expect(rt, "no memory");
+    name.as_str() == meant
 }
 
 /// How many zeros hold an operation's layout at least.
@@ -54,13 +59,13 @@ fn named(name: &str, meant: &str) -> bool {
 }
 
 /// Whether a line of a verb is as a row says: `manager N`, `operation MANAGER INFO`, `does MANAGER INFO`, `named NAME`.
-pub fn name(alloc: Global, verb: &str, behind: &str, meant: &str) -> Result<bool, Fail> {
-    let (manager, info) = cut_at(behind, " ");
+pub fn name<R: AllocGlobal + Abort>(rt: &R, verb: &str, behind: &str, meant: &str) -> bool {
+    let (first, info) = cut_at(behind, " ");
     match verb {
-        "manager" => Ok(manager_name(alloc, byte(manager)?)?.as_str() == meant),
-        "operation" => operation(alloc, byte(manager)?, byte(info)?, meant),
-        "does" => Ok(does(byte(manager)?, byte(info)?, meant)),
-        "named" => Ok(named(behind, meant)),
-        _ => Err("no such line".into()),
+        "manager" => manager(rt, byte(rt, behind), meant),
+        "operation" => operation(rt, byte(rt, first), byte(rt, info), meant),
+        "does" => does(byte(rt, first), byte(rt, info), meant),
+        "named" => named(behind, meant),
+        _ => panic!(rt; "no such line"),
     }
 }

@@ -1,7 +1,6 @@
 //! The bodies of records, by their names.
-use crate::texts::cut_at;
-use std::alloc::Global;
-use std::test::Fail;
+use crate::texts::{cut_at, decoded};
+use std::process::Abort;
 
 const BODIES: &str = "\
 # Blocks 0, 65535 and 65536 of 1663/5/16384, and block 7 of 1663/5/16385.
@@ -58,6 +57,6 @@ fn digits_of<'a>(lines: &'a str, word: &'a str) -> &'a str {
 }
 
 /// The bytes of a body, by its name or its digits.
-pub(crate) fn body_of(alloc: Global, word: &str) -> Result<Vec<u8>, Fail> {
-    Ok(hex::decode(alloc, digits_of(BODIES, word))?)
+pub(crate) fn body_of<R: AllocGlobal + Abort>(rt: &R, word: &str) -> Vec<u8> {
+    decoded(rt, digits_of(BODIES, word))
 }

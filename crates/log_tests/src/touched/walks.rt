@@ -13,67 +13,64 @@ use crate::touched::walk_rows::HINTED;
 use cluster_tree::{FailingTree, Tree};
 use log_walk::{LogWalkFault, common_checkpoint, end_of_target, touch_log};
 use std::alloc::Global;
-use std::test::Fail;
+use std::process::Abort;
 use touched_blocks::Touched;
 use wal_base::{Lsn, SegSize};
 use wal_records::RecordCursor;
 
 /// Where the target's log ends.
-fn end(alloc: Global, told: &mut Told<'_>, words: &str, cells: &str) -> Result<(), Fail> {
+fn end<R: AllocGlobal + Abort>(rt: &R, told: &mut Told<'_>, words: &str, cells: &str) {
     let (checkpoint, least) = cut_at(words, " ");
-    let control = control(position(checkpoint)?, position(least)?);
-    let mut cursor = cursor_at(alloc, size()?, 0)?;
-    match end_of_target(&mut cursor, &mut tree_of(alloc, cells)?, &control) {
+    let control = control(position(rt, checkpoint), position(rt, least));
+    let mut cursor = cursor_at(rt, size(rt), 0);
+    match end_of_target(&mut cursor, &mut tree_of(rt, cells), &control) {
         Ok(end) => told.says("", &end),
         Err(fault) => told.shows("", &fault),
     }
-    Ok(())
 }
 
 /// Where the last common checkpoint starts, and its redo.
-fn common(alloc: Global, told: &mut Told<'_>, fork: &str, cells: &str) -> Result<(), Fail> {
-    let size = size()?;
-    let fork = Lsn(position(fork)?);
-    let mut cursor = cursor_at(alloc, size, 0)?;
-    match common_checkpoint(&mut cursor, &mut tree_of(alloc, cells)?, size, fork) {
+fn common<R: AllocGlobal + Abort>(rt: &R, told: &mut Told<'_>, fork: &str, cells: &str) {
+    let size = size(rt);
+    let fork = Lsn(position(rt, fork));
+    let mut cursor = cursor_at(rt, size, 0);
+    match common_checkpoint(&mut cursor, &mut tree_of(rt, cells), size, fork) {
         Ok(found) => {
             told.says("", &found.start);
             told.says(" ", &Lsn(found.checkpoint.redo));
         }
         Err(fault) => told.shows("", &fault),
     }
-    Ok(())
 }
 
 /// What a log touches up to an end from a redo on, or what refuses it.
-fn read(
-    alloc: Global,
+fn read<R: AllocGlobal + Abort>(
+    rt: &R,
     redo: Lsn,
     end: Lsn,
     cells: &str,
-) -> Result<Result<Touched, LogWalkFault>, Fail> {
-    let mut cursor = cursor_at(alloc, size()?, 0)?;
-    let mut tree = tree_of(alloc, cells)?;
-    Ok(touch_log(alloc, &mut cursor, &mut tree, redo, end))
+) -> Result<Touched, LogWalkFault> {
+    let mut cursor = cursor_at(rt, size(rt), 0);
+    touch_log(rt.alloc(), &mut cursor, &mut tree_of(rt, cells), redo, end)
 }
 
 /// How many chunks, cuts and databases a log touches, with their set, or what refuses it.
-fn touched(
-    alloc: Global,
+fn touched<R: AllocGlobal + Abort>(
+    rt: &R,
     told: &mut Told<'_>,
     set: &mut Touched,
     words: &str,
     cells: &str,
-) -> Result<(), Fail> {
+) {
     let (redo, end) = cut_at(words, " ");
-    match read(alloc, Lsn(position(redo)?), Lsn(position(end)?), cells)? {
+    let (redo, end) = (Lsn(position(rt, redo)), Lsn(position(rt, end)));
+    match read(rt, redo, end, cells) {
         Ok(found) => {
             counted(told, &found);
             *set = found;
         }
         Err(fault) => told.shows("", &fault),
     }
-    Ok(())
 }
 
 /// How many chunks the log with the hint touches, by the three walks on one cursor.
@@ -93,27 +90,27 @@ fn three_walks<F: Tree>(
 }
 
 /// What the three walks answer where these reads fail.
-fn failing(alloc: Global, told: &mut Told<'_>, plan: &str) -> Result<(), Fail> {
-    let (size, plan) = (size()?, plan_of(plan)?);
-    let mut tree = FailingTree::new(tree_of(alloc, HINTED)?, plan);
-    let mut cursor = cursor_at(alloc, size, 0)?;
-    told.shows("", &three_walks(alloc, &mut cursor, &mut tree, size));
-    Ok(())
+fn failing<R: AllocGlobal + Abort>(rt: &R, told: &mut Told<'_>, plan: &str) {
+    let size = size(rt);
+    let mut tree = FailingTree::new(tree_of(rt, HINTED), plan_of(rt, plan));
+    let mut cursor = cursor_at(rt, size, 0);
+    told.shows("", &three_walks(rt.alloc(), &mut cursor, &mut tree, size));
 }
 
 /// Tells what a walk answers, and puts what it touches into a set.
-pub(crate) fn walked(
-    alloc: Global,
+pub(crate) fn walked<R: AllocGlobal + Abort>(
+    rt: &R,
     told: &mut Told<'_>,
     set: &mut Touched,
     verb: &str,
     words: &str,
-) -> Result<(), Fail> {
+) {
     let (words, cells) = cut_at(words, ": ");
     match verb {
-        "end" => end(alloc, told, words, cells),
-        "common" => common(alloc, told, words, cells),
-        "touch" => touched(alloc, told, set, words, cells),
-        _ => failing(alloc, told, words),
+        "end" => end(rt, told, words, cells),
+        "common" => common(rt, told, words, cells),
+        "touch" => touched(rt, told, set, words, cells),
+        "walk" => failing(rt, told, words),
+        _ => panic!(rt; "no such call"),
     }
 }
