@@ -4,50 +4,42 @@ ghost use Rattle.cluster_tree.specs.Causes.{Rose};
 ghost use Rattle.cluster_tree.specs.Frame.{Came};
 
 use cluster_tree::{Path, Tree, TreeFault};
-use std::alloc::Global;
+use std::process::Abort;
 
 /// The verbs of the calls, one of each kind.
 pub(crate) const VERBS: &str = "kind list size read write_x cut make_file make_folder remove sync";
 
-// How a call that reads ends, by its verb.
-fn read<F: Tree>(alloc: Global, tree: &mut F, verb: &str, path: &Path) -> Result<(), TreeFault> {
-    match verb {
-        "kind" => {
-            tree.kind(path)?;
-        }
-        "list" => {
-            tree.list(alloc, path)?;
-        }
-        "size" => {
-            tree.size(path)?;
-        }
-        _ => tree.read_at(path, 0, &mut [0; 5])?,
-    }
-    Ok(())
-}
-
 // How a call that changes ends, by its verb.
-fn changed<F: Tree>(tree: &mut F, verb: &str, path: &Path) -> Result<(), TreeFault> {
+fn changed<F: Tree, R: Abort>(
+    rt: &R,
+    tree: &mut F,
+    verb: &str,
+    path: &Path,
+) -> Result<(), TreeFault> {
     match verb {
         "write_x" => tree.write_at(path, 0, b"x"),
         "cut" => tree.cut(path, 9),
         "make_file" => tree.make_file(path),
         "make_folder" => tree.make_folder(path),
         "remove" => tree.remove(path),
-        _ => tree.sync(),
+        "sync" => tree.sync(),
+        _ => panic!(rt; "no such call"),
     }
 }
 
 // How a call on a path ends, by its verb.
-pub(crate) fn ended<F: Tree>(
-    alloc: Global,
+pub(crate) fn ended<F: Tree, R: AllocGlobal + Abort>(
+    rt: &R,
     tree: &mut F,
     verb: &str,
     path: &Path,
 ) -> Result<(), TreeFault> {
     match verb {
-        "kind" | "list" | "size" | "read" => read(alloc, tree, verb, path),
-        _ => changed(tree, verb, path),
+        "kind" => tree.kind(path).and(Ok(())),
+        "list" => tree.list(rt.alloc(), path).and(Ok(())),
+        "size" => tree.size(path).and(Ok(())),
+        "read" => tree.read_at(path, 0, &mut [0; 5]),
+        _ => changed(rt, tree, verb, path),
     }
 }
 

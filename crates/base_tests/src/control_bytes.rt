@@ -1,9 +1,9 @@
 // The control files that the tests read. Their bytes, their CRCs and what they say come from a script
 // of its own that lays the fields out with Python's struct and computes CRC-32C bit by bit
 // (tests/pg_control.py).
-use crate::rows::first_word;
+use crate::texts::{first_word, number};
 use control_file::{Checkpoint, Control};
-use std::test::Fail;
+use std::process::Abort;
 use wal_base::Crc32c;
 
 // A cluster that was shut down on timeline 1: each field's offset, width, value and name; zeros elsewhere but for
@@ -19,8 +19,11 @@ const EXAMPLE: &str = "\
     walBlcksz, 228 4 1048576 walSegSize, 232 4 64 nameLen, 236 4 32 indexKeys, 240 4 1996 \
     toastChunk, 244 4 2048 loBlock, 248 1 1 float8ByVal";
 
-// The first byte of the example's nonce, and the CRC of its first 288 bytes.
-const EXAMPLE_NONCE: u8 = 0;
+// The example's nonce, and the CRC of its first 288 bytes.
+const EXAMPLE_NONCE: [u8; 32] = [
+    0, 1, 2, 3, 4, 5, 6, 7, 8, 9, 10, 11, 12, 13, 14, 15, 16, 17, 18, 19, 20, 21, 22, 23, 24, 25,
+    26, 27, 28, 29, 30, 31,
+];
 
 const EXAMPLE_CRC: u32 = 0xFC30_B61D;
 
@@ -42,8 +45,11 @@ const DISTINCT: &str = "\
     4 1073741824 walSegSize, 232 4 2172814212 nameLen, 236 4 2240186248 indexKeys, 240 4 \
     2307558284 toastChunk, 244 4 2374930320 loBlock, 252 4 1 checksumVersion";
 
-// The first byte of that file's nonce, and the CRC of its first 288 bytes.
-const DISTINCT_NONCE: u8 = 224;
+// That file's nonce, and the CRC of its first 288 bytes.
+const DISTINCT_NONCE: [u8; 32] = [
+    224, 225, 226, 227, 228, 229, 230, 231, 232, 233, 234, 235, 236, 237, 238, 239, 240, 241, 242,
+    243, 244, 245, 246, 247, 248, 249, 250, 251, 252, 253, 254, 255,
+];
 
 const DISTINCT_CRC: u32 = 0x5720_A62E;
 
@@ -56,63 +62,54 @@ fn put(file: &mut [u8; 8192], at: usize, width: usize, value: u64) {
 }
 
 // Writes a field: its offset, its width and its value, and maybe its name.
-fn put_field(file: &mut [u8; 8192], field: &str) -> Result<(), Fail> {
-    let (at, behind) = field.split_once(' ').ok_or("no width")?;
-    let (width, behind) = behind.split_once(' ').ok_or("no value")?;
+fn put_field<R: Abort>(rt: &R, file: &mut [u8; 8192], field: &str) {
+    let (at, behind) = first_word(field);
+    let (width, behind) = first_word(behind);
     let (value, _name) = first_word(behind);
-    put(
-        file,
-        at.parse::<usize>()?,
-        width.parse::<usize>()?,
-        value.parse::<u64>()?,
-    );
-    Ok(())
+    put(file, number(rt, at), number(rt, width), number(rt, value));
 }
 
-fn put_fields(file: &mut [u8; 8192], fields: &str) -> Result<(), Fail> {
+fn put_fields<R: Abort>(rt: &R, file: &mut [u8; 8192], fields: &str) {
     for field in fields.split(", ") {
-        put_field(file, field)?;
+        put_field(rt, file, field);
     }
-    Ok(())
 }
 
-// The bytes with these fields, a nonce of rising bytes from this one on, and this CRC.
-fn spelled(fields: &str, nonce: u8, crc: u32) -> Result<[u8; 8192], Fail> {
+// The bytes with these fields, this nonce and this CRC.
+fn spelled<R: Abort>(rt: &R, fields: &str, nonce: [u8; 32], crc: u32) -> [u8; 8192] {
     let mut file = [0; 8192];
-    put_fields(&mut file, fields)?;
-    for (place, byte) in file.iter_mut().skip(256).take(32).zip(nonce..=255) {
-        *place = byte;
-    }
+    put_fields(rt, &mut file, fields);
+    file[256..288].copy_from_slice(&nonce);
     put(&mut file, 288, 4, u64::from(crc));
-    Ok(file)
+    file
 }
 
 // The example.
-pub(crate) fn example() -> Result<[u8; 8192], Fail> {
-    spelled(EXAMPLE, EXAMPLE_NONCE, EXAMPLE_CRC)
+pub(crate) fn example<R: Abort>(rt: &R) -> [u8; 8192] {
+    spelled(rt, EXAMPLE, EXAMPLE_NONCE, EXAMPLE_CRC)
 }
 
 // The file in which each field has a number of its own.
-pub(crate) fn distinct() -> Result<[u8; 8192], Fail> {
-    spelled(DISTINCT, DISTINCT_NONCE, DISTINCT_CRC)
+pub(crate) fn distinct<R: Abort>(rt: &R) -> [u8; 8192] {
+    spelled(rt, DISTINCT, DISTINCT_NONCE, DISTINCT_CRC)
 }
 
 // The example with fields, and a CRC in place of its own: `FIELD, ..: CRC`.
-pub(crate) fn file_of(text: &str) -> Result<[u8; 8192], Fail> {
-    let (fields, crc) = text.split_once(": ").ok_or("no CRC")?;
-    let mut file = spelled(EXAMPLE, EXAMPLE_NONCE, crc.parse::<u32>()?)?;
-    put_fields(&mut file, fields)?;
-    Ok(file)
+pub(crate) fn file_of<R: Abort>(rt: &R, text: &str) -> [u8; 8192] {
+    let (fields, crc) = text.split_once(": ").expect(rt, "no CRC");
+    let mut file = spelled(rt, EXAMPLE, EXAMPLE_NONCE, number(rt, crc));
+    put_fields(rt, &mut file, fields);
+    file
 }
 
 // The example that was modified at this time, with the CRC that its bytes have then.
-pub(crate) fn modified(seconds: i64) -> Result<[u8; 8192], Fail> {
-    let mut file = example()?;
+pub(crate) fn modified<R: Abort>(rt: &R, seconds: i64) -> [u8; 8192] {
+    let mut file = example(rt);
     put(&mut file, 24, 8, seconds.cast_unsigned());
     let mut crc = Crc32c::new();
     crc.add(file.get(..288).unwrap_or(&[]));
     put(&mut file, 288, 4, u64::from(crc.value()));
-    Ok(file)
+    file
 }
 
 pub(crate) fn distinct_checkpoint() -> Checkpoint {
@@ -171,9 +168,6 @@ pub(crate) fn distinct_control() -> Control {
         loBlock: 0x8D8E_8F90,
         float8ByVal: 0,
         checksumVersion: 1,
-        nonce: [
-            224, 225, 226, 227, 228, 229, 230, 231, 232, 233, 234, 235, 236, 237, 238, 239, 240,
-            241, 242, 243, 244, 245, 246, 247, 248, 249, 250, 251, 252, 253, 254, 255,
-        ],
+        nonce: DISTINCT_NONCE,
     }
 }

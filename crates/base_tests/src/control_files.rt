@@ -2,13 +2,13 @@
 use crate::control_bytes::{
     distinct, distinct_checkpoint, distinct_control, example, file_of, modified,
 };
-use crate::rows::first_word;
+use crate::texts::{first_word, number, owned, said, shown};
 use control_file::{
     ControlFault, Field, control_text, read_checkpoint, read_control, write_checkpoint,
     write_control,
 };
-use std::alloc::Global;
-use std::test::Fail;
+use std::process::Abort;
+use wal_base::Text;
 
 // The timeline is the greater one of minRecoveryPoint's and the checkpoint's.
 pub(crate) const TIMELINES: &str = "\
@@ -16,12 +16,12 @@ control timeline 2147483651 2147483650 = 2147483651
 control timeline 2147483651 2147483652 = 2147483652
 control timeline 0 2147483652 = 2147483652";
 
-fn timeline(alloc: Global, words: &str) -> Result<String, Fail> {
+fn timeline<R: AllocGlobal + Abort>(rt: &R, words: &str) -> String {
     let (least, checkpoint) = first_word(words);
     let mut control = distinct_control();
-    control.minRecoveryPointTli = least.parse::<u32>()?;
-    control.cp.tli = checkpoint.parse::<u32>()?;
-    Ok(format!(in alloc; "{}", control.timeline())?)
+    control.minRecoveryPointTli = number(rt, least);
+    control.cp.tli = number(rt, checkpoint);
+    said(rt, &control.timeline())
 }
 
 // Files of another length.
@@ -30,16 +30,17 @@ control size 0 = Size(0)
 control size 8191 = Size(8191)
 control size 8193 = Size(8193)";
 
-fn size(alloc: Global, words: &str) -> Result<String, Fail> {
+fn size<R: AllocGlobal + Abort>(rt: &R, words: &str) -> String {
     let zeros = [0; 8193];
-    let bytes = zeros.get(..words.parse::<usize>()?).ok_or("too long")?;
-    fault_text(alloc, read_control(bytes).err())
+    let bytes = zeros.get(..number::<usize, R>(rt, words));
+    fault(rt, bytes.expect(rt, "too long"))
 }
 
-fn fault_text(alloc: Global, fault: Option<ControlFault>) -> Result<String, Fail> {
-    match fault {
-        Some(fault) => Ok(format!(in alloc; "{fault:?}")?),
-        None => Err("read".into()),
+// The fault of these bytes.
+fn fault<R: AllocGlobal + Abort>(rt: &R, bytes: &[u8]) -> String {
+    match read_control(bytes) {
+        Ok(_) => owned(rt, "read"),
+        Err(fault) => shown(rt, &fault),
     }
 }
 
@@ -95,24 +96,21 @@ control time 253402300800 = 253402300800
 control time 9223372036854775807 = 9223372036854775807";
 
 // How a control file shows when it was modified.
-fn time(alloc: Global, seconds: &str) -> Result<String, Fail> {
-    let text = text_of(alloc, &modified(seconds.parse::<i64>()?)?)?;
+fn time<R: AllocGlobal + Abort>(rt: &R, seconds: &str) -> String {
+    let text = file_text(rt, &modified(rt, number(rt, seconds)));
     let line = text.as_str().lines().nth(4).unwrap_or("");
     let time = line.strip_prefix("pg_control last modified:             ");
-    Ok(String::from_str(alloc, time.ok_or("another line")?)?)
+    owned(rt, time.unwrap_or("another line"))
 }
 
-// What is read of these bytes, written over others, which stay past the file.
-fn written_again(file: &[u8; 8192]) -> Result<[u8; 8200], Fail> {
+// Whether what is read of these bytes is written so over others, which stay past the file.
+fn is_written_again<R: Abort>(rt: &R, file: &[u8; 8192]) -> bool {
+    let control = read_control(file).expect(rt, "no control file");
     let mut into = [0xAA; 8200];
-    let control = read_control(file)?;
     write_control(&control, &mut into);
-    Ok(into)
-}
-
-fn is_written_again(file: &[u8; 8192]) -> Result<bool, Fail> {
-    let into = written_again(file)?;
-    Ok(into.get(..8192) == file.get(..) && into.iter().skip(8192).all(|byte| *byte == 0xAA))
+    let mut meant = [0xAA; 8200];
+    meant[..8192].copy_from_slice(file);
+    into == meant
 }
 
 // The names of fields are those of the format with a capital letter first and no point.
@@ -120,79 +118,69 @@ pub(crate) const SHOWN: &str = "\
 control names  = State CheckPoint CpRedo CpNextMultiOffset MinRecoveryPointTli Float8ByVal Crc ;
 control message  = CRC 00000ABC where the bytes have FFFFFFFF";
 
-fn names(alloc: Global) -> Result<String, Fail> {
-    let mut names = String::new(alloc);
-    for field in [
+fn names<R: AllocGlobal + Abort>(rt: &R) -> String {
+    format!(in rt.alloc();
+        "{} {} {} {} {} {} {} ;",
         Field::State,
         Field::CheckPoint,
         Field::CpRedo,
         Field::CpNextMultiOffset,
         Field::MinRecoveryPointTli,
         Field::Float8ByVal,
-        Field::Crc,
-    ] {
-        write!(names, "{field} ")?;
-    }
-    names.push(';')?;
-    Ok(names)
-}
-
-fn message(alloc: Global) -> Result<String, Fail> {
-    let fault = ControlFault::Crc(0xABC, 0xFFFF_FFFF);
-    Ok(format!(in alloc; "{fault}")?)
+        Field::Crc
+    )
+    .expect(rt, "no memory")
 }
 
 // The text of the control file of these bytes.
-fn text_of(alloc: Global, file: &[u8; 8192]) -> Result<String, Fail> {
-    let control = read_control(file)?;
-    let text = control_text(alloc, &control)?;
-    Ok(String::from_str(alloc, text.as_str())?)
+fn file_text<R: AllocGlobal + Abort>(rt: &R, file: &[u8; 8192]) -> Text {
+    let control = read_control(file).expect(rt, "no control file");
+    control_text(rt.alloc(), &control).expect(rt, "no memory")
 }
 
 /// `timeline LEAST CHECKPOINT`, `size BYTES`, `fault FIELD, ..: CRC`, `time SECONDS`, `names` or `message`.
-pub(crate) fn of_control(alloc: Global, words: &str) -> Result<String, Fail> {
+pub(crate) fn of_control<R: AllocGlobal + Abort>(rt: &R, words: &str) -> String {
     let (call, given) = first_word(words);
     match call {
-        "timeline" => timeline(alloc, given),
-        "size" => size(alloc, given),
-        "fault" => fault_text(alloc, read_control(&file_of(given)?).err()),
-        "time" => time(alloc, given),
-        "names" => names(alloc),
-        _ => message(alloc),
+        "timeline" => timeline(rt, given),
+        "size" => size(rt, given),
+        "fault" => fault(rt, &file_of(rt, given)),
+        "time" => time(rt, given),
+        "names" => names(rt),
+        "message" => said(rt, &ControlFault::Crc(0xABC, 0xFFFF_FFFF)),
+        _ => panic!(rt; "no such call"),
     }
 }
 
 #[test]
-fn reads_writes_and_shows_every_field(rt: HostRuntime) -> Result<(), Fail> {
-    let file = distinct()?;
+fn reads_writes_and_shows_every_field(rt: HostRuntime) {
+    let file = distinct(&rt);
     assert_eq!(rt; read_control(&file), Ok(distinct_control()));
-    assert!(rt; is_written_again(&file)?);
-    assert!(rt; is_written_again(&example()?)?);
-    assert_eq!(rt; text_of(rt.alloc(), &file)?.as_str(), TEXT);
-    Ok(())
+    assert!(rt; is_written_again(&rt, &file) && is_written_again(&rt, &example(&rt)));
+    assert_eq!(rt; file_text(&rt, &file).as_str(), TEXT);
 }
 
-// Whether the bytes from 40 up to an end are read as the checkpoint.
-fn is_checkpoint(file: &[u8; 8192], end: usize) -> bool {
-    file.get(40..end).and_then(|bytes| read_checkpoint(bytes)) == Some(distinct_checkpoint())
+// Whether these bytes are read as the checkpoint.
+fn is_checkpoint(bytes: &[u8]) -> bool {
+    read_checkpoint(bytes) == Some(distinct_checkpoint())
 }
 
-// Whether the checkpoint is written as these bytes, over others, which stay past it.
+// Whether the checkpoint is written as bytes 40 to 127, over others, which stay past it.
 fn is_checkpoint_written(file: &[u8; 8192]) -> bool {
     let mut into = [0xAA; 90];
     write_checkpoint(&distinct_checkpoint(), &mut into);
-    into.get(..88) == file.get(40..128) && into.iter().skip(88).all(|byte| *byte == 0xAA)
+    let mut meant = [0xAA; 90];
+    meant[..88].copy_from_slice(&file[40..128]);
+    into == meant
 }
 
 // The main bytes of a checkpoint record are bytes 40 to 127 of a control file.
 #[test]
-fn reads_and_writes_a_checkpoint_of_88_bytes(rt: HostRuntime) -> Result<(), Fail> {
-    let file = distinct()?;
-    let short = file.get(40..127).unwrap_or(&[]);
-    assert!(rt; read_checkpoint(short).is_none());
-    assert!(rt; is_checkpoint(&file, 128) && is_checkpoint(&file, 8192));
+fn reads_and_writes_a_checkpoint_of_88_bytes(rt: HostRuntime) {
+    let file = distinct(&rt);
+    assert_eq!(rt; read_checkpoint(&file[40..127]), None);
+    assert!(rt; is_checkpoint(&file[40..128]) && is_checkpoint(&file[40..]));
     assert!(rt; is_checkpoint_written(&file));
-    Ok(())
 }
 
 // The text of a control file in which each field has a number of its own.

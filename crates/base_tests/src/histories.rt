@@ -3,10 +3,10 @@
 ghost use Rattle.std.specs.Prelude.{◌≡◌, IfOk};
 ghost use Rattle.timeline_history.specs.Ancestor.{last_tli};
 
-use crate::rows::first_word;
-use std::alloc::Global;
-use std::test::Fail;
+use crate::texts::{first_word, number, owned, said, shown};
+use std::process::Abort;
 use timeline_history::{Ancestor, History, HistoryFault, divergence, first_history, read_history};
+use wal_base::Spans;
 
 // A timeline, its file, and the spans that they tell: each a timeline, its first position, and its end, 0/0 where it
 // isn't ended. The first file has an empty line and a comment. The second is what a server writes: the reason stands
@@ -82,79 +82,82 @@ const fn byte_of(letter: u8) -> u8 {
     }
 }
 
-fn bytes_of(alloc: Global, text: &str) -> Result<Vec<u8>, Fail> {
-    let mut bytes = Vec::new(alloc);
+// The bytes of a file.
+fn file_of<R: AllocGlobal + Abort>(rt: &R, text: &str) -> Vec<u8> {
+    let mut bytes = Vec::new(rt.alloc());
     for &letter in text.as_bytes() {
-        bytes.push(byte_of(letter))?;
+        bytes.push(byte_of(letter)).expect(rt, "no memory");
     }
-    Ok(bytes)
+    bytes
 }
 
 // The history of a timeline, of which the first has no file.
-fn history(alloc: Global, tli: u32, text: &str) -> Result<History, Fail>
+fn history<R: AllocGlobal + Abort>(rt: &R, tli: u32, text: &str) -> Result<History, HistoryFault>
     ensures { IfOk result (λ history. last_tli history ≡ tli) }
 {
     if tli == 1 {
-        return Ok(first_history(alloc)?);
+        Ok(first_history(rt.alloc()).expect(rt, "no memory"))
+    } else {
+        read_history(rt.alloc(), tli, &file_of(rt, text))
     }
-    let bytes = bytes_of(alloc, text)?;
-    Ok(read_history(alloc, tli, &bytes)?)
 }
 
-fn spans(alloc: Global, words: &str) -> Result<String, Fail> {
+fn spans_told<R: AllocGlobal + Abort>(rt: &R, spans: &Spans) -> String {
+    let mut told = String::new(rt.alloc());
+    for at in 0..spans.len() {
+        let span = spans.get(at).expect(rt, "no span");
+        let gap = if at == 0 { "" } else { " " };
+        write!(told, "{gap}{} {} {};", span.tli, span.begin, span.end).expect(rt, "no memory");
+    }
+    told
+}
+
+// The spans of a history, or the fault of its file.
+fn read<R: AllocGlobal + Abort>(rt: &R, words: &str) -> String {
     let (tli, text) = first_word(words);
-    let history = history(alloc, tli.parse::<u32>()?, text)?;
-    let mut told = String::new(alloc);
-    for at in 0..history.spans().len() {
-        if let Some(span) = history.spans().get(at) {
-            let gap = if at == 0 { "" } else { " " };
-            write!(&mut told, "{gap}{} {} {};", span.tli, span.begin, span.end)?;
+    match history(rt, number(rt, tli), text) {
+        Ok(history) => spans_told(rt, history.spans()),
+        Err(fault) => shown(rt, &fault),
+    }
+}
+
+fn ancestor_told<R: AllocGlobal + Abort>(rt: &R, ancestor: Ancestor) -> String {
+    match ancestor {
+        Ancestor::Common(fork) => {
+            format!(in rt.alloc(); "{} {}", fork.tli, fork.at).expect(rt, "no memory")
         }
-    }
-    Ok(told)
-}
-
-fn fault(alloc: Global, words: &str) -> Result<String, Fail> {
-    let (tli, text) = first_word(words);
-    let bytes = bytes_of(alloc, text)?;
-    match read_history(alloc, tli.parse::<u32>()?, &bytes) {
-        Ok(_) => Err("read".into()),
-        Err(fault) => Ok(format!(in alloc; "{fault:?}")?),
+        Ancestor::NoCommonAncestor => owned(rt, "none"),
     }
 }
 
-fn parted(alloc: Global, words: &str) -> Result<String, Fail> {
-    let (one, other) = words.split_once(" | ").ok_or("one timeline")?;
+fn parted<R: AllocGlobal + Abort>(rt: &R, words: &str) -> String {
+    let (one, other) = words.split_once(" | ").expect(rt, "one timeline");
     let (one, one_text) = first_word(one);
     let (other, other_text) = first_word(other);
-    let (one, other) = (one.parse::<u32>()?, other.parse::<u32>()?);
-    if one == other {
-        return Err("one timeline".into());
-    }
-    let a = history(alloc, one, one_text)?;
-    let b = history(alloc, other, other_text)?;
-    Ok(match divergence(&a, &b) {
-        Ancestor::Common(fork) => format!(in alloc; "{} {}", fork.tli, fork.at)?,
-        Ancestor::NoCommonAncestor => String::from_str(alloc, "none")?,
-    })
+    let (one, other): (u32, u32) = (number(rt, one), number(rt, other));
+    assert!(rt; one != other, "one timeline");
+    let a = history(rt, one, one_text).expect(rt, "no history");
+    let b = history(rt, other, other_text).expect(rt, "no history");
+    ancestor_told(rt, divergence(&a, &b))
 }
 
-fn message(alloc: Global, line: &str) -> Result<String, Fail> {
+fn message<R: AllocGlobal + Abort>(rt: &R, line: &str) -> String {
     let fault = match line {
         "4" => HistoryFault::BadLine(4),
         "-2" => HistoryFault::NotRising(2),
-        _ => HistoryFault::OutOfMemory,
+        "0" => HistoryFault::OutOfMemory,
+        _ => panic!(rt; "no such line"),
     };
-    Ok(fault.to_string(alloc)?)
+    said(rt, &fault)
 }
 
 /// `spans TIMELINE FILE`, `fault TIMELINE FILE`, `parted TIMELINE FILE | TIMELINE FILE` or `message LINE`.
-pub(crate) fn of_history(alloc: Global, words: &str) -> Result<String, Fail> {
+pub(crate) fn of_history<R: AllocGlobal + Abort>(rt: &R, words: &str) -> String {
     let (call, given) = first_word(words);
     match call {
-        "spans" => spans(alloc, given),
-        "fault" => fault(alloc, given),
-        "parted" => parted(alloc, given),
-        _ => message(alloc, given),
+        "spans" | "fault" => read(rt, given),
+        "parted" => parted(rt, given),
+        "message" => message(rt, given),
+        _ => panic!(rt; "no such call"),
     }
 }

@@ -9,11 +9,10 @@ const BYTES: [u8; 40] = [
 
 #[test]
 fn reads_the_lowest_byte_first(rt: HostRuntime) {
-    assert_eq!(rt; u8_at(&BYTES, 39), 0xFF);
-    assert_eq!(rt; u16_at(&BYTES, 1), 0x0302);
-    assert_eq!(rt; u32_at(&BYTES, 2), 0x0605_0403);
-    assert_eq!(rt; u64_at(&BYTES, 3), 0x0B0A_0908_0706_0504);
-    assert_eq!(rt; i64_at(&BYTES, 32), -2);
+    let short = (u8_at(&BYTES, 39), u16_at(&BYTES, 1), u32_at(&BYTES, 2));
+    assert_eq!(rt; short, (0xFF, 0x0302, 0x0605_0403));
+    let long = (u64_at(&BYTES, 3), i64_at(&BYTES, 32));
+    assert_eq!(rt; long, (0x0B0A_0908_0706_0504, -2));
     assert_eq!(rt; raw_at(&BYTES, 8)[24..], BYTES[32..]);
 }
 
@@ -67,7 +66,8 @@ fn finds_the_first_broken_row(rt: HostRuntime) {
     let kept = Row::byte('a', 0, 1, Rule::AtMost(1));
     let second = Row::word('b', 4, 9, Rule::Only(8));
     let third = Row::long('c', 8, 0, Rule::Between(1, 2));
-    assert_eq!(rt; broken_field(&[kept, second, third]), Some('b'));
-    assert_eq!(rt; broken_field(&[kept, third]), Some('c'));
-    assert_eq!(rt; broken_field(&[kept]), None);
+    let of_three = broken_field(&[kept, second, third]);
+    let of_two = broken_field(&[kept, third]);
+    let of_one = broken_field(&[kept]);
+    assert_eq!(rt; (of_three, of_two, of_one), (Some('b'), Some('c'), None));
 }

@@ -35,4 +35,6 @@ mod stops;
 #[cfg(test)]
 mod sums;
 #[cfg(test)]
+mod texts;
+#[cfg(test)]
 mod trees;

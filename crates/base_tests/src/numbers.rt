@@ -3,10 +3,9 @@
 ghost use Rattle.std.specs.Prelude.{◌*◌, ◌<◌, ◌^◌};
 ghost use Rattle.wal_base.specs.Segment.{bytes_of};
 
-use crate::rows::first_word;
-use std::alloc::Global;
-use std::str;
-use std::test::Fail;
+use crate::texts::{first_word, number, owned, said, text_of};
+use std::fmt::Display;
+use std::process::Abort;
 use wal_base::{
     HexByte, HexWord, Lsn, OutOfMemory, SegSize, Segment, Spans, Text, decimal_u32, decimal_u64,
     eight_digits, hex_digit, is_long_name,
@@ -91,131 +90,139 @@ number timeline 1099511627776 = 5
 number timeline 18446744073709551615 = 5
 number below 4294967295 4294967296 = true";
 
-fn told(alloc: Global, text: &str) -> Result<String, Fail> {
-    Ok(String::from_str(alloc, text)?)
+// A value, or `none`.
+fn or_none<D: Display + Drop, R: AllocGlobal + Abort>(rt: &R, found: Option<D>) -> String {
+    match found {
+        Some(found) => said(rt, &found),
+        None => owned(rt, "none"),
+    }
 }
 
-fn position(alloc: Global, text: &str) -> Result<String, Fail> {
+fn position<R: AllocGlobal + Abort>(rt: &R, text: &str) -> String {
     let Some(at) = Lsn::parse(text) else {
-        return told(alloc, "none");
+        return owned(rt, "none");
     };
-    let shown = at.text(alloc)?;
-    let padded = at.padded(alloc)?;
-    Ok(format!(in alloc; "{} {} {}", at.0, shown.as_str(), padded.as_str())?)
+    let shown = at.text(rt.alloc()).expect(rt, "no memory");
+    let padded = at.padded(rt.alloc()).expect(rt, "no memory");
+    let text = format!(in rt.alloc(); "{} {} {}", at.0, shown.as_str(), padded.as_str());
+    text.expect(rt, "no memory")
 }
 
-fn described(alloc: Global, tli: u32, number: u64, size: SegSize) -> Result<String, Fail>
+fn described<R: AllocGlobal + Abort>(rt: &R, tli: u32, number: u64, size: SegSize) -> String
     requires { number * bytes_of size < 2 ^ 64 }
 {
     let segment = Segment { tli, number, size };
-    let name = segment.name(alloc)?;
+    let name = segment.name(rt.alloc()).expect(rt, "no memory");
     let start = segment.start();
-    Ok(format!(in alloc; "{tli} {number} {start} {}", name.as_str())?)
+    format!(in rt.alloc(); "{tli} {number} {start} {}", name.as_str()).expect(rt, "no memory")
 }
 
-fn segment(alloc: Global, name: &str, size: SegSize) -> Result<String, Fail> {
+fn segment<R: AllocGlobal + Abort>(rt: &R, name: &str, size: SegSize) -> String {
     match Segment::parse_name(name, size) {
-        Some(segment) => described(alloc, segment.tli, segment.number, size),
-        None => told(alloc, "none"),
+        Some(segment) => described(rt, segment.tli, segment.number, size),
+        None => owned(rt, "none"),
     }
 }
 
-fn holding(alloc: Global, at: &str, size: SegSize) -> Result<String, Fail> {
-    let at = Lsn::parse(at).ok_or("no position")?;
+fn holding<R: AllocGlobal + Abort>(rt: &R, at: &str, size: SegSize) -> String {
+    let at = Lsn::parse(at).expect(rt, "no position");
     let segment = Segment::of(2, at, size);
-    described(alloc, segment.tli, segment.number, size)
+    described(rt, segment.tli, segment.number, size)
 }
 
 // A size of segments, and a name or a position.
-fn sized(alloc: Global, call: &str, given: &str) -> Result<String, Fail> {
-    let (size, text) = given.split_once(' ').ok_or("no size")?;
-    let Some(size) = SegSize::new(decimal_u32(size.as_bytes()).ok_or("no number")?) else {
-        return told(alloc, "no size");
+fn sized<R: AllocGlobal + Abort>(rt: &R, call: &str, given: &str) -> String {
+    let (size, text) = given.split_once(' ').expect(rt, "no size");
+    match (call, SegSize::new(number(rt, size))) {
+        (_, None) => owned(rt, "no size"),
+        ("segment", Some(size)) => segment(rt, text, size),
+        (_, Some(size)) => holding(rt, text, size),
+    }
+}
+
+fn hexadecimal<R: AllocGlobal + Abort>(rt: &R, given: &str) -> String {
+    let (width, digits) = first_word(given);
+    let word = HexWord {
+        width: number(rt, width),
+        number: number(rt, digits),
     };
-    match call {
-        "segment" => segment(alloc, text, size),
-        _ => holding(alloc, text, size),
-    }
-}
-
-fn decimal(alloc: Global, number: Option<u64>) -> Result<String, Fail> {
-    match number {
-        Some(number) => Ok(format!(in alloc; "{number}")?),
-        None => told(alloc, "none"),
-    }
-}
-
-fn hexadecimal(alloc: Global, given: &str) -> Result<String, Fail> {
-    let (width, number) = given.split_once(' ').ok_or("no width")?;
-    let width = decimal_u32(width.as_bytes()).ok_or("no width")? as usize;
-    let number = decimal_u64(number.as_bytes()).ok_or("no number")?;
-    Ok(HexWord { width, number }.to_string(alloc)?)
+    said(rt, &word)
 }
 
 // Timeline 1 up to 0/3000000, timeline 2 up to 0/4800000, and timeline 5.
-fn three_spans(alloc: Global) -> Result<Spans, Fail> {
-    let mut spans = Spans::one(alloc, 1)?;
-    spans.end_and_add(Lsn(0x300_0000), 2)?;
-    spans.end_and_add(Lsn(0x480_0000), 5)?;
-    Ok(spans.copy(alloc)?)
+fn three_spans<R: AllocGlobal + Abort>(rt: &R) -> Spans {
+    let mut spans = Spans::one(rt.alloc(), 1).expect(rt, "no memory");
+    spans
+        .end_and_add(Lsn(0x300_0000), 2)
+        .expect(rt, "no memory");
+    spans
+        .end_and_add(Lsn(0x480_0000), 5)
+        .expect(rt, "no memory");
+    spans.copy(rt.alloc()).expect(rt, "no memory")
 }
 
 // The timeline from which a segment of 16 MiB is read.
-fn timeline(alloc: Global, number: &str) -> Result<String, Fail> {
-    let size = SegSize::new(0x100_0000).ok_or("no size")?;
-    let number = decimal_u64(number.as_bytes()).ok_or("no number")?;
-    let tli = three_spans(alloc)?.segment_tli(number, size);
-    Ok(format!(in alloc; "{tli}")?)
+fn timeline<R: AllocGlobal + Abort>(rt: &R, text: &str) -> String {
+    let size = SegSize::new(0x100_0000).expect(rt, "no size");
+    let spans = three_spans(rt);
+    said(rt, &spans.segment_tli(number(rt, text), size))
 }
 
 // The span at a place.
-fn span(alloc: Global, at: &str) -> Result<String, Fail> {
-    let spans = three_spans(alloc)?;
-    let at = decimal_u32(at.as_bytes()).ok_or("no place")? as usize;
-    if spans.len() != 3 {
-        return told(alloc, "not three spans");
-    }
-    match spans.get(at) {
-        Some(span) => Ok(format!(in alloc; "{} {} {}", span.tli, span.begin, span.end)?),
-        None => told(alloc, "none"),
+fn span<R: AllocGlobal + Abort>(rt: &R, at: &str) -> String {
+    let spans = three_spans(rt);
+    match (spans.len(), spans.get(number(rt, at))) {
+        (3, Some(span)) => {
+            let text = format!(in rt.alloc(); "{} {} {}", span.tli, span.begin, span.end);
+            text.expect(rt, "no memory")
+        }
+        (3, None) => owned(rt, "none"),
+        _ => owned(rt, "not three spans"),
     }
 }
 
-// Digits of a number below 256.
-fn digits(alloc: Global, call: &str, number: &str) -> Result<String, Fail> {
-    let number = decimal_u32(number.as_bytes()).ok_or("no number")?;
-    match (call, u8::try_from(number)) {
-        ("byte", Ok(byte)) => Ok(HexByte(byte).to_string(alloc)?),
-        ("digit", Ok(digit)) if digit < 16 => told(alloc, hex_digit(digit)),
-        ("eight", _) => told(alloc, str::from_utf8(&eight_digits(number))?),
-        _ => Err("no digits".into()),
-    }
+// The one digit of a number below 16.
+fn digit<R: AllocGlobal + Abort>(rt: &R, number: u8) -> String {
+    assert!(rt; number < 16, "no digit");
+    owned(rt, hex_digit(number))
+}
+
+fn copied<R: AllocGlobal + Abort>(rt: &R, text: &str) -> String {
+    let copy = Text::new(rt.alloc(), text).expect(rt, "no memory");
+    owned(rt, copy.as_str())
 }
 
 // Whether a position is below another, by their numbers.
-fn below(alloc: Global, given: &str) -> Result<String, Fail> {
+fn below<R: Abort>(rt: &R, given: &str) -> bool {
     let (one, other) = first_word(given);
-    let one = decimal_u64(one.as_bytes()).ok_or("no number")?;
-    let other = decimal_u64(other.as_bytes()).ok_or("no number")?;
-    Ok(format!(in alloc; "{}", Lsn(one) < Lsn(other))?)
+    Lsn(number(rt, one)) < Lsn(number(rt, other))
+}
+
+// What a call about positions, segments or timelines answers.
+fn of_position<R: AllocGlobal + Abort>(rt: &R, call: &str, given: &str) -> String {
+    match call {
+        "below" => said(rt, &below(rt, given)),
+        "position" => position(rt, given),
+        "segment" | "holding" => sized(rt, call, given),
+        "long" => said(rt, &is_long_name(given.as_bytes())),
+        "timeline" => timeline(rt, given),
+        "span" => span(rt, given),
+        _ => panic!(rt; "no such call"),
+    }
 }
 
 /// A call, and what it is given.
-pub(crate) fn of_number(alloc: Global, words: &str) -> Result<String, Fail> {
+pub(crate) fn of_number<R: AllocGlobal + Abort>(rt: &R, words: &str) -> String {
     let (call, given) = first_word(words);
     match call {
-        "below" => below(alloc, given),
-        "position" => position(alloc, given),
-        "long" if is_long_name(given.as_bytes()) => told(alloc, "true"),
-        "long" => told(alloc, "false"),
-        "u32" => decimal(alloc, decimal_u32(given.as_bytes()).map(u64::from)),
-        "u64" => decimal(alloc, decimal_u64(given.as_bytes())),
-        "hex" => hexadecimal(alloc, given),
-        "byte" | "digit" | "eight" => digits(alloc, call, given),
-        "text" => told(alloc, Text::new(alloc, given)?.as_str()),
-        "memory" => Ok(OutOfMemory.to_string(alloc)?),
-        "timeline" => timeline(alloc, given),
-        "span" => span(alloc, given),
-        _ => sized(alloc, call, given),
+        "u32" => or_none(rt, decimal_u32(given.as_bytes())),
+        "u64" => or_none(rt, decimal_u64(given.as_bytes())),
+        "hex" => hexadecimal(rt, given),
+        "byte" => said(rt, &HexByte(number(rt, given))),
+        "digit" => digit(rt, number(rt, given)),
+        "eight" => text_of(rt, &eight_digits(number(rt, given))),
+        "text" => copied(rt, given),
+        "memory" => said(rt, &OutOfMemory),
+        _ => of_position(rt, call, given),
     }
 }

@@ -1,100 +1,99 @@
-// Calls that change a page, as text.
+// Pages, and calls that change one, as text.
+use crate::texts::{bytes_of, first_word, number};
 use page_layout::{Line, Page, PageRefusal};
-use std::alloc::Global;
-use std::test::Fail;
+use std::process::Abort;
 
-/// What stands before a mark, and what behind it.
-pub(crate) fn cut_at<'a>(text: &'a str, mark: &str) -> (&'a str, &'a str) {
-    match text.split_once(mark) {
-        Some(parts) => parts,
-        None => (text, ""),
-    }
+/// A page of zeros.
+pub(crate) fn zero_page<R: AllocGlobal + Abort>(rt: &R) -> Page {
+    Page::zero(rt.alloc()).expect(rt, "no memory")
 }
 
-/// A number below 65536.
-pub(crate) fn half(text: &str) -> Result<u16, Fail> {
-    Ok(text.parse::<u16>()?)
+/// An empty page with this much special space.
+pub(crate) fn empty_page<R: AllocGlobal + Abort>(rt: &R, special: u16) -> Page {
+    let mut page = zero_page(rt);
+    page.init(special).expect(rt, "no room");
+    page
 }
 
-/// Bytes by their digits, none for a dash; behind a plus so many zeros.
-pub(crate) fn bytes_of(alloc: Global, text: &str) -> Result<Vec<u8>, Fail> {
-    if text == "-" {
-        return Ok(Vec::new(alloc));
-    }
-    let (digits, zeros) = cut_at(text, "+");
-    let mut bytes = hex::decode(alloc, digits)?;
-    if !zeros.is_empty() {
-        for _ in 0..half(zeros)? {
-            bytes.push(0)?;
-        }
-    }
-    Ok(bytes)
+/// Adds an item at a place, over an unused line or between two.
+pub(crate) fn add_item<R: Abort>(rt: &R, page: &mut Page, item: &[u8], place: u16, over: bool) {
+    page.add_item(item, place, over).expect(rt, "no room");
 }
 
 // What a line is set to: `unused`, `redirect PLACE` or `dead AT LEN`.
-fn line_of(words: &str) -> Result<Line, Fail> {
-    let (kind, behind) = cut_at(words, " ");
-    let (first, second) = cut_at(behind, " ");
+fn line_of<R: Abort>(rt: &R, words: &str) -> Line {
+    let (kind, behind) = first_word(words);
+    let (first, second) = first_word(behind);
     match kind {
-        "unused" => Ok(Line::Unused),
-        "redirect" => Ok(Line::Redirect(half(first)?)),
-        _ => Ok(Line::Dead {
-            at: half(first)?,
-            len: half(second)?,
-        }),
+        "unused" => Line::Unused,
+        "redirect" => Line::Redirect(number(rt, first)),
+        "dead" => Line::Dead {
+            at: number(rt, first),
+            len: number(rt, second),
+        },
+        _ => panic!(rt; "no such line"),
     }
 }
 
-fn places_of(alloc: Global, words: &str) -> Result<Vec<u16>, Fail> {
-    let mut places = Vec::new(alloc);
+fn set<R: Abort>(rt: &R, page: &mut Page, words: &str) -> Result<(), PageRefusal> {
+    let (place, line) = first_word(words);
+    page.set_line(number(rt, place), line_of(rt, line))
+}
+
+// Whether an item goes `over` an unused line, or `between` two.
+fn is_over<R: Abort>(rt: &R, how: &str) -> bool {
+    match how {
+        "over" => true,
+        "between" => false,
+        _ => panic!(rt; "over or between?"),
+    }
+}
+
+// Adds an item: its bytes, its place, and how it goes there.
+fn add<R: AllocGlobal + Abort>(rt: &R, page: &mut Page, words: &str) -> Result<(), PageRefusal> {
+    let (digits, behind) = first_word(words);
+    let (place, how) = first_word(behind);
+    let item = bytes_of(rt, digits);
+    page.add_item(&item, number(rt, place), is_over(rt, how))
+}
+
+fn places_of<R: AllocGlobal + Abort>(rt: &R, words: &str) -> Vec<u16> {
+    let mut places = Vec::new(rt.alloc());
     for word in words.split(' ') {
-        places.push(half(word)?)?;
+        places.push(number(rt, word)).expect(rt, "no memory");
     }
-    Ok(places)
-}
-
-// Adds an item: its bytes, its place, and whether it goes `over` an unused line or `between` two.
-fn add(alloc: Global, page: &mut Page, words: &str) -> Result<Result<(), PageRefusal>, Fail> {
-    let (digits, behind) = cut_at(words, " ");
-    let (place, how) = cut_at(behind, " ");
-    let item = bytes_of(alloc, digits)?;
-    Ok(page.add_item(&item, half(place)?, how == "over"))
+    places
 }
 
 /// What a call answers: `set PLACE LINE`, `add BYTES PLACE over` or `between`, `trim`, `pack`, `delete PLACE ..` or
 /// `init SPECIAL`.
-pub(crate) fn make(
-    alloc: Global,
+pub(crate) fn make<R: AllocGlobal + Abort>(
+    rt: &R,
     page: &mut Page,
     call: &str,
-) -> Result<Result<(), PageRefusal>, Fail> {
-    let (verb, words) = cut_at(call, " ");
+) -> Result<(), PageRefusal> {
+    let (verb, words) = first_word(call);
     match verb {
-        "set" => {
-            let (place, line) = cut_at(words, " ");
-            Ok(page.set_line(half(place)?, line_of(line)?))
-        }
-        "add" => add(alloc, page, words),
-        "trim" => Ok(page.trim()),
-        "pack" => Ok(page.pack()),
-        "delete" => Ok(page.delete_items(&places_of(alloc, words)?)),
-        _ => Ok(page.init(half(words)?)),
+        "set" => set(rt, page, words),
+        "add" => add(rt, page, words),
+        "trim" => page.trim(),
+        "pack" => page.pack(),
+        "delete" => page.delete_items(&places_of(rt, words)),
+        "init" => page.init(number(rt, words)),
+        _ => panic!(rt; "no such call"),
     }
 }
 
 /// What calls in turn answer, or none, up to the first that is refused.
-pub(crate) fn made(
-    alloc: Global,
+pub(crate) fn made<R: AllocGlobal + Abort>(
+    rt: &R,
     page: &mut Page,
     calls: &str,
-) -> Result<Result<(), PageRefusal>, Fail> {
+) -> Result<(), PageRefusal> {
     for call in calls.split(", ") {
-        if call.is_empty() {
-            continue;
-        }
-        if let Err(refusal) = make(alloc, page, call)? {
-            return Ok(Err(refusal));
+        if !call.is_empty() {
+            make(rt, page, call)?;
         }
     }
-    Ok(Ok(()))
+    Ok(())
 }

@@ -1,8 +1,8 @@
 // Expected bytes were computed by a Python script that follows bufpage.c, independent of this crate.
-use crate::page_calls::{bytes_of, cut_at, half, made, make};
+use crate::page_calls::{add_item, empty_page, made, make, zero_page};
+use crate::texts::{bytes_of, first_word, number, owned, shown};
 use page_layout::{Line, Page, PageRefusal};
-use std::alloc::Global;
-use std::test::Fail;
+use std::process::Abort;
 use wal_base::Lsn;
 
 const FIVE: [u8; 5] = [0xA1, 0xA2, 0xA3, 0xA4, 0xA5];
@@ -14,33 +14,35 @@ const SIXTEEN: [u8; 16] = [
 const NINE: [u8; 9] = [0xC1, 0xC2, 0xC3, 0xC4, 0xC5, 0xC6, 0xC7, 0xC8, 0xC9];
 
 // A page with the items of 5, 16 and 9 bytes.
-fn page_of_three(alloc: Global) -> Result<Page, Fail> {
-    let mut page = Page::zero(alloc)?;
-    page.init(0)?;
-    page.add_item(&FIVE, 1, false)?;
-    page.add_item(&SIXTEEN, 2, true)?;
-    page.add_item(&NINE, 3, false)?;
-    Ok(page)
+fn page_of_three<R: AllocGlobal + Abort>(rt: &R) -> Page {
+    let mut page = empty_page(rt, 0);
+    add_item(rt, &mut page, &FIVE, 1, false);
+    add_item(rt, &mut page, &SIXTEEN, 2, true);
+    add_item(rt, &mut page, &NINE, 3, false);
+    page
 }
 
 // Lays a part over zeros, at its byte.
-fn lay(expected: &mut [u8], at: usize, bytes: &[u8]) -> Result<(), Fail> {
-    if at > expected.len() || bytes.len() > expected.len() - at {
-        return Err("past the page".into());
-    }
+fn lay<R: Abort>(rt: &R, expected: &mut [u8], at: usize, bytes: &[u8]) {
+    assert!(rt;
+        at <= expected.len() && bytes.len() <= expected.len() - at,
+        "past the page"
+    );
     expected[at..at + bytes.len()].copy_from_slice(bytes);
-    Ok(())
+}
+
+fn lay_all<R: AllocGlobal + Abort>(rt: &R, expected: &mut [u8], parts: &str) {
+    for part in parts.split(", ") {
+        let (at, digits) = part.split_once(' ').expect(rt, "no bytes");
+        lay(rt, expected, number(rt, at), &bytes_of(rt, digits));
+    }
 }
 
 // Whether the page has these parts, each at its byte, over zeros.
-fn has_parts(alloc: Global, page: &Page, parts: &str) -> Result<bool, Fail> {
+fn has_parts<R: AllocGlobal + Abort>(rt: &R, page: &Page, parts: &str) -> bool {
     let mut expected = [0; 8192];
-    for part in parts.split(", ") {
-        let (at, digits) = cut_at(part, " ");
-        let bytes = bytes_of(alloc, digits)?;
-        lay(&mut expected, usize::from(half(at)?), &bytes)?;
-    }
-    Ok(page.bytes() == expected.as_slice())
+    lay_all(rt, &mut expected, parts);
+    page.bytes() == expected.as_slice()
 }
 
 // What calls leave of a page of three items: parts, each at its byte, over zeros.
@@ -63,48 +65,54 @@ without the first and third: delete 1 3 = 12 1C00F01F00200420, 24 F09F2000F09F20
 without all: delete 1 2 3 = 12 1800002000200420
 empty: delete 1 2 3, init 13 = 12 1800F01FF01F0420";
 
+// A row's calls are made, and leave the parts that it says.
+fn check_left<R: AllocGlobal + Abort>(rt: &R, row: &str) {
+    let (calls, parts) = row.split_once(" = ").expect(rt, "no parts");
+    let (_name, calls) = calls.split_once(": ").expect(rt, "no name");
+    let mut page = page_of_three(rt);
+    let made = made(rt, &mut page, calls);
+    assert_eq!(rt;
+        (made, has_parts(rt, &page, parts)),
+        (Ok(()), true),
+        "{row}"
+    );
+}
+
 #[test]
-fn each_call_leaves_these_bytes(rt: HostRuntime) -> Result<(), Fail> {
+fn each_call_leaves_these_bytes(rt: HostRuntime) {
     for row in LEFT.split('\n') {
-        let (calls, parts) = row.split_once(" = ").ok_or("no parts")?;
-        let (_name, calls) = cut_at(calls, ": ");
-        let mut page = page_of_three(rt.alloc())?;
-        assert_eq!(rt; made(rt.alloc(), &mut page, calls)?, Ok(()), "{row}");
-        assert!(rt; has_parts(rt.alloc(), &page, parts)?, "{row}");
+        check_left(&rt, row);
     }
-    Ok(())
 }
 
 // A page of 291 items.
-fn full_page(alloc: Global) -> Result<Page, Fail> {
-    let mut page = Page::zero(alloc)?;
-    page.init(0)?;
+fn full_page<R: AllocGlobal + Abort>(rt: &R) -> Page {
+    let mut page = empty_page(rt, 0);
     page.set_lsn(Lsn(0x1_0000_00E0));
     for place in 1..292u16 {
-        page.add_item(&[7; 24], place, true)?;
+        add_item(rt, &mut page, &[7; 24], place, true);
     }
-    Ok(page)
+    page
 }
 
 #[test]
-fn holds_291_items(rt: HostRuntime) -> Result<(), Fail> {
-    let mut page = full_page(rt.alloc())?;
-    assert_eq!(rt; page.count(), Some(291));
-    assert_eq!(rt; page.line(291), Some(Line::Normal { at: 1208, len: 24 }));
-    assert_eq!(rt; page.add_item(&[7; 24], 1, false), Err(PageRefusal::NoRoom));
-    assert_eq!(rt; page.lsn(), Lsn(0x1_0000_00E0));
-    Ok(())
+fn holds_291_items(rt: HostRuntime) {
+    let mut page = full_page(&rt);
+    let last = Line::Normal { at: 1208, len: 24 };
+    assert_eq!(rt; (page.count(), page.line(291)), (Some(291), Some(last)));
+    let answer = page.add_item(&[7; 24], 1, false);
+    let refused = Err(PageRefusal::NoRoom);
+    assert_eq!(rt; (answer, page.lsn()), (refused, Lsn(0x1_0000_00E0)));
 }
 
 #[test]
-fn a_page_of_zeros_is_told(rt: HostRuntime) -> Result<(), Fail> {
-    let mut page = Page::zero(rt.alloc())?;
+fn a_page_of_zeros_is_told(rt: HostRuntime) {
+    let mut page = zero_page(&rt);
     let told = (page.is_zero(), page.count(), page.line(1));
     assert_eq!(rt; told, (true, None, None));
-    page.init(0)?;
+    page.init(0).expect(&rt, "no room");
     page.bytes_mut()[8] = 7;
     assert!(rt; !page.is_zero());
-    Ok(())
 }
 
 // Calls on a page of zeros, and on one of three items, that are refused.
@@ -131,46 +139,49 @@ page three delete 4 = BadPlace
 page three delete 2 1 = BadPlace
 page three delete 2 2 = BadPlace";
 
-fn refusal_of(alloc: Global, page: &mut Page, call: &str) -> Result<String, Fail> {
-    match make(alloc, page, call)? {
-        Ok(()) => Err("made".into()),
-        Err(refusal) => Ok(format!(in alloc; "{refusal:?}")?),
+fn page_by<R: AllocGlobal + Abort>(rt: &R, name: &str) -> Page {
+    match name {
+        "zeros" => zero_page(rt),
+        "three" => page_of_three(rt),
+        _ => panic!(rt; "no such page"),
     }
 }
 
 /// How a call is refused on a page of `zeros`, or of `three` items.
-pub(crate) fn of_page(alloc: Global, words: &str) -> Result<String, Fail> {
-    let (page, call) = cut_at(words, " ");
-    let mut page = match page {
-        "zeros" => Page::zero(alloc)?,
-        _ => page_of_three(alloc)?,
+pub(crate) fn of_page<R: AllocGlobal + Abort>(rt: &R, words: &str) -> String {
+    let (name, call) = first_word(words);
+    let mut page = page_by(rt, name);
+    match make(rt, &mut page, call) {
+        Ok(()) => owned(rt, "made"),
+        Err(refusal) => shown(rt, &refusal),
+    }
+}
+
+// Adds a line of the item of 4096 bytes.
+fn overlap<R: Abort>(rt: &R, page: &mut Page, place: u16) {
+    let line = Line::Normal {
+        at: 4096,
+        len: 4096,
     };
-    refusal_of(alloc, &mut page, call)
+    add_item(rt, page, &[], place, false);
+    page.set_line(place, line).expect(rt, "no line");
 }
 
 // A page of three items that lie over one another.
-fn overlapping(alloc: Global) -> Result<Page, Fail> {
-    let mut page = Page::zero(alloc)?;
-    page.init(0)?;
-    page.add_item(&[1; 4096], 1, false)?;
-    for place in 2..4u16 {
-        page.add_item(&[], place, false)?;
-        page.set_line(
-            place,
-            Line::Normal {
-                at: 4096,
-                len: 4096,
-            },
-        )?;
-    }
-    Ok(page)
+fn overlapping<R: AllocGlobal + Abort>(rt: &R) -> Page {
+    let mut page = empty_page(rt, 0);
+    add_item(rt, &mut page, &[1; 4096], 1, false);
+    overlap(rt, &mut page, 2);
+    overlap(rt, &mut page, 3);
+    page
 }
 
 #[test]
-fn overlapping_items_may_lack_room(rt: HostRuntime) -> Result<(), Fail> {
-    let mut page = overlapping(rt.alloc())?;
-    assert_eq!(rt; page.pack(), Err(PageRefusal::NoRoom));
-    assert_eq!(rt; page.delete_items(&[1]), Err(PageRefusal::NoRoom));
-    assert_eq!(rt; page.delete_items(&[1, 2]), Ok(()));
-    Ok(())
+fn overlapping_items_may_lack_room(rt: HostRuntime) {
+    let mut page = overlapping(&rt);
+    let packed = page.pack();
+    let first = page.delete_items(&[1]);
+    let two = page.delete_items(&[1, 2]);
+    let refused = Err(PageRefusal::NoRoom);
+    assert_eq!(rt; (packed, first, two), (refused, refused, Ok(())));
 }

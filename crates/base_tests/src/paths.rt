@@ -1,8 +1,7 @@
 // Paths and names. The expected values follow from the rules of paths, worked by hand.
-use crate::rows::first_word;
+use crate::texts::{first_word, number, path_of, said, shown};
 use cluster_tree::{Names, Path, is_part};
-use std::alloc::Global;
-use std::test::Fail;
+use std::process::Abort;
 
 // A text of 64 parts.
 const DEEPEST: &str = "a/b/c/d/e/f/g/h/a/b/c/d/e/f/g/h/a/b/c/d/e/f/g/h/a/b/c/d/e/f/g/h/\
@@ -52,59 +51,74 @@ pub(crate) const NAMES: &str = "\
 path names b  = 2 Some(\"b\") Some(\"\") None";
 
 /// Whether a path is absolute, how many parts it has, and its text.
-fn described(alloc: Global, text: &str) -> Result<String, Fail> {
-    let path = Path::parse(alloc, text)?.copy(alloc)?;
-    let shown = path.text(alloc)?;
-    let shown = shown.get(0).unwrap_or("");
-    Ok(format!(in alloc; "{} {} {shown}", path.is_absolute(), path.len())?)
+fn described<R: AllocGlobal + Abort>(rt: &R, path: &Path) -> String {
+    let path = path.copy(rt.alloc()).expect(rt, "no memory");
+    let texts = path.text(rt.alloc()).expect(rt, "no memory");
+    let shown = texts.get(0).expect(rt, "no text");
+    format!(in rt.alloc(); "{} {} {shown}", path.is_absolute(), path.len()).expect(rt, "no memory")
+}
+
+/// The path of a text, or why there is none.
+fn parsed<R: AllocGlobal + Abort>(rt: &R, text: &str) -> String {
+    match Path::parse(rt.alloc(), text) {
+        Ok(path) => described(rt, &path),
+        Err(fault) => shown(rt, &fault),
+    }
 }
 
 /// How many parts a path has that is joined to one of 64.
-fn joined(alloc: Global, text: &str) -> Result<String, Fail> {
-    let deepest = Path::parse(alloc, DEEPEST)?;
-    let parts = deepest.join(alloc, text).map(|path| path.len());
-    Ok(format!(in alloc; "{parts:?}")?)
+fn joined<R: AllocGlobal + Abort>(rt: &R, text: &str) -> String {
+    let deepest = path_of(rt, DEEPEST);
+    let parts = deepest.join(rt.alloc(), text).map(|path| path.len());
+    shown(rt, &parts)
 }
 
 /// Whether a path holds another.
-fn holds(alloc: Global, words: &str) -> Result<bool, Fail> {
+fn holds<R: AllocGlobal + Abort>(rt: &R, words: &str) -> bool {
     let (root, path) = first_word(words);
-    Ok(Path::parse(alloc, root)?.holds(&Path::parse(alloc, path)?))
+    path_of(rt, root).holds(&path_of(rt, path))
 }
 
 /// A part, by its number, of a path that is joined to another.
-fn nth(alloc: Global, words: &str) -> Result<String, Fail> {
-    let (number, words) = first_word(words);
+fn nth<R: AllocGlobal + Abort>(rt: &R, words: &str) -> String {
+    let (place, words) = first_word(words);
     let (front, back) = first_word(words);
-    let path = Path::parse(alloc, front)?.join(alloc, back)?;
-    let part = path.part(number.parse::<usize>()?);
-    Ok(format!(in alloc; "{part:?}")?)
+    let path = path_of(rt, front).join(rt.alloc(), back);
+    let path = path.expect(rt, "no path");
+    shown(rt, &path.part(number(rt, place)))
+}
+
+fn names_of<R: AllocGlobal + Abort>(rt: &R, words: &str) -> Names {
+    let mut names = Names::new(rt.alloc());
+    for word in words.split(' ') {
+        names.push(word).expect(rt, "no memory");
+    }
+    names
 }
 
 /// How many names there are, each of the first two, and what stands at place 2.
-fn kept(alloc: Global, words: &str) -> Result<String, Fail> {
-    let mut names = Names::new(alloc);
-    for word in words.split(' ') {
-        names.push(word)?;
-    }
-    Ok(format!(in alloc;
+fn kept<R: AllocGlobal + Abort>(rt: &R, words: &str) -> String {
+    let names = names_of(rt, words);
+    format!(in rt.alloc();
         "{} {:?} {:?} {:?}",
         names.len(),
         names.get(0),
         names.get(1),
         names.get(2)
-    )?)
+    )
+    .expect(rt, "no memory")
 }
 
 /// `text PATH`, `join TEXT`, `nth NUMBER PATH PATH`, `part TEXT`, `holds PATH PATH` or `names NAME ..`.
-pub(crate) fn of_path(alloc: Global, words: &str) -> Result<String, Fail> {
+pub(crate) fn of_path<R: AllocGlobal + Abort>(rt: &R, words: &str) -> String {
     let (call, given) = first_word(words);
     match call {
-        "text" => described(alloc, given),
-        "join" => joined(alloc, given),
-        "nth" => nth(alloc, given),
-        "part" => Ok(format!(in alloc; "{}", is_part(given))?),
-        "holds" => Ok(format!(in alloc; "{}", holds(alloc, given)?)?),
-        _ => kept(alloc, given),
+        "text" => parsed(rt, given),
+        "join" => joined(rt, given),
+        "nth" => nth(rt, given),
+        "part" => said(rt, &is_part(given)),
+        "holds" => said(rt, &holds(rt, given)),
+        "names" => kept(rt, given),
+        _ => panic!(rt; "no such call"),
     }
 }

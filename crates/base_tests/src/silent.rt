@@ -3,9 +3,10 @@ ghost use Rattle.std.specs.Prelude.{◌≡◌, ◌≤◌};
 ghost use Rattle.cluster_tree.specs.Causes.{Rose};
 
 use crate::callers::{VERBS, ended};
+use crate::texts::path_of;
 use cluster_tree::{Kind, Names, Path, Tree, TreeFault};
 use std::alloc::Global;
-use std::test::Fail;
+use std::process::Abort;
 
 #[derive(Drop)]
 struct SilentTree {
@@ -95,17 +96,19 @@ impl Tree for SilentTree {
     }
 }
 
+fn check_fails<R: AllocGlobal + Abort>(rt: &R, tree: &mut SilentTree, verb: &str) {
+    let end = ended(rt, tree, verb, &path_of(rt, "f"));
+    assert_eq!(rt; end, Err(TreeFault::Failed), "{verb}");
+}
+
 #[test]
-fn a_tree_that_tells_nothing_fails_each_call(rt: HostRuntime) -> Result<(), Fail> {
+fn a_tree_that_tells_nothing_fails_each_call(rt: HostRuntime) {
     let mut tree = SilentTree {
         failed_reads: 0,
         failed_changes: 0,
     };
-    let file = Path::parse(rt.alloc(), "f")?;
     for verb in VERBS.split(' ') {
-        let end = ended(rt.alloc(), &mut tree, verb, &file);
-        assert_eq!(rt; end, Err(TreeFault::Failed), "{verb}");
+        check_fails(&rt, &mut tree, verb);
     }
     assert_eq!(rt; (tree.failed_reads, tree.failed_changes), (4, 6));
-    Ok(())
 }

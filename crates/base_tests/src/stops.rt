@@ -1,53 +1,44 @@
 // The expected values follow from the calls since the last sync.
-use crate::trees::small_tree;
-use cluster_tree::{Kind, MemoryTree, Path, Tree};
-use std::alloc::Global;
-use std::test::Fail;
+use crate::texts::path_of;
+use crate::trees::{bytes_in, small_tree};
+use cluster_tree::{Kind, MemoryTree, Tree};
+use std::process::Abort;
 
-/// The bytes of a file, and what stands at another path, in an image of a tree.
-fn seen(
-    alloc: Global,
+/// An image of the tree has these bytes in `t/f`, and this at `t/g`.
+fn check_image<R: AllocGlobal + Abort>(
+    rt: &R,
     tree: &MemoryTree,
     choice: u8,
-    file: &Path,
-    other: &Path,
-) -> Result<(Vec<u8>, Kind), Fail> {
-    let mut image = tree.image(alloc, choice)?;
-    let mut bytes = vec![in alloc; 0; image.size(file)? as usize]?;
-    image.read_at(file, 0, &mut bytes)?;
-    Ok((bytes, image.kind(other)?))
+    bytes: &[u8],
+    kind: Kind,
+) {
+    let mut image = tree.image(rt.alloc(), choice).expect(rt, "no memory");
+    let found = bytes_in(rt, &mut image, &path_of(rt, "t/f"));
+    let told = (found.as_slice(), image.kind(&path_of(rt, "t/g")));
+    assert_eq!(rt; told, (bytes, Ok(kind)), "{choice}");
 }
 
 #[test]
-fn an_image_is_what_a_stop_may_leave(rt: HostRuntime) -> Result<(), Fail> {
-    let file = Path::parse(rt.alloc(), "t/f")?;
-    let made = Path::parse(rt.alloc(), "t/g")?;
-    let mut tree = small_tree(rt.alloc())?;
-    tree.write_at(&file, 3, b"LOWER")?;
-    tree.make_file(&made)?;
-    let images = [
-        (b"hello".as_slice(), Kind::Absent),
-        (b"helLOWER".as_slice(), Kind::File),
-        (b"hel\xa5\xa5\xa5\xa5\xa5".as_slice(), Kind::File),
-    ];
-    for choice in 0..3 {
-        let (bytes, kind) = seen(rt.alloc(), &tree, choice, &file, &made)?;
-        let meant = images[choice as usize];
-        assert_eq!(rt; (bytes.as_slice(), kind), meant, "{choice}");
-    }
-    Ok(())
+fn an_image_is_what_a_stop_may_leave(rt: HostRuntime) {
+    let file = path_of(&rt, "t/f");
+    let made = path_of(&rt, "t/g");
+    let mut tree = small_tree(&rt);
+    tree.write_at(&file, 3, b"LOWER").expect(&rt, "no bytes");
+    tree.make_file(&made).expect(&rt, "no file");
+    check_image(&rt, &tree, 0, b"hello", Kind::Absent);
+    check_image(&rt, &tree, 1, b"helLOWER", Kind::File);
+    check_image(&rt, &tree, 2, b"hel\xa5\xa5\xa5\xa5\xa5", Kind::File);
 }
 
 #[test]
-fn a_stop_keeps_what_was_synced(rt: HostRuntime) -> Result<(), Fail> {
-    let file = Path::parse(rt.alloc(), "t/f")?;
-    let link = Path::parse(rt.alloc(), "t/l")?;
-    let mut tree = small_tree(rt.alloc())?;
-    tree.write_at(&file, 0, b"H")?;
-    tree.sync()?;
-    tree.cut(&file, 1)?;
-    let mut image = tree.image(rt.alloc(), 0)?;
-    assert_eq!(rt; (image.size(&file), image.changes()), (Ok(5), 0));
-    assert_eq!(rt; image.kind(&link), tree.kind(&link));
-    Ok(())
+fn a_stop_keeps_what_was_synced(rt: HostRuntime) {
+    let file = path_of(&rt, "t/f");
+    let link = path_of(&rt, "t/l");
+    let mut tree = small_tree(&rt);
+    tree.write_at(&file, 0, b"H").expect(&rt, "no bytes");
+    tree.sync().expect(&rt, "no sync");
+    tree.cut(&file, 1).expect(&rt, "no cut");
+    let mut image = tree.image(rt.alloc(), 0).expect(&rt, "no memory");
+    let told = (image.size(&file), image.changes(), image.kind(&link));
+    assert_eq!(rt; told, (Ok(5), 0, tree.kind(&link)));
 }

@@ -1,125 +1,145 @@
 //! A small tree, and what is written in it.
 use crate::callers::rewrite;
-use crate::rows::first_word;
+use crate::texts::{first_word, number, owned, path_of, said, shown, text_of};
 use cluster_tree::{ChangeCall, Marks, MemoryTree, Names, Path, Tree, TreeFault, mark_present};
-use std::alloc::Global;
-use std::str;
-use std::test::Fail;
+use std::process::Abort;
 
-/// Makes an entry of `t`, which stands already but for itself: a folder, the file of the bytes `hello`, a link, or a
-/// folder that holds a name that isn't UTF-8.
-fn put(tree: &mut MemoryTree, kind: &str, path: &Path) -> Result<(), TreeFault> {
-    match kind {
-        "file" => {
-            tree.make_file(path)?;
-            tree.write_at(path, 0, b"hello")
-        }
-        "link" => tree.add_link(path),
-        "bad" => {
-            tree.make_folder(path)?;
-            tree.add_bad_name(path)
-        }
-        _ => tree.make_folder(path),
-    }
+fn put_folder<R: AllocGlobal + Abort>(rt: &R, tree: &mut MemoryTree, text: &str) {
+    tree.make_folder(&path_of(rt, text)).expect(rt, "no folder");
 }
 
-fn put_at(alloc: Global, tree: &mut MemoryTree, kind: &str, text: &str) -> Result<(), Fail> {
-    let path = Path::parse(alloc, text)?;
-    put(tree, kind, &path)?;
-    Ok(())
+fn put_link<R: AllocGlobal + Abort>(rt: &R, tree: &mut MemoryTree, text: &str) {
+    tree.add_link(&path_of(rt, text)).expect(rt, "no link");
+}
+
+// A file of the bytes `hello`.
+fn put_hello<R: AllocGlobal + Abort>(rt: &R, tree: &mut MemoryTree, text: &str) {
+    let file = path_of(rt, text);
+    tree.make_file(&file).expect(rt, "no file");
+    tree.write_at(&file, 0, b"hello").expect(rt, "no bytes");
+}
+
+// A folder that holds a name that isn't UTF-8.
+fn put_bad<R: AllocGlobal + Abort>(rt: &R, tree: &mut MemoryTree, text: &str) {
+    let folder = path_of(rt, text);
+    tree.make_folder(&folder).expect(rt, "no folder");
+    tree.add_bad_name(&folder).expect(rt, "no name");
 }
 
 /// A tree with the folder `t`, in it the file `t/f` of the bytes `hello`, the link `t/l` and the
 /// folder `t/b`, which holds a name that isn't UTF-8.
-pub(crate) fn small_tree(alloc: Global) -> Result<MemoryTree, Fail> {
-    let mut tree = MemoryTree::new(alloc);
-    for entry in ["folder t", "file t/f", "link t/l", "bad t/b"] {
-        let (kind, text) = first_word(entry);
-        put_at(alloc, &mut tree, kind, text)?;
-    }
-    Ok(tree)
+pub(crate) fn small_tree<R: AllocGlobal + Abort>(rt: &R) -> MemoryTree {
+    let mut tree = MemoryTree::new(rt.alloc());
+    put_folder(rt, &mut tree, "t");
+    put_hello(rt, &mut tree, "t/f");
+    put_link(rt, &mut tree, "t/l");
+    put_bad(rt, &mut tree, "t/b");
+    tree
 }
 
-/// The whole of a file of nine bytes at most.
-pub(crate) fn contents(alloc: Global, tree: &mut MemoryTree, file: &Path) -> Result<String, Fail> {
-    let size = tree.size(file)?;
-    if size > 9 {
-        return Err("more than nine bytes".into());
-    }
-    let mut bytes = vec![in alloc; 0; size as usize]?;
-    tree.read_at(file, 0, &mut bytes)?;
-    Ok(String::from_str(alloc, str::from_utf8(&bytes)?)?)
+/// The bytes of a file.
+pub(crate) fn bytes_in<R: AllocGlobal + Abort>(
+    rt: &R,
+    tree: &mut MemoryTree,
+    file: &Path,
+) -> Vec<u8> {
+    let size = tree.size(file).expect(rt, "no file");
+    let mut bytes = vec![in rt.alloc(); 0; size as usize].expect(rt, "no memory");
+    tree.read_at(file, 0, &mut bytes).expect(rt, "no bytes");
+    bytes
 }
 
-/// Writes a text at a place of a file, shortens the file, or writes it anew.
-fn change(tree: &mut MemoryTree, file: &Path, verb: &str, words: &str) -> Result<(), Fail> {
+// Writes a text at a place of a file, shortens the file, or writes it anew.
+fn change<R: Abort>(
+    rt: &R,
+    tree: &mut MemoryTree,
+    file: &Path,
+    verb: &str,
+    words: &str,
+) -> Result<(), TreeFault> {
     let (at, text) = first_word(words);
     match verb {
-        "write" => tree.write_at(file, at.parse::<u64>()?, text.as_bytes())?,
-        "shorten" => tree.cut(file, at.parse::<u64>()?)?,
-        _ => rewrite(tree, file, words.as_bytes())?,
+        "write" => tree.write_at(file, number(rt, at), text.as_bytes()),
+        "shorten" => tree.cut(file, number(rt, at)),
+        _ => rewrite(tree, file, words.as_bytes()),
     }
-    Ok(())
 }
 
-/// What `t/f` has once it is changed.
-pub(crate) fn changed(
-    alloc: Global,
+/// What `t/f` has once it is changed, or why it isn't.
+pub(crate) fn changed<R: AllocGlobal + Abort>(
+    rt: &R,
     tree: &mut MemoryTree,
     verb: &str,
     words: &str,
-) -> Result<String, Fail> {
-    let file = Path::parse(alloc, "t/f")?;
-    change(tree, &file, verb, words)?;
-    contents(alloc, tree, &file)
+) -> String {
+    let file = path_of(rt, "t/f");
+    match change(rt, tree, &file, verb, words) {
+        Ok(()) => text_of(rt, &bytes_in(rt, tree, &file)),
+        Err(fault) => shown(rt, &fault),
+    }
+}
+
+// The marks of `t`.
+fn marks<R: AllocGlobal + Abort>(rt: &R) -> Marks {
+    Marks::new(rt.alloc(), &path_of(rt, "t")).expect(rt, "no marks")
+}
+
+// Makes a file in a folder.
+fn make_file<R: AllocGlobal + Abort>(rt: &R, tree: &mut MemoryTree, folder: &Path, name: &str) {
+    let file = folder.join(rt.alloc(), name).expect(rt, "no path");
+    tree.make_file(&file).expect(rt, "no file");
 }
 
 /// Makes a file of this name in `t`, and tells which mark then stands there first.
-pub(crate) fn first_mark(alloc: Global, tree: &mut MemoryTree, name: &str) -> Result<String, Fail> {
-    let root = Path::parse(alloc, "t")?;
-    tree.make_file(&root.join(alloc, name)?)?;
-    let marks = Marks::new(alloc, &root)?;
-    let mark = mark_present(tree, &marks)?;
-    Ok(format!(in alloc; "{mark:?}")?)
+pub(crate) fn first_mark<R: AllocGlobal + Abort>(
+    rt: &R,
+    tree: &mut MemoryTree,
+    name: &str,
+) -> String {
+    make_file(rt, tree, &path_of(rt, "t"), name);
+    let marks = marks(rt);
+    match mark_present(tree, &marks) {
+        Ok(mark) => shown(rt, &mark),
+        Err(fault) => shown(rt, &fault),
+    }
 }
 
 /// The path of a mark of `t`, by its number.
-pub(crate) fn mark_path(alloc: Global, number: &str) -> Result<String, Fail> {
-    let marks = Marks::new(alloc, &Path::parse(alloc, "t")?)?;
-    match marks.path(number.parse::<u8>()?) {
-        Some(path) => Ok(format!(in alloc; "{path}")?),
-        None => Err("no path".into()),
+pub(crate) fn mark_path<R: AllocGlobal + Abort>(rt: &R, text: &str) -> String {
+    let marks = marks(rt);
+    match marks.path(number(rt, text)) {
+        Some(path) => said(rt, path),
+        None => owned(rt, "none"),
     }
 }
 
-fn make_files(alloc: Global, tree: &mut MemoryTree, names: &str) -> Result<(), Fail> {
+fn make_files<R: AllocGlobal + Abort>(rt: &R, tree: &mut MemoryTree, folder: &Path, names: &str) {
     for name in names.split(' ') {
-        let file = Path::parse(alloc, name)?;
-        tree.make_file(&file)?;
+        make_file(rt, tree, folder, name);
     }
-    Ok(())
 }
 
-fn joined(alloc: Global, names: &Names) -> Result<String, Fail> {
-    let mut text = String::new(alloc);
+fn joined<R: AllocGlobal + Abort>(rt: &R, names: &Names) -> String {
+    let mut text = String::new(rt.alloc());
     for at in 0..names.len() {
-        write!(text, "{} ", names.get(at).unwrap_or(""))?;
+        let name = names.get(at).expect(rt, "no name");
+        write!(text, "{name} ").expect(rt, "no memory");
     }
-    Ok(text)
+    text
 }
 
 /// The names of a folder in which these files are made, each with a blank behind it.
-pub(crate) fn names_of(alloc: Global, names: &str) -> Result<String, Fail> {
-    let mut tree = MemoryTree::new(alloc);
-    make_files(alloc, &mut tree, names)?;
-    let names = tree.list(alloc, &Path::parse(alloc, ".")?)?;
-    joined(alloc, &names)
+pub(crate) fn names_of<R: AllocGlobal + Abort>(rt: &R, names: &str) -> String {
+    let mut tree = MemoryTree::new(rt.alloc());
+    let folder = path_of(rt, ".");
+    make_files(rt, &mut tree, &folder, names);
+    match tree.list(rt.alloc(), &folder) {
+        Ok(names) => joined(rt, &names),
+        Err(fault) => shown(rt, &fault),
+    }
 }
 
 /// Whether the change of a number is a sync.
-pub(crate) fn is_sync(tree: &MemoryTree, number: &str) -> Result<bool, Fail> {
-    Ok(matches!(
-        tree.change(number.parse::<usize>()?),
-        Some(ChangeCall::Sync)
-    ))
+pub(crate) fn is_sync<R: Abort>(rt: &R, tree: &MemoryTree, text: &str) -> bool {
+    matches!(tree.change(number(rt, text)), Some(ChangeCall::Sync))
 }
