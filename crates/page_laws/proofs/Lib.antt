@@ -20,6 +20,7 @@ pub mod BtreeShown
 pub mod BtreeClose
 pub mod BtreePack
 pub mod BtreeDelete
+pub mod BtreeOverwrite
 pub mod BtreeAnew
 pub mod BtreeSpecial
 pub mod BtreeChanges

@@ -1,9 +1,11 @@
 ghost use Rattle.std.specs.Prelude.{ℕ, ◌≡◌, ◌+◌, ◌≤◌, ◌⊎◌, ◌↔◌, List, [], ◌∷◌, length, false, Ok};
 ghost use Rattle.layout.specs.Splice.{splice};
+ghost use Rattle.page_layout.specs.Apart.{AreApart};
 ghost use Rattle.page_layout.specs.Bytes.{byte, with_u16};
 ghost use Rattle.page_layout.specs.Page.{count};
 ghost use Rattle.page_layout.specs.Edits.{add_item, init_bytes};
 ghost use Rattle.page_layout.specs.Deletes.{delete_items};
+ghost use Rattle.page_layout.specs.Overwrite.{overwrite_item};
 ghost use Rattle.page_masks.specs.declared.kind.PageKind.TheVariants as PageKind;
 ghost use Rattle.page_masks.specs.Kind.{kind_of};
 ghost use Rattle.page_masks.specs.Mask.{mask, shown_flags};
@@ -42,6 +44,16 @@ pub fn btree_delete_respects()
         SameResults block (delete_items p places) (delete_items q places) }
     ensures page { (p places r : List ℕ) → BtreePage p →
         delete_items p places ≡ Ok r → BtreePage r }
+{}
+
+/// Laying an item over one of a B-tree page whose items don't overlap respects the mask.
+#[tactic(auto, using(crate::proofs::BtreeOverwrite::overwrite_respects))]
+pub fn btree_overwrite_respects()
+    ensures mask { (block place : ℕ) (p q bytes : List ℕ) → BtreePage p → BtreePage q → AreApart p →
+        mask block p ≡ mask block q →
+        SameResults block (overwrite_item p place bytes) (overwrite_item q place bytes) }
+    ensures page { (place : ℕ) (p bytes r : List ℕ) → BtreePage p → AreApart p →
+        overwrite_item p place bytes ≡ Ok r → BtreePage r × AreApart r }
 {}
 
 /// Making a B-tree page anew, its special space kept, respects the mask; an empty page with 16

@@ -7,8 +7,8 @@ mod operations;
 mod views;
 
 pub use btree::{
-    btree_add_respects, btree_delete_respects, btree_init_respects, btree_kind, btree_shown,
-    btree_special_respects, special_changes,
+    btree_add_respects, btree_delete_respects, btree_init_respects, btree_kind,
+    btree_overwrite_respects, btree_shown, btree_special_respects, special_changes,
 };
 pub use laws::{
     add_respects, edit_respects, empty_line_respects, heap_shown, heap_steps_keep, prune_respects,

@@ -1,17 +1,17 @@
--- A page after the bytes below an item were moved over it, and the lines that point there.
+-- A page after the bytes below an item moved up, and the lines that point there.
 use Rattle.std.proofs.Common.{◌≡◌, ◌≢◌, ℕ, zero, suc, ◌+◌, ◌-◌, ◌*◌, ◌<◌, ◌≤◌, ◌==◌, ◌&&◌, ◌⊎◌, inl, inr, ⊎_elim, List, Bool, true, false, length, refl, sym, ◌∙◌, ap, subst, arith}
 use Rattle.std.specs.Prelude.{nat_lt, if◌then◌else◌}
 use Rattle.std.proofs.lemmas.Bool.Decides.{eqb_tells, nat_tests}
 use Rattle.layout.specs.Splice.{splice}
 use Rattle.page_layout.specs.Bytes.{byte, u16_at, u16_bytes, cut, up8}
-use Rattle.page_layout.specs.Page.{pd_lower, pd_upper, count, lp_off, lp_flags, lp_len, ItemIn, IsFormed}
+use Rattle.page_layout.specs.Page.{pd_lower, pd_upper, count, lp_off, lp_flags, lp_len, IsFormed}
 use Rattle.page_layout.specs.Edits.{with_pointer}
 use Rattle.page_layout.specs.Deletes.{raised, moved_line, moved_lines, closed_up}
 use Rattle.layout.proofs.SpliceLemmas.{length-splice, byte-splice_in, byte-splice_out, byte-splice_below, byte-splice_above}
 use Rattle.page_layout.proofs.BytesLemmas.{length-cut, byte-cut}
 use Rattle.page_layout.proofs.LineViews.{u16_at-with_u16, off_is, len_is, flags_is, off_other, len_other, flags_other, byte_other, pointer_size}
 use Rattle.page_layout.proofs.ReadLemmas.{lower_u16, upper_u16, off_same, len_same, flags_same}
-use Rattle.page_layout.proofs.ShapeLemmas.{line_fits_at, item_in, flags_small}
+use Rattle.page_layout.proofs.ShapeLemmas.{held_in, flags_small}
 
 pub record Raised (p : List ℕ) (at size : ℕ) (r : List ℕ) : Type 0 where
   pub size8 : length r ≡ 8192
@@ -72,7 +72,7 @@ pub record MovedLines (r : List ℕ) (at size n : ℕ) (page : List ℕ) : Type 
 choose_last : (a b : ℕ) (n j : ℕ) → j ≢ n → (if nat_lt j n then a else b) ≡ (if nat_lt j (suc n) then a else b)
 choose_last a b n j ne = grind (arith, nat_tests)
 
-pub moved_lines_are : (r : List ℕ) (at size n : ℕ) → length r ≡ 8192 → at + size ≤ 8192 → 24 + 4 * n ≤ 8192 → MovedLines r at size n (moved_lines r at size n)
+pub moved_lines_are : (r : List ℕ) (at size n : ℕ) → length r ≡ 8192 → at + size ≤ 32768 → 24 + 4 * n ≤ 8192 → MovedLines r at size n (moved_lines r at size n)
 moved_lines_are r at size zero size8 below there = record {
   size8 = size8;
   off = λ j. let no : nat_lt j 0 ≡ false = grind (arith, nat_tests) in rw no refl;
@@ -137,45 +137,30 @@ moved_lines_are r at size (suc n) size8 below there = next (moved_lines r at siz
               outside = λ i out. m.outside i (second i out);
             }
 
--- what stands where
-pub record ClosedUp (p : List ℕ) (k : ℕ) (q : List ℕ) : Type 0 where
+-- what stands where once the bytes from upper up to `at` moved up by d, and lines whose items lie below `to` with them
+pub record Shifted (p : List ℕ) (at to d : ℕ) (q : List ℕ) : Type 0 where
   pub size : length q ≡ 8192
   pub lower : pd_lower q ≡ pd_lower p
-  pub upper : pd_upper q ≡ pd_upper p + up8 (lp_len p k)
+  pub upper : pd_upper q ≡ pd_upper p + d
   pub low : (i : ℕ) → i < 14 → byte q i ≡ byte p i
   pub head : (i : ℕ) → 16 ≤ i → i < 24 → byte q i ≡ byte p i
-  pub off : (j : ℕ) → j < count p → lp_off q j ≡ moved_off (lp_off p k) (up8 (lp_len p k)) p j
+  pub off : (j : ℕ) → j < count p → lp_off q j ≡ moved_off to d p j
   pub len : (j : ℕ) → j < count p → lp_len q j ≡ lp_len p j
   pub flags : (j : ℕ) → j < count p → lp_flags q j ≡ lp_flags p j
-  pub moved : (i : ℕ) → pd_upper p + up8 (lp_len p k) ≤ i → i < lp_off p k + up8 (lp_len p k) → byte q i ≡ byte p (i - up8 (lp_len p k))
-  pub above : (i : ℕ) → lp_off p k + up8 (lp_len p k) ≤ i → byte q i ≡ byte p i
+  pub moved : (i : ℕ) → pd_upper p + d ≤ i → i < at + d → byte q i ≡ byte p (i - d)
+  pub above : (i : ℕ) → at + d ≤ i → byte q i ≡ byte p i
 
 -- the raised page has the lines of the old one
 raised_u16 : (p : List ℕ) (at size : ℕ) (r : List ℕ) (i : ℕ) → Raised p at size r → 16 ≤ i → i + 1 < pd_upper p + size → u16_at r i ≡ u16_at p i
 raised_u16 p at size r i m le lt = λ t. m.front i le (omega arith) t + 256 * m.front (i + 1) (omega arith) lt t
 
-pub closed_up_is : (p : List ℕ) (k : ℕ) → IsFormed p → k < count p → 0 < lp_len p k → ClosedUp p k (closed_up p k)
-closed_up_is p k f there some = rw sure (made (raised p at size) r (moved_lines (raised p at size) at size (count p)) m)
+pub shifted_is : (p : List ℕ) (at to d : ℕ) → IsFormed p → pd_upper p ≤ at → at + d ≤ 8192 → to + d ≤ 32768 → Shifted p at to d (moved_lines (raised p at d) to d (count p))
+shifted_is p at to d f from below far = made (raised p at d) r (moved_lines (raised p at d) to d (count p)) (moved_lines_are (raised p at d) to d (count p) r.size8 far (omega (arith, f.head.low, f.head.by4, f.head.mid, f.head.high, f.head.top)))
   where
-    at : ℕ
-    at = lp_off p k
+    r : Raised p at d (raised p at d)
+    r = raised_is p at d f.size (omega (arith, f.head.low, f.head.mid)) from below
 
-    size : ℕ
-    size = up8 (lp_len p k)
-
-    i : ItemIn p k
-    i = item_in p k f.head (line_fits_at p (count p) k f.lines there) some
-
-    sure : nat_lt 0 (lp_len p k) ≡ true
-    sure = grind (arith, nat_tests)
-
-    r : Raised p at size (raised p at size)
-    r = raised_is p at size f.size (omega (arith, f.head.low, f.head.mid)) i.from (omega (arith, i.held, f.head.top))
-
-    m : MovedLines (raised p at size) at size (count p) (moved_lines (raised p at size) at size (count p))
-    m = moved_lines_are (raised p at size) at size (count p) r.size8 (omega (arith, i.held, f.head.top)) (omega (arith, f.head.low, f.head.by4, f.head.mid, f.head.high, f.head.top))
-
-    made : (r : List ℕ) → Raised p at size r → (q : List ℕ) → MovedLines r at size (count p) q → ClosedUp p k q
+    made : (r : List ℕ) → Raised p at d r → (q : List ℕ) → MovedLines r to d (count p) q → Shifted p at to d q
     made r raised q m = record {
       size = m.size8;
       lower = lower;
@@ -186,23 +171,34 @@ closed_up_is p k f there some = rw sure (made (raised p at size) r (moved_lines 
       len = λ j lt. m.len j ∙ len j lt;
       flags = λ j lt. m.flags j ∙ flags j lt;
       moved = λ j le lt. m.outside j (inr (omega (arith, f.head.low, f.head.by4, f.head.mid))) ∙ raised.moved j le lt;
-      above = λ j le. m.outside j (inr (omega (arith, i.from, f.head.low, f.head.by4, f.head.mid))) ∙ raised.above j le;
+      above = λ j le. m.outside j (inr (omega (arith, from, f.head.low, f.head.by4, f.head.mid))) ∙ raised.above j le;
     }
       where
         room : (j : ℕ) → j < count p → 28 + 4 * j ≤ pd_upper p
         room j lt = omega (arith, f.head.low, f.head.by4, f.head.mid)
 
         off : (j : ℕ) → j < count p → lp_off r j ≡ lp_off p j
-        off j lt = let fits = room j lt in off_same r p j j (raised_u16 p at size r (24 + 4 * j) raised (omega arith) (omega arith))
+        off j lt = let fits = room j lt in off_same r p j j (raised_u16 p at d r (24 + 4 * j) raised (omega arith) (omega arith))
 
         len : (j : ℕ) → j < count p → lp_len r j ≡ lp_len p j
-        len j lt = let fits = room j lt in len_same r p j j (raised_u16 p at size r (26 + 4 * j) raised (omega arith) (omega arith))
+        len j lt = let fits = room j lt in len_same r p j j (raised_u16 p at d r (26 + 4 * j) raised (omega arith) (omega arith))
 
         flags : (j : ℕ) → j < count p → lp_flags r j ≡ lp_flags p j
-        flags j lt = let fits = room j lt in flags_same r p j j (raised_u16 p at size r (24 + 4 * j) raised (omega arith) (omega arith)) (raised_u16 p at size r (26 + 4 * j) raised (omega arith) (omega arith))
+        flags j lt = let fits = room j lt in flags_same r p j j (raised_u16 p at d r (24 + 4 * j) raised (omega arith) (omega arith)) (raised_u16 p at d r (26 + 4 * j) raised (omega arith) (omega arith))
 
         lower : pd_lower q ≡ pd_lower p
         lower = lower_u16 q ∙ (λ t. (m.outside 12 (inl (omega arith)) ∙ raised.low 12 (omega arith)) t + 256 * (m.outside 13 (inl (omega arith)) ∙ raised.low 13 (omega arith)) t) ∙ sym (lower_u16 p)
 
-        upper : pd_upper q ≡ pd_upper p + size
+        upper : pd_upper q ≡ pd_upper p + d
         upper = upper_u16 q ∙ (λ t. m.outside 14 (inl (omega arith)) t + 256 * m.outside 15 (inl (omega arith)) t) ∙ sym (upper_u16 r) ∙ raised.upper
+
+-- what stands where once line k's item is closed up
+abbrev pub ClosedUp : List ℕ → ℕ → List ℕ → Type 0
+ClosedUp p k q = Shifted p (lp_off p k) (lp_off p k) (up8 (lp_len p k)) q
+
+pub closed_up_is : (p : List ℕ) (k : ℕ) → IsFormed p → k < count p → 0 < lp_len p k → ClosedUp p k (closed_up p k)
+closed_up_is p k f there some =
+    let i = held_in p k f there some in
+    let sure : nat_lt 0 (lp_len p k) ≡ true = grind (arith, nat_tests) in
+    let fits : lp_off p k + up8 (lp_len p k) ≤ 8192 = omega (arith, i.held, f.head.top) in
+    rw sure (shifted_is p (lp_off p k) (lp_off p k) (up8 (lp_len p k)) f i.from fits (omega (arith, fits)))

@@ -12,3 +12,5 @@ pub mod LineOut
 pub mod ClosedUp
 pub mod ItemOut
 pub mod ItemsStay
+pub mod Overwritten
+pub mod OverwrittenStays

@@ -1,5 +1,5 @@
 -- Bytes of a page, numbers in them (c.h: uint16, uint32, low byte first), and one way to write: bytes in place.
-use Rattle.std.specs.Prelude.{ℕ, ◌+◌, ◌*◌, ◌/◌, ◌%◌, List, [], ◌∷◌, length, take, drop, slice_index, map}
+use Rattle.std.specs.Prelude.{ℕ, ◌+◌, ◌*◌, ◌/◌, ◌%◌, List, [], ◌∷◌, take, drop, slice_index, map}
 use Rattle.std.specs.List.{range_with_len}
 use Rattle.layout.specs.Splice.{splice}
 

@@ -4,5 +4,6 @@ pub mod Lsn
 pub mod Edits
 pub mod Pack
 pub mod Deletes
+pub mod Overwrite
 pub mod Apart
 pub mod Lending

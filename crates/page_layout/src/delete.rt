@@ -69,8 +69,8 @@ fn take_lines(page: &mut [u8], places: &[u16])
     }
 }
 
-// Moves the bytes from upper up to `at` up by `size`, and upper with them.
-fn raise(page: &mut [u8], at: usize, size: usize)
+/// Moves the bytes from upper up to `at` up by `size`, and upper with them.
+pub fn raise(page: &mut [u8], at: usize, size: usize)
     requires size { length page.old ≡ 8192 }
     requires above { pd_upper page.old ≤ at }
     requires below { at + size ≤ 8192 }
@@ -85,7 +85,7 @@ fn raise(page: &mut [u8], at: usize, size: usize)
 fn move_line(page: &mut [u8], at: usize, size: usize, n: usize)
     requires size { length page.old ≡ 8192 }
     requires there { 28 + 4 * n ≤ 8192 }
-    requires below { at + size ≤ 8192 }
+    requires below { at + size ≤ 32768 }
     ensures { page.new ≡ moved_line at size n page.old }
 {
     let line = pointer_at(page, n);
@@ -99,11 +99,11 @@ fn move_line(page: &mut [u8], at: usize, size: usize, n: usize)
     }
 }
 
-// The first `lines` lines follow their items, where those lie below `at`.
-fn move_lines(page: &mut [u8], at: usize, size: usize, lines: usize)
+/// The first `lines` lines follow their items up by `size`, where those lie below `at`.
+pub fn move_lines(page: &mut [u8], at: usize, size: usize, lines: usize)
     requires size { length page.old ≡ 8192 }
     requires there { 24 + 4 * lines ≤ 8192 }
-    requires below { at + size ≤ 8192 }
+    requires below { at + size ≤ 32768 }
     ensures { page.new ≡ moved_lines page.old at size lines }
 {
     for n in 0..lines {

@@ -7,6 +7,7 @@ pub mod delete;
 pub mod init;
 pub mod line;
 pub mod lsn;
+pub mod overwrite;
 pub mod pack;
 pub mod page;
 pub mod refusal;

@@ -5,12 +5,14 @@ ghost use Rattle.page_layout.specs.Lsn.{lsn, with_lsn};
 ghost use Rattle.page_layout.specs.Edits.{Answers, set_line, add_item, trim, init};
 ghost use Rattle.page_layout.specs.Pack.{pack};
 ghost use Rattle.page_layout.specs.Deletes.{delete_items};
+ghost use Rattle.page_layout.specs.Overwrite.{overwrite_item};
 
 use crate::add::{add_refusal, put_new};
 use crate::delete::{places_refusal, put_deleted};
 use crate::init::put_init;
 use crate::line::{Line, line_of_pointer, pointer_at, put_line, set_refusal};
 use crate::lsn::{lsn_of, put_lsn};
+use crate::overwrite::{overwrite_refusal, put_overwritten};
 use crate::pack::{pack_refusal, put_all_packed};
 use crate::refusal::PageRefusal;
 use crate::shape::{line_count, well_formed};
@@ -184,5 +186,18 @@ impl Page {
             return Err(why);
         }
         put_deleted(self.bytes.as_mut_slice(), places)
+    }
+
+    /// Lays an item over the one at a place. The new one ends where the old one did, lengths rounded
+    /// up to 8, and the items below follow. Answers `BadPage`, then `BadPlace` where the place isn't
+    /// there or its line has length 0, then `NoRoom` where the new item needs more room than the old.
+    pub fn overwrite_item(&mut self, place: u16, item: &[u8]) -> Result<(), PageRefusal>
+        ensures { Answers (overwrite_item self.old place item.now) self.old result self.new }
+    {
+        if let Some(why) = overwrite_refusal(self.bytes(), place, item.len()) {
+            return Err(why);
+        }
+        put_overwritten(self.bytes.as_mut_slice(), place as usize - 1, item);
+        Ok(())
     }
 }
