@@ -1,5 +1,6 @@
 pub mod RowLemmas
 pub mod FreezeLemmas
+pub mod ShortenedLemmas
 pub mod TupleLemmas
 pub mod IndexLemmas
 pub mod PieceLemmas
@@ -11,3 +12,4 @@ pub mod SplitLemmas
 pub mod SpellingLemmas
 pub mod UpdateSpelling
 pub mod PruneSpelling
+pub mod PostingSpelling

@@ -7,6 +7,7 @@ use Rattle.block_layouts.specs.declared.plan.FreezePlan.{FreezePlan}
 use Rattle.block_layouts.specs.Row.{row_of, end_of}
 use Rattle.block_layouts.specs.Places.{place_at, place_behind, places_from}
 use Rattle.block_layouts.specs.Redirects.{redirect_at, redirect_behind, redirects_from}
+use Rattle.block_layouts.specs.Dedup.{interval_at, interval_behind, intervals_from}
 use Rattle.block_layouts.specs.Freeze.{PlanPlace, place_count, plan_at, plan_behind, plans_from, first_plan}
 use Rattle.block_layouts.proofs.RowLemmas.{length-row_of}
 
@@ -27,6 +28,9 @@ place_past count at index bytes le = slice_get-past place_at place_behind count 
 pub redirect_past : (count at index : ℕ) (bytes : List ℕ) → count ≤ index → slice_get (redirects_from count bytes at) index ≡ None
 redirect_past count at index bytes le = slice_get-past redirect_at redirect_behind count index bytes at le
 
+pub interval_past : (count at index : ℕ) (bytes : List ℕ) → count ≤ index → slice_get (intervals_from count bytes at) index ≡ None
+interval_past count at index bytes le = slice_get-past interval_at interval_behind count index bytes at le
+
 -- items of one size
 end_of-even : (size n : ℕ) (bytes : List ℕ) (at : ℕ) → end_of (λ (b : List ℕ) (k : ℕ). k + size) n bytes at ≡ at + size * n
 end_of-even size zero bytes at = omega arith
@@ -40,11 +44,18 @@ pub redirect_at-index : (count at index : ℕ) (bytes : List ℕ) → index < co
 redirect_at-index count at index bytes lt =
     slice_get-row_of redirect_at redirect_behind count index bytes at lt ∙ ap (λ (k : ℕ). Some (redirect_at bytes k)) (end_of-even 4 index bytes at)
 
+pub interval_at-index : (count at index : ℕ) (bytes : List ℕ) → index < count → slice_get (intervals_from count bytes at) index ≡ Some (interval_at bytes (at + 4 * index))
+interval_at-index count at index bytes lt =
+    slice_get-row_of interval_at interval_behind count index bytes at lt ∙ ap (λ (k : ℕ). Some (interval_at bytes k)) (end_of-even 4 index bytes at)
+
 pub place_count-is : (count at : ℕ) (bytes : List ℕ) → length (places_from count bytes at) ≡ count
 place_count-is count at bytes = length-row_of place_at place_behind count bytes at
 
 pub redirect_count-is : (count at : ℕ) (bytes : List ℕ) → length (redirects_from count bytes at) ≡ count
 redirect_count-is count at bytes = length-row_of redirect_at redirect_behind count bytes at
+
+pub interval_count-is : (count at : ℕ) (bytes : List ℕ) → length (intervals_from count bytes at) ≡ count
+interval_count-is count at bytes = length-row_of interval_at interval_behind count bytes at
 
 -- how many places plans have
 abbrev pub all_places : List FreezePlan → ℕ

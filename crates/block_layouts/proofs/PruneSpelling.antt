@@ -1,10 +1,10 @@
 -- What a PRUNE makes of lines is spelled as it is read, and read where it is spelled.
-use Rattle.std.proofs.Common.{◌≡◌, ◌≤◌, ◌<◌, ◌+◌, ◌-◌, ◌*◌, ◌/◌, ◌++◌, ltb, ℕ, zero, suc, List, [], ◌∷◌, length, take, drop, map, Some, refl, sym, ap, subst, ◌∙◌, arith, length-append, take-append-drop}
+use Rattle.std.proofs.Common.{◌≡◌, ◌≤◌, ◌+◌, ◌-◌, ◌*◌, ◌++◌, ℕ, zero, suc, List, [], ◌∷◌, length, drop, Some, refl, sym, ap, subst, ◌∙◌, arith, length-append, take-append-drop}
 use Rattle.std.specs.Prelude.{◌↔◌}
 use Rattle.std.specs.List.{flat_map}
 use Rattle.layout.specs.Readers.{u16_at}
 use Rattle.layout.specs.Values.{number}
-use Rattle.layout_readers.specs.Rows.{AllFit, AreBytes, StandFrom, row_bytes, row_width}
+use Rattle.layout_readers.specs.Rows.{AreBytes, StandFrom, row_bytes, row_width}
 use Rattle.layout_readers.proofs.RowLemmas.{length_row, row_fits, row_read, row_spelled}
 use Rattle.layout_readers.proofs.WholeLemmas.{whole_is, whole_there}
 use Rattle.block_layouts.specs.declared.prune.PrunePlaces.{PrunePlaces}
@@ -19,7 +19,7 @@ use Rattle.block_layouts.proofs.SpellingLemmas.{stand_at, stand_joined, stand_pa
 
 -- ---- places and pairs
 
-places_stand : (n at : ℕ) (bytes : List ℕ) → StandFrom (places_values (places_from n bytes at)) at bytes
+pub places_stand : (n at : ℕ) (bytes : List ℕ) → StandFrom (places_values (places_from n bytes at)) at bytes
 places_stand zero at bytes = tt
 places_stand (suc n) at bytes = (refl, places_stand n (at + 2) bytes)
 
@@ -28,7 +28,7 @@ pairs_stand zero at bytes = tt
 pairs_stand (suc n) at bytes =
     (refl, (refl, stand_at (flat_map redirect_values (redirects_from n bytes (at + 4))) bytes (at + 4) (at + 2 + 2) (omega arith) (pairs_stand n (at + 4) bytes)))
 
-places_width : (ns : List ℕ) → row_width (places_values ns) ≡ 2 * length ns
+pub places_width : (ns : List ℕ) → row_width (places_values ns) ≡ 2 * length ns
 places_width [] = refl
 places_width (n ∷ ns) = let e = places_width ns in omega (arith, e)
 
@@ -36,7 +36,7 @@ pairs_width : (rs : List Redirect) → row_width (flat_map redirect_values rs) �
 pairs_width [] = refl
 pairs_width (r ∷ rs) = let e = pairs_width rs in omega (arith, e)
 
-places_again : (ns : List ℕ) (at : ℕ) (bytes : List ℕ) → StandFrom (places_values ns) at bytes → places_from (length ns) bytes at ≡ ns
+pub places_again : (ns : List ℕ) (at : ℕ) (bytes : List ℕ) → StandFrom (places_values ns) at bytes → places_from (length ns) bytes at ≡ ns
 places_again [] at bytes stand = refl
 places_again (n ∷ ns) at bytes stand =
     let first : u16_at at bytes ≡ n = ap number stand.0 in

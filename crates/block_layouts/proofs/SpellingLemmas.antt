@@ -1,5 +1,5 @@
 -- Rows of values that are joined.
-use Rattle.std.proofs.Common.{◌≡◌, ◌+◌, ◌++◌, ℕ, List, [], ◌∷◌, refl, sym, subst, arith}
+use Rattle.std.proofs.Common.{◌≡◌, ◌+◌, ◌++◌, ℕ, List, [], ◌∷◌, subst, arith}
 use Rattle.layout.specs.declared.value.Value.{Value}
 use Rattle.layout.specs.Values.{width}
 use Rattle.layout_readers.specs.Rows.{StandFrom, row_width}

@@ -1,11 +1,11 @@
 -- The bytes of an UPDATE are spelled as they are read, and read where they are spelled.
-use Rattle.std.proofs.Common.{◌≡◌, ◌≤◌, ◌<◌, ◌+◌, ◌-◌, ◌++◌, ◌||◌, Bool, true, false, cond, ltb, ℕ, List, [], ◌∷◌, length, take, drop, Option, Some, None, refl, sym, ap, subst, ◌∙◌, arith, append_assoc, length-append, take-append-drop, zero-add}
+use Rattle.std.proofs.Common.{◌≡◌, ◌≤◌, ◌+◌, ◌-◌, ◌++◌, ◌||◌, Bool, true, false, cond, ltb, ℕ, List, [], length, take, drop, Option, Some, None, refl, sym, ap, subst, ◌∙◌, arith, append_assoc, length-append, take-append-drop, zero-add}
 use Rattle.std.specs.Prelude.{◌↔◌, option_and_then}
 use Rattle.std.proofs.lemmas.Bool.{le-ltb, ltb-false}
 use Rattle.std.proofs.lemmas.List.{drop_at, take_at}
 use Rattle.layout.specs.Readers.{u8_at, u16_at}
 use Rattle.layout.specs.Values.{number}
-use Rattle.layout_readers.specs.Rows.{AllFit, AreBytes, StandFrom, row_bytes, row_width}
+use Rattle.layout_readers.specs.Rows.{AreBytes, StandFrom, row_bytes, row_width}
 use Rattle.layout_readers.proofs.RowLemmas.{length_row, row_fits, row_read, row_spelled}
 use Rattle.block_layouts.specs.declared.tuple.TupleHeader.{TupleHeader}
 use Rattle.block_layouts.specs.declared.update.OldParts.{OldParts}

@@ -8,6 +8,9 @@ pub mod Freeze
 pub mod MultiInsert
 pub mod IndexTuples
 pub mod Split
+pub mod Dedup
+pub mod Shortened
+pub mod Posting
 pub mod Meta
 pub mod Spelling
 pub mod Laws

@@ -1,12 +1,15 @@
--- The bytes of an UPDATE and of a PRUNE as a server writes them: PostgreSQL 16, src/include/access/heapam_xlog.h;
--- src/backend/access/heap/heapam.c, log_heap_update and log_heap_prune (heap_page_prune).
+-- The bytes of an UPDATE, of a PRUNE and of a B-tree's DELETE or VACUUM as a server writes them: PostgreSQL 16,
+-- src/include/access/heapam_xlog.h and nbtxlog.h; src/backend/access/heap/heapam.c, log_heap_update, and pruneheap.c,
+-- heap_page_prune; src/backend/access/nbtree/nbtpage.c, _bt_delitems_delete and _bt_delitems_vacuum.
 use Rattle.std.specs.Prelude.{◌≡◌, ℕ, ◌+◌, ◌<◌, ◌||◌, Bool, true, false, List, [], ◌∷◌, ◌++◌, length, drop, map, if◌then◌else◌}
 use Rattle.std.specs.List.{flat_map}
 use Rattle.layout.specs.declared.value.Value.{Value}
 use Rattle.layout.specs.declared.value.Value.TheVariants.{Byte, Half}
 use Rattle.layout_readers.specs.Rows.{AllFit, row_bytes}
+use Rattle.block_layouts.specs.declared.posting.PostingUpdates.{PostingUpdates}
 use Rattle.block_layouts.specs.declared.prune.PrunePlaces.{PrunePlaces}
 use Rattle.block_layouts.specs.declared.redirects.Redirect.{Redirect}
+use Rattle.block_layouts.specs.declared.shortened.Update.{Update}
 use Rattle.block_layouts.specs.declared.tuple.TupleHeader.{TupleHeader}
 use Rattle.block_layouts.specs.declared.update.OldParts.{OldParts}
 use Rattle.block_layouts.specs.Update.{UpdateView}
@@ -56,3 +59,22 @@ pub record SpellsPrune (redirected dead : ℕ) (bytes : List ℕ) (places : Prun
   pub fit : AllFit (prune_values places)
   pub spelled : row_bytes (prune_values places) ++ drop (length (row_bytes (prune_values places))) bytes ≡ bytes
   pub odd : length bytes < length (row_bytes (prune_values places)) + 2
+
+-- the places of updates, and what one of them says: how many tids go, and their indexes
+abbrev pub update_places : List Update → List ℕ
+update_places updates = map (λ update. update.place) updates
+
+abbrev pub list_values : Update → List Value
+list_values update = Half (length update.gone) ∷ places_values update.gone
+
+-- what a DELETE or a VACUUM with updates does to tuples: deleted places, places of posting lists, and these in turn
+abbrev pub posting_values : PostingUpdates → List Value
+posting_values lists =
+    places_values lists.deleted ++ (places_values (update_places lists.updates) ++ flat_map list_values lists.updates)
+
+-- these bytes spell it, whose main bytes tell the numbers of deleted places and of updates; what stands behind says nothing
+pub record SpellsPosting (deleted updated : ℕ) (bytes : List ℕ) (lists : PostingUpdates) : Type 0 where
+  pub singles : length lists.deleted ≡ deleted
+  pub updates : length lists.updates ≡ updated
+  pub fit : AllFit (posting_values lists)
+  pub spelled : row_bytes (posting_values lists) ++ drop (length (row_bytes (posting_values lists))) bytes ≡ bytes

@@ -9,7 +9,7 @@ use std::alloc::AllocError;
 use std::marker::Model;
 
 /// The bytes of an index tuple's header (`IndexTupleData`).
-const HEADER_SIZE: usize = 8;
+pub(crate) const HEADER_SIZE: usize = 8;
 
 /// One more than the greatest size that the header can tell (`INDEX_SIZE_MASK` is one less).
 const SIZE_LIMIT: u16 = 0x2000;

@@ -3,22 +3,25 @@
 ghost use Rattle.std.specs.Prelude.{◌≡◌, ◌↔◌, ◌+◌, ◌*◌, ◌<◌, ℕ, Bool, List, Some, length, slice_get, sum_by};
 ghost use Rattle.layout.specs.Readers.{u16_at};
 ghost use Rattle.layout_readers.specs.Rows.{AreBytes};
+ghost use Rattle.block_layouts.specs.declared.posting.PostingUpdates.{PostingUpdates};
 ghost use Rattle.block_layouts.specs.declared.prune.PrunePlaces.{PrunePlaces};
 ghost use Rattle.block_layouts.specs.declared.update.OldParts.{OldParts};
+ghost use Rattle.block_layouts.specs.Dedup.{interval_at, intervals_from};
 ghost use Rattle.block_layouts.specs.Freeze.{first_plan, plan_at, plans_from};
 ghost use Rattle.block_layouts.specs.IndexTuples.{restored_tuples_of};
 ghost use Rattle.block_layouts.specs.Laws.{AreIndexTuples, AreTuplesFrom, HoldsPrune, HoldsSplit, HoldsUpdate};
 ghost use Rattle.block_layouts.specs.MultiInsert.{multi_insert_tuples_of};
 ghost use Rattle.block_layouts.specs.Places.{places_from};
+ghost use Rattle.block_layouts.specs.Posting.{posting_updates_of};
 ghost use Rattle.block_layouts.specs.Prune.{prune_places_of};
 ghost use Rattle.block_layouts.specs.Redirects.{redirect_at, redirects_from};
-ghost use Rattle.block_layouts.specs.Spelling.{CanWriteUpdate, SpellsPrune, update_bytes};
+ghost use Rattle.block_layouts.specs.Spelling.{CanWriteUpdate, SpellsPosting, SpellsPrune, update_bytes};
 ghost use Rattle.block_layouts.specs.Split.{SplitView, split_tuples_of};
 ghost use Rattle.block_layouts.specs.Tuple.{TupleView};
 ghost use Rattle.block_layouts.specs.Update.{UpdateView, update_tuple_of};
 
-/// A list of places or of pairs has as many as it was asked for, and the one at an index is what
-/// stands at its offset.
+/// A list of places, of pairs or of intervals has as many as it was asked for, and the one at an index
+/// is what stands at its offset.
 pub fn places_stand()
     ensures places { (count at index : ℕ) (bytes : List ℕ) → index < count →
         slice_get (places_from count bytes at) index ≡ Some (u16_at (at + 2 * index) bytes) }
@@ -29,6 +32,11 @@ pub fn places_stand()
         length (places_from count bytes at) ≡ count }
     ensures redirect_count { (count at : ℕ) (bytes : List ℕ) →
         length (redirects_from count bytes at) ≡ count }
+    ensures intervals { (count at index : ℕ) (bytes : List ℕ) → index < count →
+        slice_get (intervals_from count bytes at) index
+        ≡ Some (interval_at bytes (at + 4 * index)) }
+    ensures interval_count { (count at : ℕ) (bytes : List ℕ) →
+        length (intervals_from count bytes at) ≡ count }
 {}
 
 /// The plan at an index is the one at its offset, and its places stand behind all plans and behind
@@ -79,6 +87,13 @@ pub fn prunes_are_spelled()
     ensures { (redirected dead : ℕ) (bytes : List ℕ) (places : PrunePlaces) → AreBytes bytes →
         (prune_places_of redirected dead bytes ≡ Some places)
         ↔ SpellsPrune redirected dead bytes places }
+{}
+
+/// What a DELETE or a VACUUM with updates does to tuples is read exactly where the bytes spell it.
+pub fn posting_updates_are_spelled()
+    ensures { (deleted updated : ℕ) (bytes : List ℕ) (lists : PostingUpdates) → AreBytes bytes →
+        (posting_updates_of deleted updated bytes ≡ Some lists)
+        ↔ SpellsPosting deleted updated bytes lists }
 {}
 
 /// The tuples of a split are read exactly where the bytes begin with them, and they are index tuples.

@@ -15,8 +15,8 @@ pub struct SplitTuples<'a> {
 }
 
 /// The index tuples that a B-tree split has for its left page, of the bytes of its block 0, or
-/// `None` where they aren't there: the new tuple, where the bytes begin with it (`SPLIT_L`), and the
-/// high key, each of its size rounded up to 8 bytes. What stands behind them is ignored.
+/// `None` where they aren't there: the new tuple, where the bytes begin with it (`SPLIT_L`, and either
+/// split where its tid goes into a posting list), and the high key, each of its size rounded up to 8 bytes. What stands behind them is ignored.
 #[tactic(auto, unfolding(crate::specs::Split::split_tuples_of))]
 pub fn split_tuples(bytes: &[u8], with_new: bool) -> Option<SplitTuples<'_>>
     ensures value { option_map split_seen result ≡ split_tuples_of with_new bytes.now }
