@@ -19,7 +19,7 @@ use Rattle.btree_laws.proofs.Steps.{IsStep, no_step, both_steps, same_calls, cal
 use Rattle.btree_laws.proofs.Special.{special_step, garbage_change, garbage_leaf}
 
 module _ (block : ℕ) where
-  add_step : (place : ℕ) (bytes : List ℕ) → IsStep block (λ p. on_page (add_item p bytes place false))
+  pub add_step : (place : ℕ) (bytes : List ℕ) → IsStep block (λ p. on_page (add_item p bytes place false))
   add_step place bytes = record {
     page = λ p r h e. add_keeps_page place p bytes r h (called (add_item p bytes place false) r e);
     same = λ p q hp hq m. same_calls block (add_item p bytes place false) (add_item q bytes place false) (add_respects block place p q bytes hp hq m);

@@ -1,5 +1,5 @@
 -- A record that makes its page anew looks at no byte of it; pages of zeros are sound.
-use Rattle.std.proofs.Common.{◌≡◌, ℕ, ◌==◌, ◌||◌, List, Bool, true, false, IsTrue, Option, Some, None, Ok, length, refl, sym, subst, arith}
+use Rattle.std.proofs.Common.{◌≡◌, ℕ, ◌==◌, ◌&&◌, ◌||◌, List, Bool, true, false, IsTrue, Option, Some, None, Ok, length, refl, sym, subst, arith}
 use Rattle.std.specs.Prelude.{if◌then◌else◌}
 use Rattle.std.proofs.lemmas.Bool.Decides.{nat_tests}
 use Rattle.wal_records.specs.Reading.{LogRecord}
@@ -16,6 +16,7 @@ use Rattle.page_masks.specs.Law.{Redone, view, SamePage, SameMasks}
 use Rattle.page_masks.specs.Sound.{is_sound}
 use Rattle.redo_reads.specs.Given.{main_of}
 use Rattle.btree_pages.proofs.ItemsLemmas.{Done}
+use Rattle.btree_posting.specs.Posting.{has_posting, posting_operation}
 use Rattle.btree_replay.specs.Operation.{split_acts, new_root_acts, acts_on, makes_anew, btree_makes_anew, changed_by, done_by, btree_fresh, btree_operation}
 use Rattle.btree_laws.proofs.Replayed.{record_law}
 
@@ -29,10 +30,7 @@ either false b P e left right = right e
 -- a split has an effect on its right page, and a root on itself and the metapage
 right_acts : (op : Option BtreeSplit) → split_acts op 1 ≡ true
 right_acts None = refl
-right_acts (Some op) = by_case (op.posting == 0)
-  where
-    by_case : (c : Bool) → split_acts (Some op) 1 ≡ true
-    by_case c = refl
+right_acts (Some op) = refl
 
 root_acts : (op : Option BtreeNewRoot) → new_root_acts op 0 ≡ true
 root_acts None = refl
@@ -47,7 +45,10 @@ module _ (rec : LogRecord) (parts : PartsView) (p q : List ℕ) where
   main = main_of rec parts
 
   abbrev done : Operation → ℕ → List ℕ → Redone
-  done op id r = if acts_on op main id then changed_by op rec parts id r else Done r
+  done op id r =
+      if id == 0 && has_posting op main then posting_operation rec parts id r
+      else if acts_on op main id then changed_by op rec parts id r
+      else Done r
 
   abbrev Same : BtreeOp → ℕ → Type 0
   Same op id = done (Btree op) id p ≡ done (Btree op) id q

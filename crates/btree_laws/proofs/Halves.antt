@@ -27,7 +27,7 @@ unfolding cut
 no_bytes p k e = ap (λ n. take n (drop (lp_off p k) p)) e
 
 module _ (p q : List ℕ) (s : SameBtreeItems p q) where
-  each : (k : ℕ) → k < count p → item q k ≡ item p k
+  pub each : (k : ℕ) → k < count p → item q k ≡ item p k
   each k lt = ⊎_elim
       (λ (t : ((lp_len p k == 0) ≡ true) × (lp_len p k ≡ 0)). no_bytes q k (s.len k lt ∙ t.1) ∙ sym (no_bytes p k t.1))
       (λ (n : ((lp_len p k == 0) ≡ false) × (lp_len p k ≢ 0)). s.item k lt (omega (arith, n.1)))
@@ -37,7 +37,7 @@ module _ (p q : List ℕ) (s : SameBtreeItems p q) where
   some zero from above there = refl
   some (suc n) from above there = λ t. each (from - 1) (omega (arith, above, there)) t ∷ some n (from + 1) (omega arith) (omega (arith, there)) t
 
-  same_items : (from to : ℕ) → 0 < from → to ≤ count p + 1 → items q from to ≡ items p from to
+  pub same_items : (from to : ℕ) → 0 < from → to ≤ count p + 1 → items q from to ≡ items p from to
   same_items from to above there = ⊎_elim
       (λ (t : (nat_le from to ≡ true) × (from ≤ to)). some (to - from) from above (omega (arith, t.1, there)))
       (λ (f : (nat_le from to ≡ false) × (to < from)). let n : to - from ≡ 0 = omega (arith, f.1) in rw n refl)
@@ -46,7 +46,7 @@ module _ (p q : List ℕ) (s : SameBtreeItems p q) where
   next_same : btpo_next q ≡ btpo_next p
   next_same = λ t. s.links 8180 (omega arith) (omega arith) t + 256 * s.links 8181 (omega arith) (omega arith) t + 65536 * (s.links 8182 (omega arith) (omega arith) t + 256 * s.links 8183 (omega arith) (omega arith) t)
 
-  first_same : first_data q ≡ first_data p
+  pub first_same : first_data q ≡ first_data p
   first_same = ap (λ n. if n == 0 then 1 else 2) next_same
 
   end_same : (op : BtreeSplit) → stay_end op q ≡ stay_end op p
@@ -56,7 +56,7 @@ module _ (p q : List ℕ) (s : SameBtreeItems p q) where
   place_same op = λ t. if nat_le (first_same t) op.new_item && nat_lt op.new_item (end_same op t) then op.new_item else end_same op t
 
 -- the places are places of lines, counted from 1
-first_above : (p : List ℕ) → 0 < first_data p
+pub first_above : (p : List ℕ) → 0 < first_data p
 first_above p = by_case (btpo_next p == 0)
   where
     by_case : (b : Bool) → 0 < (if b then 1 else 2)

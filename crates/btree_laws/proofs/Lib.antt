@@ -1,8 +1,13 @@
 pub mod Steps
+pub mod Sound
+pub mod Cases
 pub mod Special
 pub mod Added
 pub mod Anew
 pub mod Halves
+pub mod Dedup
+pub mod Posting
+pub mod PostingReplayed
 pub mod Sizes
 pub mod Replayed
 pub mod Fresh

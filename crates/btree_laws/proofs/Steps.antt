@@ -29,16 +29,16 @@ pub no_step : (block : ℕ) → IsStep block (λ p. Done p)
 no_step block = record { page = λ p r h e. subst BtreePage (done_same p r e) h; same = λ p q hp hq m. m }
 
 -- one step, then another
-record Through (a : Redone) (g : List ℕ → Redone) (r : List ℕ) : Type 0 where
-  mid : List ℕ
-  is : a ≡ Done mid
-  goes_on : g mid ≡ Done r
+pub record Through (a : Redone) (g : List ℕ → Redone) (r : List ℕ) : Type 0 where
+  pub mid : List ℕ
+  pub is : a ≡ Done mid
+  pub goes_on : g mid ≡ Done r
 
-through : (a : Redone) (g : List ℕ → Redone) (r : List ℕ) → and_then a g ≡ Done r → Through a g r
+pub through : (a : Redone) (g : List ℕ → Redone) (r : List ℕ) → and_then a g ≡ Done r → Through a g r
 through (Ok mid) g r e = record { mid = mid; is = refl; goes_on = e }
 through (Err why) g r e = cc e
 
-same_then : (v : PageView) (a b : Redone) (f g : List ℕ → Redone) → SameMasks v a b
+pub same_then : (v : PageView) (a b : Redone) (f g : List ℕ → Redone) → SameMasks v a b
     → ((p q : List ℕ) → a ≡ Done p → b ≡ Done q → v.mask p ≡ v.mask q → SameMasks v (f p) (g q)) → SameMasks v (and_then a f) (and_then b g)
 same_then v (Ok p) (Ok q) f g same on = on p q refl refl same
 same_then v (Err a) (Err b) f g same on = same
@@ -63,17 +63,17 @@ called (Ok p) r e = ap OkPage (done_same p r e)
 called (Err why) r e = cc e
 
 -- the mask tells B-tree pages from others
-is_page : (p : List ℕ) → BtreePage p → is_btree_page p ≡ true
+pub is_page : (p : List ℕ) → BtreePage p → is_btree_page p ≡ true
 is_page p h = let t = btree_kind p h.page.size in ap is_btree (t.0 h)
 
-page_is : (p : List ℕ) → length p ≡ 8192 → is_btree_page p ≡ true → BtreePage p
+pub page_is : (p : List ℕ) → length p ≡ 8192 → is_btree_page p ≡ true → BtreePage p
 page_is p size e = let t = btree_kind p size in t.1 (by_kind (kind_of p) e)
   where
     by_kind : (k : PageKind) → is_btree k ≡ true → k ≡ Btree
     by_kind Btree e = refl
     by_kind _ e = cc e
 
-shown : (block : ℕ) (p q : List ℕ) → length p ≡ 8192 → length q ≡ 8192 → mask block p ≡ mask block q → is_btree_page p ≡ is_btree_page q
+pub shown : (block : ℕ) (p q : List ℕ) → length p ≡ 8192 → length q ≡ 8192 → mask block p ≡ mask block q → is_btree_page p ≡ is_btree_page q
 shown block p q size_p size_q same = by_case (is_btree_page p) (is_btree_page q) refl refl
   where
     by_case : (a b : Bool) → is_btree_page p ≡ a → is_btree_page q ≡ b → is_btree_page p ≡ is_btree_page q

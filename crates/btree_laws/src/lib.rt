@@ -3,4 +3,4 @@
 
 mod laws;
 
-pub use laws::btree_mask_law;
+pub use laws::{btree_mask_law, posting_mask_law};

@@ -39,9 +39,9 @@ pub fn put_last(page: &mut [u8], item: &[u8]) -> Result<(), RedoWhy>
     add_at(page, item, place as u16)
 }
 
-// The item of a line, empty where the line points nowhere.
+/// The item of the line at index `k`, counted from 0, empty where the line points nowhere.
 #[tactic(auto, unfolding(page_layout::specs::Bytes::cut), using(page_layout::proofs::ShapeLemmas::held_in))]
-fn item_of(page: &[u8], k: usize) -> &[u8]
+pub fn item_of(page: &[u8], k: usize) -> &[u8]
     requires formed { IsFormed page.now }
     requires there { k < count page.now }
     ensures { result.now ≡ item page.now k }

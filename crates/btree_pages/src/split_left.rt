@@ -20,8 +20,8 @@ use redo_steps::tuple::put_u32;
 /// `BTP_INCOMPLETE_SPLIT`.
 const INCOMPLETE_SPLIT: u16 = 0x80;
 
-// The place of the first tuple.
-fn first_data(page: &[u8]) -> usize
+/// The place of the first tuple: behind the high key, where there is one.
+pub fn first_data(page: &[u8]) -> usize
     requires { length page.now ≡ 8192 }
     ensures value { result ≡ first_data page.now }
     ensures above { 0 < result }
@@ -73,9 +73,9 @@ fn put_left_special(special: &mut [u8], right: u32, op: &BtreeSplit)
     put_u16(special, 14, 0);
 }
 
-// The page made anew with its special space.
+/// Makes of `room` the page made anew, with its special space alone.
 #[tactic(auto, unfolding(page_layout::specs::Bytes::cut))]
-fn begin_anew(room: &mut [u8], page: &[u8])
+pub fn begin_anew(room: &mut [u8], page: &[u8])
     requires room { length room.old ≡ 8192 }
     requires page { IsFormed page.now }
     ensures value { room.new ≡ made_anew page.now }

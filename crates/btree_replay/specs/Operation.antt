@@ -1,39 +1,30 @@
 -- What a B-tree record does to the page of one of its blocks: PostgreSQL 16, src/backend/access/nbtree/nbtxlog.c, btree_redo.
 -- Own: "Redo of B-tree records".
-use Rattle.std.specs.Prelude.{ℕ, ◌==◌, ◌&&◌, ◌||◌, not, List, Bool, true, false, Option, Some, None, Ok, if◌then◌else◌}
+use Rattle.std.specs.Prelude.{ℕ, ◌==◌, ◌&&◌, ◌||◌, not, List, Bool, true, false, Option, Some, None, Ok, Err, if◌then◌else◌}
 use Rattle.wal_records.specs.Reading.{LogRecord}
 use Rattle.block_refs.specs.Parts.{PartsView}
 use Rattle.record_layouts.specs.Operation.{operation_of}
-use Rattle.record_layouts.specs.Btree.{btree_split_of, btree_delete_of, btree_vacuum_of, btree_new_root_of}
+use Rattle.record_layouts.specs.Btree.{btree_split_of, btree_new_root_of}
 use Rattle.record_layouts.specs.declared.btree.BtreeOp.{BtreeOp}
 use Rattle.record_layouts.specs.declared.btree.BtreeOp.TheVariants as btree
 use Rattle.record_layouts.specs.declared.btree.BtreeSplit.{BtreeSplit}
-use Rattle.record_layouts.specs.declared.btree.BtreeDelete.{BtreeDelete}
-use Rattle.record_layouts.specs.declared.btree.BtreeVacuum.{BtreeVacuum}
 use Rattle.record_layouts.specs.declared.btree.BtreeNewRoot.{BtreeNewRoot}
 use Rattle.record_layouts.specs.declared.operation.Operation.{Operation}
 use Rattle.record_layouts.specs.declared.operation.Operation.TheVariants.{Btree}
+use Rattle.page_layout.specs.declared.refusal.RedoWhy.TheVariants.{Layout}
 use Rattle.page_masks.specs.Law.{Redone}
 use Rattle.redo_reads.specs.Given.{main_of}
+use Rattle.btree_posting.specs.Posting.{is_posting, posting_operation}
 use Rattle.btree_replay.specs.Meta.{meta_operation}
 use Rattle.btree_replay.specs.Insert.{insert_operation}
 use Rattle.btree_replay.specs.Delete.{delete_operation, vacuum_operation}
 use Rattle.btree_replay.specs.Split.{split_operation}
 use Rattle.btree_replay.specs.NewRoot.{new_root_operation}
 
--- SPLIT_L and SPLIT_R: not the page that is split where a posting list is split with it; a page below only above level 0
+-- SPLIT_L and SPLIT_R: a page below only above level 0
 abbrev pub split_acts : Option BtreeSplit → ℕ → Bool
 split_acts None id = id == 0 || id == 1 || id == 2 || id == 3
-split_acts (Some op) id = id == 0 && op.posting == 0 || id == 1 || id == 2 || id == 3 && not (op.level == 0)
-
--- DELETE and VACUUM: not where posting lists become shorter
-abbrev pub delete_acts : Option BtreeDelete → ℕ → Bool
-delete_acts None id = id == 0
-delete_acts (Some op) id = id == 0 && op.nupdated == 0
-
-abbrev pub vacuum_acts : Option BtreeVacuum → ℕ → Bool
-vacuum_acts None id = id == 0
-vacuum_acts (Some op) id = id == 0 && op.nupdated == 0
+split_acts (Some op) id = id == 0 || id == 1 || id == 2 || id == 3 && not (op.level == 0)
 
 -- NEWROOT: a page below only above level 0
 abbrev pub new_root_acts : Option BtreeNewRoot → ℕ → Bool
@@ -47,8 +38,10 @@ btree_acts_on btree.InsertUpper main id = id == 0 || id == 1
 btree_acts_on btree.InsertMeta main id = id == 0 || id == 1 || id == 2
 btree_acts_on btree.SplitLeft main id = split_acts (btree_split_of main) id
 btree_acts_on btree.SplitRight main id = split_acts (btree_split_of main) id
-btree_acts_on btree.Delete main id = delete_acts (btree_delete_of main) id
-btree_acts_on btree.Vacuum main id = vacuum_acts (btree_vacuum_of main) id
+btree_acts_on btree.InsertPost main id = id == 0
+btree_acts_on btree.Dedup main id = id == 0
+btree_acts_on btree.Delete main id = id == 0
+btree_acts_on btree.Vacuum main id = id == 0
 btree_acts_on btree.NewRoot main id = new_root_acts (btree_new_root_of main) id
 btree_acts_on btree.MetaCleanup main id = id == 0
 btree_acts_on _ main id = false
@@ -70,13 +63,16 @@ abbrev pub makes_anew : Operation → ℕ → Bool
 makes_anew (Btree op) id = btree_makes_anew op id
 makes_anew _ id = false
 
--- what an operation does to the page of a reference that it changes
+-- what an operation without posting lists does to the page of a reference that it changes; those of posting lists alone are here
+-- where their main bytes aren't whole
 abbrev pub btree_change : BtreeOp → LogRecord → PartsView → ℕ → List ℕ → Redone
 btree_change btree.InsertLeaf rec parts id p = insert_operation rec parts id p
 btree_change btree.InsertUpper rec parts id p = insert_operation rec parts id p
 btree_change btree.InsertMeta rec parts id p = insert_operation rec parts id p
 btree_change btree.SplitLeft rec parts id p = split_operation true rec parts id p
 btree_change btree.SplitRight rec parts id p = split_operation false rec parts id p
+btree_change btree.InsertPost rec parts id p = Err Layout
+btree_change btree.Dedup rec parts id p = Err Layout
 btree_change btree.Delete rec parts id p = delete_operation rec parts p
 btree_change btree.Vacuum rec parts id p = vacuum_operation rec parts p
 btree_change btree.NewRoot rec parts id p = new_root_operation rec parts id p
@@ -99,7 +95,12 @@ btree_acts rec parts id = acts_on (done_by rec) (main_of rec parts) id
 abbrev pub btree_fresh : LogRecord → PartsView → ℕ → Bool
 btree_fresh rec parts id = makes_anew (done_by rec) id
 
--- what it does to that page but for the LSN; another page stays
+-- what it does to that page but for the LSN, posting lists aside; another page stays
+abbrev pub plain_operation : LogRecord → PartsView → ℕ → List ℕ → Redone
+plain_operation rec parts id p =
+    if btree_acts rec parts id then changed_by (done_by rec) rec parts id p else Ok p
+
+-- .. and with them
 abbrev pub btree_operation : LogRecord → PartsView → ℕ → List ℕ → Redone
 btree_operation rec parts id p =
-    if btree_acts rec parts id then changed_by (done_by rec) rec parts id p else Ok p
+    if is_posting rec parts id then posting_operation rec parts id p else plain_operation rec parts id p

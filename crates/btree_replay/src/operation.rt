@@ -2,41 +2,18 @@
 
 ghost use Rattle.std.specs.Prelude.{ℕ, ◌≡◌};
 ghost use Rattle.block_refs.specs.Parts.{ArePartsOf};
-ghost use Rattle.btree_replay.specs.Operation.{split_acts, delete_acts, vacuum_acts, new_root_acts, btree_acts_on, acts_on, btree_makes_anew, makes_anew, btree_acts, btree_fresh};
+ghost use Rattle.btree_replay.specs.Operation.{split_acts, new_root_acts, btree_acts_on, acts_on, btree_makes_anew, makes_anew, btree_acts, btree_fresh};
 
 use block_refs::Parts;
-use record_layouts::{BtreeDelete, BtreeNewRoot, BtreeOp, BtreeSplit, BtreeVacuum, Operation};
+use record_layouts::{BtreeNewRoot, BtreeOp, BtreeSplit, Operation};
 use wal_records::Record;
 
 fn split_acts(op: Option<BtreeSplit>, id: u8) -> bool
     ensures { result ≡ split_acts op id }
 {
-    let Some(op) = op else {
-        return id <= 3;
-    };
-    match id {
-        0 => op.posting == 0,
-        1 | 2 => true,
-        3 => op.level != 0,
-        _ => false,
-    }
-}
-
-fn delete_acts(op: Option<BtreeDelete>, id: u8) -> bool
-    ensures { result ≡ delete_acts op id }
-{
     match op {
-        Some(op) => id == 0 && op.nupdated == 0,
-        None => id == 0,
-    }
-}
-
-fn vacuum_acts(op: Option<BtreeVacuum>, id: u8) -> bool
-    ensures { result ≡ vacuum_acts op id }
-{
-    match op {
-        Some(op) => id == 0 && op.nupdated == 0,
-        None => id == 0,
+        Some(op) => id <= 2 || id == 3 && op.level != 0,
+        None => id <= 3,
     }
 }
 
@@ -57,12 +34,15 @@ fn btree_acts_on(op: BtreeOp, main: &[u8], id: u8) -> bool
     ensures { result ≡ btree_acts_on op main.now id }
 {
     match op {
-        BtreeOp::InsertLeaf | BtreeOp::MetaCleanup => id == 0,
+        BtreeOp::InsertLeaf
+        | BtreeOp::InsertPost
+        | BtreeOp::Dedup
+        | BtreeOp::Delete
+        | BtreeOp::Vacuum
+        | BtreeOp::MetaCleanup => id == 0,
         BtreeOp::InsertUpper => id <= 1,
         BtreeOp::InsertMeta => id <= 2,
         BtreeOp::SplitLeft | BtreeOp::SplitRight => split_acts(BtreeSplit::read(main), id),
-        BtreeOp::Delete => delete_acts(BtreeDelete::read(main), id),
-        BtreeOp::Vacuum => vacuum_acts(BtreeVacuum::read(main), id),
         BtreeOp::NewRoot => new_root_acts(BtreeNewRoot::read(main), id),
         _ => false,
     }
@@ -79,8 +59,7 @@ fn acts_on(op: Operation, main: &[u8], id: u8) -> bool
 }
 
 /// Whether a record changes the main fork's page of its reference with an id. Records of other
-/// managers change none. A posting list is left alone: INSERT_POST and DEDUP change no page, and a
-/// split, DELETE or VACUUM that has to do with one doesn't change its block 0.
+/// managers change none.
 pub fn acts(rec: &Record, parts: &Parts, id: u8) -> bool
     requires { ArePartsOf rec.now parts.now }
     ensures { result ≡ btree_acts rec.now parts.now id }

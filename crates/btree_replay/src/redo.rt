@@ -4,7 +4,7 @@ ghost use Rattle.std.specs.Prelude.{ℕ, ◌≡◌, length};
 ghost use Rattle.block_refs.specs.Parts.{ArePartsOf};
 ghost use Rattle.page_masks.specs.Law.{stamped};
 ghost use Rattle.redo_steps.specs.Redo.{Makes, Redoes};
-ghost use Rattle.btree_replay.specs.Operation.{btree_change, changed_by, btree_operation};
+ghost use Rattle.btree_replay.specs.Operation.{btree_change, changed_by, plain_operation, btree_operation};
 
 use crate::delete::{delete, vacuum};
 use crate::insert::insert;
@@ -13,6 +13,7 @@ use crate::new_root::new_root;
 use crate::operation::acts;
 use crate::split::split;
 use block_refs::Parts;
+use btree_posting::{is_posting, redo_posting};
 use page_layout::lsn::put_lsn;
 use page_layout::{Page, RedoWhy};
 use record_layouts::{BtreeOp, Operation};
@@ -36,6 +37,7 @@ fn btree_change(
         }
         BtreeOp::SplitLeft => split(rec, parts, id, true, page),
         BtreeOp::SplitRight => split(rec, parts, id, false, page),
+        BtreeOp::InsertPost | BtreeOp::Dedup => Err(RedoWhy::Layout),
         BtreeOp::Delete => delete(rec, parts, page),
         BtreeOp::Vacuum => vacuum(rec, parts, page),
         BtreeOp::NewRoot => new_root(rec, parts, id, page),
@@ -62,11 +64,11 @@ fn change(
     }
 }
 
-// All but the LSN.
+// All but posting lists and the LSN.
 fn change_page(rec: &Record, parts: &Parts, id: u8, page: &mut [u8]) -> Result<(), RedoWhy>
     requires parts { ArePartsOf rec.now parts.now }
     requires size { length page.old ≡ 8192 }
-    ensures { Makes (btree_operation rec.now parts.now id page.old) result page.new }
+    ensures { Makes (plain_operation rec.now parts.now id page.old) result page.new }
 {
     if !acts(rec, parts, id) {
         return Ok(());
@@ -93,6 +95,9 @@ pub fn redo_btree(rec: &Record, parts: &Parts, id: u8, page: &mut Page) -> Resul
     ensures exact { Redoes (stamped rec.now.end (btree_operation rec.now parts.now id) page.old)
         page.old result page.new }
 {
+    if is_posting(rec, parts, id) {
+        return redo_posting(rec, parts, id, page);
+    }
     let mut room = [0u8; 8192];
     room.copy_from_slice(page.bytes());
     change_page(rec, parts, id, &mut room)?;
