@@ -45,7 +45,7 @@ xlog_rules = record { acts = xlog_acts; fresh = xlog_acts; operation = without_i
 abbrev pub heap_rules : BlockRules
 heap_rules = record { acts = heap_acts; fresh = heap_fresh; operation = heap_operation }
 
--- the manager Btree, but for posting lists
+-- the manager Btree
 abbrev pub btree_rules : BlockRules
 btree_rules = record { acts = btree_acts; fresh = btree_fresh; operation = btree_operation }
 

@@ -1,14 +1,11 @@
 -- The names and values in the main bytes of records that replay takes, also where the layout isn't whole. Own: "The
 -- profile of replay", "Names of layouts that are cut".
-use Rattle.std.specs.Prelude.{ℕ, ◌==◌, ◌&&◌, Bool, true, List}
+use Rattle.std.specs.Prelude.{ℕ, ◌&&◌, Bool, true, List}
 use Rattle.std.specs.List.{list_all}
-use Rattle.record_layouts.specs.Btree.{btree_delete_of, btree_split_of, btree_vacuum_of}
 use Rattle.record_layouts.specs.Database.{create_prefix_of, drop_prefix_of}
 use Rattle.record_layouts.specs.End.{dropped_prefix_of}
 use Rattle.record_layouts.specs.Storage.{created_name_of, cut_name_of}
 use Rattle.record_layouts.specs.XlogPrefixes.{checkpoint_prefix_of, parameter_prefix_of}
-use Rattle.record_layouts.specs.declared.btree.BtreeOp.{BtreeOp}
-use Rattle.record_layouts.specs.declared.btree.BtreeOp.TheVariants as btree
 use Rattle.record_layouts.specs.declared.database.DatabaseCreatePrefix.{DatabaseCreatePrefix}
 use Rattle.record_layouts.specs.declared.database.DatabaseDropPrefix.{DatabaseDropPrefix}
 use Rattle.record_layouts.specs.declared.database.DatabaseOp.{DatabaseOp}
@@ -53,19 +50,10 @@ takes_database database.CreateWalLog main = takes_creation (create_prefix_of mai
 takes_database database.Drop main = takes_drop (drop_prefix_of main)
 takes_database _ main = true
 
--- no posting list is split or becomes shorter
-abbrev pub takes_btree : BtreeOp → List ℕ → Bool
-takes_btree btree.SplitLeft main = passes (λ split. split.posting == 0) (btree_split_of main)
-takes_btree btree.SplitRight main = passes (λ split. split.posting == 0) (btree_split_of main)
-takes_btree btree.Delete main = passes (λ gone. gone.nupdated == 0) (btree_delete_of main)
-takes_btree btree.Vacuum main = passes (λ gone. gone.nupdated == 0) (btree_vacuum_of main)
-takes_btree _ main = true
-
 -- the fields of an operation, as far as they are there
 abbrev pub takes_fields : Operation → List ℕ → Bool
 takes_fields (op.Xlog o) main = takes_xlog o main
 takes_fields (op.Transaction o) main = takes_transaction o main
 takes_fields (op.Storage o) main = takes_storage o main
 takes_fields (op.Database o) main = takes_database o main
-takes_fields (op.Btree o) main = takes_btree o main
 takes_fields _ main = true

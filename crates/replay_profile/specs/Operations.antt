@@ -67,10 +67,8 @@ abbrev pub knows_heap2 : Heap2Op → Bool
 knows_heap2 heap2.Rewrite = false
 knows_heap2 _ = true
 
--- no operation of posting lists alone, and none that takes a page out of the tree
+-- none that takes a page out of the tree
 abbrev pub knows_btree : BtreeOp → Bool
-knows_btree btree.InsertPost = false
-knows_btree btree.Dedup = false
 knows_btree btree.UnlinkPage = false
 knows_btree btree.UnlinkPageMeta = false
 knows_btree btree.MarkPageHalfDead = false

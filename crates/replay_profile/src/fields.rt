@@ -1,9 +1,8 @@
 //! The names and values in main bytes, also where the layout isn't whole.
 
-ghost use Rattle.std.specs.Prelude.{◌≡◌, ◌==◌};
+ghost use Rattle.std.specs.Prelude.{◌≡◌};
 ghost use Rattle.std.specs.List.{list_all};
-ghost use Rattle.record_layouts.specs.Btree.{btree_delete_of, btree_split_of, btree_vacuum_of};
-ghost use Rattle.replay_profile.specs.Fields.{takes_btree, takes_creation, takes_database, takes_drop, takes_fields, takes_storage, takes_transaction, takes_xlog};
+ghost use Rattle.replay_profile.specs.Fields.{takes_creation, takes_database, takes_drop, takes_fields, takes_storage, takes_transaction, takes_xlog};
 ghost use Rattle.replay_profile.specs.Names.{is_known_database, is_known_rel, is_known_space};
 ghost use Rattle.replay_profile.specs.Values.{passes};
 
@@ -11,9 +10,9 @@ use crate::names::{is_known_database, is_known_rel, is_known_space};
 use crate::values::{is_known_change, is_known_checkpoint};
 use block_refs::RelName;
 use record_layouts::{
-    BtreeDelete, BtreeOp, BtreeSplit, BtreeVacuum, CheckpointPrefix, DatabaseCreatePrefix,
-    DatabaseDropPrefix, DatabaseOp, Items, Operation, ParameterPrefix, StorageCreate, StorageOp,
-    StorageTruncate, TransactionEnd, TransactionOp, XlogOp,
+    CheckpointPrefix, DatabaseCreatePrefix, DatabaseDropPrefix, DatabaseOp, Items, Operation,
+    ParameterPrefix, StorageCreate, StorageOp, StorageTruncate, TransactionEnd, TransactionOp,
+    XlogOp,
 };
 
 fn takes_xlog(op: XlogOp, main: &[u8]) -> bool
@@ -123,44 +122,6 @@ fn takes_database(op: DatabaseOp, main: &[u8]) -> bool
     }
 }
 
-fn takes_split(main: &[u8]) -> bool
-    ensures { result ≡ passes (λ split. split.posting == 0) (btree_split_of main.now) }
-{
-    match BtreeSplit::read(main) {
-        Some(split) => split.posting == 0,
-        None => true,
-    }
-}
-
-fn takes_delete(main: &[u8]) -> bool
-    ensures { result ≡ passes (λ gone. gone.nupdated == 0) (btree_delete_of main.now) }
-{
-    match BtreeDelete::read(main) {
-        Some(gone) => gone.nupdated == 0,
-        None => true,
-    }
-}
-
-fn takes_vacuum(main: &[u8]) -> bool
-    ensures { result ≡ passes (λ gone. gone.nupdated == 0) (btree_vacuum_of main.now) }
-{
-    match BtreeVacuum::read(main) {
-        Some(gone) => gone.nupdated == 0,
-        None => true,
-    }
-}
-
-fn takes_btree(op: BtreeOp, main: &[u8]) -> bool
-    ensures { result ≡ takes_btree op main.now }
-{
-    match op {
-        BtreeOp::SplitLeft | BtreeOp::SplitRight => takes_split(main),
-        BtreeOp::Delete => takes_delete(main),
-        BtreeOp::Vacuum => takes_vacuum(main),
-        _ => true,
-    }
-}
-
 /// Whether replay takes the names and values in the main bytes of an operation, as far as they are
 /// there.
 pub(crate) fn takes_fields(op: Operation, main: &[u8]) -> bool
@@ -171,7 +132,6 @@ pub(crate) fn takes_fields(op: Operation, main: &[u8]) -> bool
         Operation::Transaction(op) => takes_transaction(op, main),
         Operation::Storage(op) => takes_storage(op, main),
         Operation::Database(op) => takes_database(op, main),
-        Operation::Btree(op) => takes_btree(op, main),
         _ => true,
     }
 }

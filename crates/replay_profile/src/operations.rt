@@ -101,7 +101,6 @@ fn knows_btree(op: BtreeOp) -> bool
     ensures { result ≡ knows_btree op }
 {
     match op {
-        BtreeOp::InsertPost | BtreeOp::Dedup => false,
         BtreeOp::UnlinkPage | BtreeOp::UnlinkPageMeta | BtreeOp::MarkPageHalfDead => false,
         BtreeOp::Unlisted(_) => false,
         _ => true,
