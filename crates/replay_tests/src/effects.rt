@@ -90,6 +90,16 @@ fn records_do_to_blocks_what_their_managers_say(rt: HostRuntime) {
     check(
         &rt,
         Rows::Record,
-        &[act_rows::ACTS, gone_rows::GONE, redone_rows::REDONE],
+        &[
+            act_rows::HEAP,
+            act_rows::HEAP2,
+            act_rows::BTREE,
+            act_rows::BTREE_OTHERS,
+            act_rows::XLOG,
+            act_rows::WITHOUT_RULES,
+            act_rows::MAPS_AND_GONE,
+            gone_rows::GONE,
+            redone_rows::REDONE,
+        ],
     );
 }

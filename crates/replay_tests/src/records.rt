@@ -94,5 +94,14 @@ pub(crate) fn answer_record<F: Tree, R: AllocGlobal + Abort>(
 
 #[test]
 fn records_change_their_blocks_and_other_files(rt: HostRuntime) {
-    check(&rt, Rows::Left(""), &[block_rows::BLOCKS, file_rows::FILES]);
+    check(
+        &rt,
+        Rows::Left(""),
+        &[
+            block_rows::BLOCKS,
+            file_rows::TRANSACTIONS,
+            file_rows::BITS,
+            file_rows::OTHERS,
+        ],
+    );
 }

@@ -2,6 +2,8 @@
 mod added;
 mod btree_deletes;
 mod btree_inserts;
+mod btree_lists;
+mod btree_postings;
 mod btree_roots;
 mod btree_splits;
 mod lines;
@@ -142,14 +144,28 @@ fn redo_changes_the_bytes_that_its_row_says(rt: HostRuntime) {
         &rt,
         Rows::Record,
         &[
-            added::ADDED,
+            added::INSERTS,
+            added::MULTI_INSERTS,
+            added::UPDATES,
             tuples::TUPLES,
             lines::LINES,
             order::ORDER,
             btree_inserts::INSERTS,
             btree_deletes::DELETES,
-            btree_splits::SPLITS,
+            btree_splits::RIGHT,
+            btree_splits::LEFT,
+            btree_splits::INNER,
+            btree_splits::REFUSED,
             btree_roots::ROOTS,
+            btree_postings::INSERTS,
+            btree_postings::DEDUPS,
+            btree_postings::DEDUPS_REFUSED,
+            btree_lists::SPLITS,
+            btree_lists::DELETES,
+            btree_lists::DELETES_OF_ONE,
+            btree_lists::DELETES_REFUSED,
+            btree_lists::DELETES_OF_SECOND,
+            btree_lists::LAYOUTS,
         ],
     );
 }

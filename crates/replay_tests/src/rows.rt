@@ -55,7 +55,8 @@ fn first_other<'a, R: AllocGlobal + Abort>(
 /// A row's call answers what the row says.
 fn check_answer<R: AllocGlobal + Abort>(rt: &R, tree: &mut MemoryTree, row: &str, told: &str) {
     let (call, _) = cut_at(row, ": ");
-    assert_eq!(rt; answer(rt, tree, call).as_str(), told, "{row}");
+    let answer = answer(rt, tree, call);
+    assert!(rt; answer.as_str() == told, "{row}: {answer}");
 }
 
 /// A row's call answers what the row says on a tree with these entries and the row's own, and leaves what it says.
@@ -64,7 +65,9 @@ fn check_left<R: AllocGlobal + Abort>(rt: &R, had: &str, row: &str, meant: &str)
     let (told, then) = cut_at(meant, ": ");
     let mut tree = tree_of(rt, had, own);
     check_answer(rt, &mut tree, row, told);
-    assert_eq!(rt; first_other(rt, &mut tree, then), None, "{row}");
+    if let Some(fact) = first_other(rt, &mut tree, then) {
+        panic!(rt; "{row}: not {fact}");
+    }
 }
 
 /// What rows are about.
@@ -81,7 +84,10 @@ pub(crate) enum Rows<'a> {
 /// What a row has before its sign of equality comes out as it has behind it.
 fn check_row<R: AllocGlobal + Abort>(rt: &R, rows: Rows<'_>, row: &str, meant: &str) {
     match rows {
-        Rows::Record => assert_eq!(rt; told(rt, row).as_str(), meant, "{row}"),
+        Rows::Record => {
+            let told = told(rt, row);
+            assert!(rt; told.as_str() == meant, "{row}: {told}");
+        }
         Rows::Left(had) => check_left(rt, had, row, meant),
         Rows::Failing => check_course(rt, row, meant),
     }

@@ -190,10 +190,13 @@ fn file_of<R: AllocGlobal + Abort>(rt: &R, fork: &str, block: u32) -> Path {
 
 // The one byte that all are.
 fn one_of(bytes: &[u8]) -> Option<u8> {
-    match bytes {
-        [first, rest @ ..] if rest.iter().all(|byte| byte == first) => Some(*first),
-        _ => None,
+    let first = *bytes.first()?;
+    for &byte in bytes {
+        if byte != first {
+            return None;
+        }
     }
+    Some(first)
 }
 
 // Whether this lies at the place of a block of that relation: nothing, one byte 8192 times, or bytes of several kinds.

@@ -6,31 +6,14 @@ use crate::trees::tree_of;
 use cluster_tree::{ChangeCall, FailPlan, FailingTree, MemoryTree};
 use std::process::Abort;
 
-/// A call, and how it goes.
+/// A call, and what it changes.
 #[derive(Clone, Copy)]
 struct Course<'a> {
     call: &'a str,
     /// What the tree has.
     had: &'a str,
-    /// The calls of the device in order, none for a dash: `r` reads, `w` changes.
-    device: &'a str,
-    /// The answer where none fails.
-    ends: &'a str,
     /// The changes in order, each with its path.
     changes: &'a str,
-}
-
-fn course_of<'a>(row: &'a str, meant: &'a str) -> Course<'a> {
-    let (call, had) = cut_at(row, ": ");
-    let (told, changes) = cut_at(meant, ": ");
-    let (device, ends) = cut_at(told, " ");
-    Course {
-        call,
-        had,
-        device: undashed(device),
-        ends,
-        changes,
-    }
 }
 
 fn change_text<R: AllocGlobal + Abort>(rt: &R, call: &ChangeCall) -> String {
@@ -87,23 +70,29 @@ fn goes<R: AllocGlobal + Abort>(
     told.as_str() == ends && are_first(rt, &within, from, count, course.changes)
 }
 
-// The number of the first of the device's calls at which it goes otherwise.
-fn first_wrong<R: AllocGlobal + Abort>(rt: &R, course: &Course<'_>) -> Option<u64> {
+// The number of the first of the device's calls at which it goes otherwise: the calls are `r` reads and `w` changes, and
+// where none fails it ends so.
+fn first_wrong<R: AllocGlobal + Abort>(
+    rt: &R,
+    course: &Course<'_>,
+    device: &str,
+    ends: &str,
+) -> Option<u64> {
     let mut number = 1;
     let mut count = 0;
-    for &kind in course.device.as_bytes() {
-        let ends = if kind == b'w' {
+    for &kind in device.as_bytes() {
+        let failed = if kind == b'w' {
             "a write failed"
         } else {
             "a read failed"
         };
-        if !goes(rt, course, number, ends, count) {
+        if !goes(rt, course, number, failed, count) {
             return Some(number);
         }
         count = usize::saturating_add(count, usize::from(kind == b'w'));
         number = u64::saturating_add(number, 1);
     }
-    if goes(rt, course, number, course.ends, count) {
+    if goes(rt, course, number, ends, count) {
         None
     } else {
         Some(number)
@@ -112,7 +101,13 @@ fn first_wrong<R: AllocGlobal + Abort>(rt: &R, course: &Course<'_>) -> Option<u6
 
 /// A row's call goes as the row says, whichever of the device's calls fails.
 pub(crate) fn check_course<R: AllocGlobal + Abort>(rt: &R, row: &str, meant: &str) {
-    assert_eq!(rt; first_wrong(rt, &course_of(row, meant)), None, "{row}");
+    let (call, had) = cut_at(row, ": ");
+    let (told, changes) = cut_at(meant, ": ");
+    let (device, ends) = cut_at(told, " ");
+    let course = Course { call, had, changes };
+    if let Some(number) = first_wrong(rt, &course, undashed(device), ends) {
+        panic!(rt; "{row}: not at call {number}");
+    }
 }
 
 #[test]

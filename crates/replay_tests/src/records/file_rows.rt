@@ -1,7 +1,8 @@
 //! What records do to files.
 //! The bodies are packed, and what stands then worked out, by an independent script after PostgreSQL's headers.
 
-pub(crate) const FILES: &str = "\
+/// Commits and aborts.
+pub(crate) const TRANSACTIONS: &str = "\
 # a commit of 700 with subtransactions 702 and 32770, on the next page, and two dropped relations
 . files 700 1 128 ff3401000000000000000600000002000000be02000002800000020000007f0600000500000000400\
     0008006000000000000ee040000: filled base/5/16384 1 1, filled base/5/16384_vm 1 1, filled \
@@ -17,7 +18,10 @@ pub(crate) const FILES: &str = "\
 . files 700 1 0 ff0701000000000000: folder pg_xact = done: none pg_xact/0000
 # a folder in place of the status file
 . files 700 1 0 ff080100000000000000: folder pg_xact/0000 = pg_xact/0000 is a folder: folder \
-    pg_xact/0000
+    pg_xact/0000";
+
+/// Bits of the map.
+pub(crate) const BITS: &str = "\
 # a deletion clears both bits of its block
 . files 700 10 16 000000007f060000050000000040000005000000ff08bc02000001000001: filled \
     base/5/16384_vm 8192 255 = done: at base/5/16384_vm 24 fff3ff, size base/5/16384_vm 8192
@@ -52,7 +56,10 @@ pub(crate) const FILES: &str = "\
     8192 255 = done: at base/5/16384_vm 24 fffcff
 # and with their places
 . files 700 9 80 000000007f060000050000000040000004000000ff080100020001000200: filled \
-    base/5/16384_vm 8192 255 = done: at base/5/16384_vm 24 fffcff
+    base/5/16384_vm 8192 255 = done: at base/5/16384_vm 24 fffcff";
+
+/// Forks, status, multixacts, maps, databases.
+pub(crate) const OTHERS: &str = "\
 # a fork is made
 . files 700 2 16 ff107f060000050000000040000003000000: folder base = done: size base/5/16384_init 0
 # a truncation to 5 blocks with flags 7

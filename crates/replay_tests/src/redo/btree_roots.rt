@@ -34,17 +34,7 @@ zeros | 11 160 700 0 | 0 3 000001000100 | 0300000001000000 = Layout
 zeros | 11 160 700 0 | 0 3 0000010001001000A1A1A1A1A1A1A1A1*408 | 0300000001000000 = Room
 zeros | 11 160 700 1 | 0 3 0000020002001000A2A2A2A2A2A2A2A20000010001000800, 1 1 -, 2 0 \
     04000000030000000100000003000000010000000403020100 | 0300000001000000 = PageShape
-# only the LSN: posting lists, pages that go, references past those of the operation
-index, at 8188 01, key 1, key 2, key 3, key 4 | 11 80 700 0 | 0 1 \
-    0000010007001000A7A7A7A7A7A7A7A7 | 0100 = 4 68 6 10
-index, at 8188 01, key 1, key 2, key 3, key 4 | 11 96 700 0 | 0 1 01000200 | 0100 = 4 60 6 10
-index, at 8188 01, key 1, key 2, key 3, key 4 | 11 64 700 0 | 0 1 \
-    0000010009001000A9A9A9A9A9A9A9A9, 1 2 0000010004001000A4A4A4A4A4A4A4A4 | \
-    00000000030004000200 = 4 88 6 10
-index, at 8188 01, key 1, key 2, key 3, key 4 | 11 112 700 0 | 0 1 01000200 | 0000000001000100 \
-    = 4 68 6 10
-index, at 8188 01, key 1, key 2, key 3, key 4 | 11 192 700 0 | 0 1 01000200 | 01000100 = 4 60 \
-    6 10
+# only the LSN: pages that go, references past those of the operation
 index, at 8188 01, key 1, key 2, key 3, key 4 | 11 128 700 0 | 0 1 - | 0100 = 4 58 6 10
 index, at 8188 01, key 1, key 2, key 3, key 4 | 11 208 700 0 | 0 1 - | 0100 = 4 58 6 10
 index, at 8188 01, key 1, key 2, key 3, key 4 | 11 0 700 1 | 0 1 \
