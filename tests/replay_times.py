@@ -59,14 +59,10 @@ def make_pair(machine, scale):
     machine.done("initdb", "-D", old.data, "-E", "UTF8", "--locale=C", "-A", "trust", "-U", "postgres", "--no-sync")
     old.settings(SETTINGS)
     old.start()
-    for database in ("template1", "postgres"):
-        old.script("server_btrees.sql", database)
-        old.ask("reindex system " + database, database)
     old.ask("create database shop")
     machine.done("pgbench", "-h", old.socket, "-U", "postgres", "-i", "-q", "-s", scale, "shop")
     for line in TABLES:
         old.ask(line % (20000 * scale) if "%" in line else line, "shop")
-    old.script("server_btrees.sql", "shop")
     machine.done("pg_basebackup", "-h", old.socket, "-U", "postgres", "-D", new.data, "-X", "stream", "-c", "fast", "-R", "--no-sync")
     new.settings("")
     new.start()

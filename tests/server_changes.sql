@@ -27,6 +27,12 @@ update journal set line = line || 'longer' where at % 5 = 0;
 vacuum account; vacuum journal;
 select count(*) from journal;
 
+-- posting lists of B-trees: made, split and shortened
+insert into visit select :side * 10000 + g, g % 7, 'line ' || (g % 3) from generate_series(1, 900) g;
+delete from visit where id % 5 = :side;
+vacuum visit;
+insert into visit select :side * 20000 + g, 3, 'line 1' from generate_series(1, 400) g;
+
 -- what has no rows
 select pg_logical_emit_message(false, 'tests', 'a message');
 select pg_create_restore_point('side ' || :side);
@@ -60,8 +66,7 @@ insert into scratch select :side * 1000 + g, 's' from generate_series(1, 40) g;
   create materialized view branches as select branch, count(*) from account group by branch; refresh materialized view branches;
 \endif
 create table made_:side (id serial primary key, line text);
-\ir server_btrees.sql
-create index journal_at on journal (at) with (deduplicate_items = off);
+create index journal_at on journal (at);
 insert into journal select g, 'behind the index' from generate_series(1, 500) g;
 drop index journal_at;
 insert into made_:side select g, md5(g::text) from generate_series(1, 900) g;

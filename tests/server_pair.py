@@ -12,7 +12,7 @@ autovacuum = off
 fsync = off
 shared_buffers = 16MB
 checkpoint_timeout = 1h
-wal_keep_size = 16MB
+wal_keep_size = 64MB
 min_wal_size = 2MB
 wal_retrieve_retry_interval = 100ms
 archive_mode = on
@@ -119,8 +119,6 @@ def make_pair(machine):
     machine.done("pg_resetwal", "-D", old.data, "-x", 32300, "-m", "2047,1", "-O", 1633)
     old.settings(SETTINGS.format(archive=machine.path("archive")))
     old.start()
-    old.script("server_btrees.sql", "template1")
-    old.ask("reindex system template1")
     old.ask("drop database postgres")  # which nothing here needs
     for database in ("shop", "only_new_keeps", "only_old_keeps"):
         old.ask("create database %s strategy = wal_log" % database)

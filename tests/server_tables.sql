@@ -1,4 +1,4 @@
--- What the databases of tests/servers are filled with before the base backup. Every B-tree is without posting lists.
+-- What the databases of tests/servers are filled with before the base backup.
 set client_min_messages = warning;
 create table account (id int primary key, branch int, owner text, balance numeric) with (fillfactor = 75);
 create index account_branch on account (branch, owner);
@@ -14,7 +14,9 @@ create table locked (id int, line text);        -- never vacuumed: its rows keep
 create unlogged table scratch (id int primary key, line text);
 create sequence ticket increment 5;
 create table event (id bigserial primary key, kind int default 1);
-\ir server_btrees.sql
+create table visit (id int, page int, line text) with (autovacuum_enabled = off);
+create index visit_page on visit (page);    -- whose tuples are posting lists
+create index visit_line on visit (line, page);
 insert into account select g, g % 19, repeat(md5(g::text), 1 + g % 4), g from generate_series(1, 2000) g;
 insert into ledger select g, repeat('l', g % 90) from generate_series(1, 2000) g;
 insert into journal select g, repeat('j', g % 70) from generate_series(1, 3000) g;
@@ -26,6 +28,7 @@ insert into letter select g, repeat(md5(g::text), 150 + g) from generate_series(
 insert into locked select g, 'l' from generate_series(1, 200) g;
 insert into scratch select g, 's' from generate_series(1, 200) g;
 insert into event select from generate_series(1, 150);
+insert into visit select g, g % 7, 'line ' || (g % 3) from generate_series(1, 3000) g;
 select count(nextval('ticket')) from generate_series(1, 40);
 vacuum (analyze) account, ledger, journal;
 select setval('ticket', 500), setval('event_id_seq', 150);
