@@ -14,9 +14,8 @@ fn check_fails_once<R: AllocGlobal + Abort>(rt: &R, verb: &str) {
     let first = ended(rt, &mut tree, verb, &file);
     let second = ended(rt, &mut tree, verb, &file);
     let failed = Err(TreeFault::Failed);
-    assert_eq!(rt;
-        (first == failed, second == failed),
-        (true, false),
+    assert!(rt;
+        (first == failed, second == failed) == (true, false),
         "{verb}"
     );
 }
@@ -38,7 +37,7 @@ fn a_write_that_fails_in_mid_run_leaves_what_was_done(rt: HostRuntime) {
     let mut tree = tree.into_inner();
     let made = tree.changes().checked_sub(changes);
     let failed = Err(TreeFault::Failed);
-    assert_eq!(rt; (end, tree.size(&file), made), (failed, Ok(0), Some(1)));
+    assert!(rt; (end, tree.size(&file), made) == (failed, Ok(0), Some(1)));
 }
 
 #[test]
@@ -48,8 +47,8 @@ fn a_sink_fails_by_its_plan(rt: HostRuntime) {
     let two = sink.write(b" two");
     let three = sink.write(b" three");
     let told = format!(in rt.alloc(); "{one:?} {two:?} {three:?} ").expect(&rt, "no memory");
-    assert_eq!(rt; told.as_str(), "Ok(()) Err(SinkFailed) Ok(()) ");
-    assert_eq!(rt; sink.bytes(), b"one three".as_slice());
+    assert!(rt; told.as_str() == "Ok(()) Err(SinkFailed) Ok(()) ");
+    assert!(rt; sink.bytes() == b"one three".as_slice());
 }
 
 pub(crate) const MARKS: &str = "\
@@ -71,5 +70,5 @@ fn faults_have_messages(rt: HostRuntime) {
     .expect(&rt, "no memory");
     let expected =
         "t/f was changed meanwhile, a path has more than 64 parts, the device failed, a write failed";
-    assert_eq!(rt; text.as_str(), expected);
+    assert!(rt; text.as_str() == expected);
 }

@@ -10,10 +10,10 @@ const BYTES: [u8; 40] = [
 #[test]
 fn reads_the_lowest_byte_first(rt: HostRuntime) {
     let short = (u8_at(&BYTES, 39), u16_at(&BYTES, 1), u32_at(&BYTES, 2));
-    assert_eq!(rt; short, (0xFF, 0x0302, 0x0605_0403));
+    assert!(rt; short == (0xFF, 0x0302, 0x0605_0403));
     let long = (u64_at(&BYTES, 3), i64_at(&BYTES, 32));
-    assert_eq!(rt; long, (0x0B0A_0908_0706_0504, -2));
-    assert_eq!(rt; raw_at(&BYTES, 8)[24..], BYTES[32..]);
+    assert!(rt; long == (0x0B0A_0908_0706_0504, -2));
+    assert!(rt; raw_at(&BYTES, 8)[24..] == BYTES[32..]);
 }
 
 #[test]
@@ -28,7 +28,7 @@ fn a_row_has_the_number_of_its_value(rt: HostRuntime) {
         (Row::raw('f', 24, [1; 32], any), 0),
     ];
     for (row, number) in rows {
-        assert_eq!(rt; row.value.number(), number, "at {}", row.field);
+        assert!(rt; row.value.number() == number, "at {}", row.field);
     }
 }
 
@@ -53,7 +53,7 @@ fn rules_allow(rt: HostRuntime) {
         (Rule::PowerOfTwo(8, 32), 64, false),
     ];
     for (rule, number, allowed) in rows {
-        assert_eq!(rt; rule.allows(number), allowed, "{rule:?} at {number}");
+        assert!(rt; rule.allows(number) == allowed, "{rule:?} at {number}");
     }
 }
 
@@ -69,5 +69,5 @@ fn finds_the_first_broken_row(rt: HostRuntime) {
     let of_three = broken_field(&[kept, second, third]);
     let of_two = broken_field(&[kept, third]);
     let of_one = broken_field(&[kept]);
-    assert_eq!(rt; (of_three, of_two, of_one), (Some('b'), Some('c'), None));
+    assert!(rt; (of_three, of_two, of_one) == (Some('b'), Some('c'), None));
 }

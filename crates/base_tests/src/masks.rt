@@ -119,7 +119,7 @@ fn a_speculative_tuple_shows_itself(rt: HostRuntime) {
     let mut page = heap_page(&rt, 0, 1);
     page.bytes_mut()[8184..8186].copy_from_slice(&[0xFE, 0xFF]);
     mask(&mut page, 0x1_0203);
-    assert_eq!(rt; &page.bytes()[8180..8186], [1, 0, 3, 2, 1, 0].as_slice());
+    assert!(rt; &page.bytes()[8180..8186] == [1, 0, 3, 2, 1, 0].as_slice());
 }
 
 // Whether two pages are the same as they are compared.
@@ -137,7 +137,7 @@ fn unused_lines_at_the_end_do_not_show(rt: HostRuntime) {
     let masked = is_same(&rt, &ten, &seven, 3);
     ten.bytes_mut()[8191] = 9;
     let changed = is_same(&rt, &ten, &seven, 3);
-    assert_eq!(rt; (masked, changed), (true, false));
+    assert!(rt; (masked, changed) == (true, false));
 }
 
 // Drops the item of the first line.
@@ -162,5 +162,5 @@ fn a_dropped_item_shows_its_hint_bits(rt: HostRuntime) {
     pack(&rt, &mut a);
     pack(&rt, &mut b);
     let packed = is_same(&rt, &a, &b, 0);
-    assert_eq!(rt; (held, dropped, packed), (true, false, true));
+    assert!(rt; (held, dropped, packed) == (true, false, true));
 }

@@ -57,6 +57,16 @@ fn add<R: AllocGlobal + Abort>(rt: &R, page: &mut Page, words: &str) -> Result<(
     page.add_item(&item, number(rt, place), is_over(rt, how))
 }
 
+// Lays an item over another: its place and its bytes.
+fn overwrite<R: AllocGlobal + Abort>(
+    rt: &R,
+    page: &mut Page,
+    words: &str,
+) -> Result<(), PageRefusal> {
+    let (place, digits) = first_word(words);
+    page.overwrite_item(number(rt, place), &bytes_of(rt, digits))
+}
+
 fn places_of<R: AllocGlobal + Abort>(rt: &R, words: &str) -> Vec<u16> {
     let mut places = Vec::new(rt.alloc());
     for word in words.split(' ') {
@@ -65,17 +75,14 @@ fn places_of<R: AllocGlobal + Abort>(rt: &R, words: &str) -> Vec<u16> {
     places
 }
 
-/// What a call answers: `set PLACE LINE`, `add BYTES PLACE over` or `between`, `trim`, `pack`, `delete PLACE ..` or
-/// `init SPECIAL`.
-pub(crate) fn make<R: AllocGlobal + Abort>(
-    rt: &R,
-    page: &mut Page,
-    call: &str,
-) -> Result<(), PageRefusal> {
+// What a call answers: `set PLACE LINE`, `add BYTES PLACE over` or `between`, `overwrite PLACE BYTES`, `trim`,
+// `pack`, `delete PLACE ..` or `init SPECIAL`.
+fn make<R: AllocGlobal + Abort>(rt: &R, page: &mut Page, call: &str) -> Result<(), PageRefusal> {
     let (verb, words) = first_word(call);
     match verb {
         "set" => set(rt, page, words),
         "add" => add(rt, page, words),
+        "overwrite" => overwrite(rt, page, words),
         "trim" => page.trim(),
         "pack" => page.pack(),
         "delete" => page.delete_items(&places_of(rt, words)),

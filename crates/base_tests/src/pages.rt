@@ -1,5 +1,6 @@
-// Expected bytes were computed by a Python script that follows bufpage.c, independent of this crate.
-use crate::page_calls::{add_item, empty_page, made, make, zero_page};
+// Expected bytes were computed by a Python script that follows bufpage.c, independent of this crate; those of an item laid
+// over another by hand.
+use crate::page_calls::{add_item, empty_page, made, zero_page};
 use crate::texts::{bytes_of, first_word, number, owned, shown};
 use page_layout::{Line, Page, PageRefusal};
 use std::process::Abort;
@@ -62,6 +63,23 @@ without the second: delete 2 = 12 2000E81F00200420, 24 F89F0A00E89F1200E89F12, 8
     C1C2C3C4C5C6C7C8C9, 8168 C1C2C3C4C5C6C7C8C9, 8184 A1A2A3A4A5
 without the first and third: delete 1 3 = 12 1C00F01F00200420, 24 F09F2000F09F2000D89F12, 8152 \
     C1C2C3C4C5C6C7C8C9, 8168 B0B1B2B3B4B5B6B7, 8176 B0B1B2B3B4B5B6B7B8B9BABBBCBDBEBF
+a shorter second: overwrite 2 D1D2D3 = 12 2400E01F00200420, 24 F89F0A00F09F0600E09F12, 8152 \
+    C1C2C3C4C5C6C7C8, 8160 C1C2C3C4C5C6C7C8C9, 8176 D1D2D3, 8184 A1A2A3A4A5
+a shorter third, the lowest: overwrite 3 D1D2 = 12 2400E01F00200420, 24 F89F0A00E89F2000E09F04, 8152 \
+    C1C2C3C4C5C6C7C8, 8160 D1D2, 8168 B0B1B2B3B4B5B6B7B8B9BABBBCBDBEBF, 8184 A1A2A3A4A5
+as long: overwrite 3 D1D2D3D4D5D6D7D8D9 = 12 2400D81F00200420, 24 F89F0A00E89F2000D89F12, 8152 \
+    D1D2D3D4D5D6D7D8D9, 8168 B0B1B2B3B4B5B6B7B8B9BABBBCBDBEBF, 8184 A1A2A3A4A5
+longer in the same room: overwrite 1 D1D2D3D4D5D6D7D8 = 12 2400D81F00200420, 24 \
+    F89F1000E89F2000D89F12, 8152 C1C2C3C4C5C6C7C8C9, 8168 B0B1B2B3B4B5B6B7B8B9BABBBCBDBEBF, 8184 \
+    D1D2D3D4D5D6D7D8
+shorter in the same room: overwrite 1 D1D2D3 = 12 2400D81F00200420, 24 F89F0600E89F2000D89F12, 8152 \
+    C1C2C3C4C5C6C7C8C9, 8168 B0B1B2B3B4B5B6B7B8B9BABBBCBDBEBF, 8184 D1D2D3
+an item of no bytes: overwrite 1 - = 12 2400E01F00200420, 24 00A00000F09F2000E09F12, 8152 \
+    C1C2C3C4C5C6C7C8, 8160 C1C2C3C4C5C6C7C8C9, 8176 B0B1B2B3B4B5B6B7B8B9BABBBCBDBEBF
+beside a line without an item: set 1 redirect 3, overwrite 2 D1D2D3 = 12 2400E01F00200420, 24 \
+    03000100F09F0600E09F12, 8152 C1C2C3C4C5C6C7C8, 8160 C1C2C3C4C5C6C7C8C9, 8176 D1D2D3, 8184 A1A2A3A4A5
+two lines of one item: set 1 dead 8168 16, overwrite 2 D1D2D3 = 12 2400E01F00200420, 24 \
+    F09F2100F09F0600E09F12, 8152 C1C2C3C4C5C6C7C8, 8160 C1C2C3C4C5C6C7C8C9, 8176 D1D2D3, 8184 A1A2A3A4A5
 without all: delete 1 2 3 = 12 1800002000200420
 empty: delete 1 2 3, init 13 = 12 1800F01FF01F0420";
 
@@ -71,9 +89,8 @@ fn check_left<R: AllocGlobal + Abort>(rt: &R, row: &str) {
     let (_name, calls) = calls.split_once(": ").expect(rt, "no name");
     let mut page = page_of_three(rt);
     let made = made(rt, &mut page, calls);
-    assert_eq!(rt;
-        (made, has_parts(rt, &page, parts)),
-        (Ok(()), true),
+    assert!(rt;
+        (made, has_parts(rt, &page, parts)) == (Ok(()), true),
         "{row}"
     );
 }
@@ -99,26 +116,27 @@ fn full_page<R: AllocGlobal + Abort>(rt: &R) -> Page {
 fn holds_291_items(rt: HostRuntime) {
     let mut page = full_page(&rt);
     let last = Line::Normal { at: 1208, len: 24 };
-    assert_eq!(rt; (page.count(), page.line(291)), (Some(291), Some(last)));
+    assert!(rt; (page.count(), page.line(291)) == (Some(291), Some(last)));
     let answer = page.add_item(&[7; 24], 1, false);
     let refused = Err(PageRefusal::NoRoom);
-    assert_eq!(rt; (answer, page.lsn()), (refused, Lsn(0x1_0000_00E0)));
+    assert!(rt; (answer, page.lsn()) == (refused, Lsn(0x1_0000_00E0)));
 }
 
 #[test]
 fn a_page_of_zeros_is_told(rt: HostRuntime) {
     let mut page = zero_page(&rt);
     let told = (page.is_zero(), page.count(), page.line(1));
-    assert_eq!(rt; told, (true, None, None));
+    assert!(rt; told == (true, None, None));
     page.init(0).expect(&rt, "no room");
     page.bytes_mut()[8] = 7;
     assert!(rt; !page.is_zero());
 }
 
-// Calls on a page of zeros, and on one of three items, that are refused.
+// Calls in turn on a page of zeros, and on one of three items, of which the last is refused.
 pub(crate) const OF_ZEROS: &str = "\
 page zeros set 0 unused = BadPage
 page zeros add - 0 between = BadPage
+page zeros overwrite 0 00+8193 = BadPage
 page zeros trim = BadPage
 page zeros pack = BadPage
 page zeros delete 0 = BadPage
@@ -134,6 +152,12 @@ page three add 00+8167 5 between = BadPlace
 page three add 00+8167 5 over = BadPlace
 page three add 00+8167 1 over = BadPlace
 page three add 00+8167 1 between = NoRoom
+page three overwrite 0 00+8193 = BadPlace
+page three overwrite 4 00+8193 = BadPlace
+page three set 2 redirect 3, overwrite 2 00+8193 = BadPlace
+page three overwrite 1 00+8 = NoRoom
+page three overwrite 2 00+16 = NoRoom
+page three overwrite 2 00+65535 = NoRoom
 page three delete 0 = BadPlace
 page three delete 4 = BadPlace
 page three delete 2 1 = BadPlace
@@ -147,11 +171,11 @@ fn page_by<R: AllocGlobal + Abort>(rt: &R, name: &str) -> Page {
     }
 }
 
-/// How a call is refused on a page of `zeros`, or of `three` items.
+/// How calls in turn are refused on a page of `zeros`, or of `three` items.
 pub(crate) fn of_page<R: AllocGlobal + Abort>(rt: &R, words: &str) -> String {
-    let (name, call) = first_word(words);
+    let (name, calls) = first_word(words);
     let mut page = page_by(rt, name);
-    match make(rt, &mut page, call) {
+    match made(rt, &mut page, calls) {
         Ok(()) => owned(rt, "made"),
         Err(refusal) => shown(rt, &refusal),
     }
@@ -183,5 +207,5 @@ fn overlapping_items_may_lack_room(rt: HostRuntime) {
     let first = page.delete_items(&[1]);
     let two = page.delete_items(&[1, 2]);
     let refused = Err(PageRefusal::NoRoom);
-    assert_eq!(rt; (packed, first, two), (refused, refused, Ok(())));
+    assert!(rt; (packed, first, two) == (refused, refused, Ok(())));
 }

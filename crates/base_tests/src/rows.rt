@@ -56,7 +56,8 @@ fn told<R: AllocGlobal + Abort>(rt: &R, tree: &mut MemoryTree, row: &str) -> Str
 /// A row is answered as it says.
 fn check_row<R: AllocGlobal + Abort>(rt: &R, tree: &mut MemoryTree, line: &str) {
     let (row, meant) = line.split_once(" = ").expect(rt, "no answer");
-    assert_eq!(rt; told(rt, tree, row).as_str(), meant, "{line}");
+    let told = told(rt, tree, row);
+    assert!(rt; told.as_str() == meant, "{line}: {told}");
 }
 
 /// Each row of a text, in turn on one small tree, is answered as it says.

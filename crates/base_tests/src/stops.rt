@@ -15,7 +15,7 @@ fn check_image<R: AllocGlobal + Abort>(
     let mut image = tree.image(rt.alloc(), choice).expect(rt, "no memory");
     let found = bytes_in(rt, &mut image, &path_of(rt, "t/f"));
     let told = (found.as_slice(), image.kind(&path_of(rt, "t/g")));
-    assert_eq!(rt; told, (bytes, Ok(kind)), "{choice}");
+    assert!(rt; told == (bytes, Ok(kind)), "{choice}");
 }
 
 #[test]
@@ -40,5 +40,5 @@ fn a_stop_keeps_what_was_synced(rt: HostRuntime) {
     tree.cut(&file, 1).expect(&rt, "no cut");
     let mut image = tree.image(rt.alloc(), 0).expect(&rt, "no memory");
     let told = (image.size(&file), image.changes(), image.kind(&link));
-    assert_eq!(rt; told, (Ok(5), 0, tree.kind(&link)));
+    assert!(rt; told == (Ok(5), 0, tree.kind(&link)));
 }

@@ -26,7 +26,7 @@ fn sums_are_the_published_ones(rt: HostRuntime) {
         (&[0xFF; 32], b"", 0x62A8_AB43),
     ];
     for (front, back, sum) in rows {
-        assert_eq!(rt; sum_of(front, back), sum);
+        assert!(rt; sum_of(front, back) == sum);
     }
 }
 
@@ -36,11 +36,10 @@ fn sums_are_the_published_ones(rt: HostRuntime) {
 fn the_fast_body_gives_the_plain_sums(rt: HostRuntime) {
     let bytes = b"Sixteen bytes at a time, then four, then one: of 79 bytes, 64 and 12 and 3 are.";
     for len in 0..=bytes.len() {
-        assert_eq!(rt;
-            sum_of(&bytes[..len], b""),
-            plain_crc32c(&bytes[..len]),
+        assert!(rt;
+            sum_of(&bytes[..len], b"") == plain_crc32c(&bytes[..len]),
             "{len}"
         );
     }
-    assert_eq!(rt; sum_of(bytes, b""), 0xC1CE_4FCF);
+    assert!(rt; sum_of(bytes, b"") == 0xC1CE_4FCF);
 }

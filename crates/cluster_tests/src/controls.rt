@@ -1,6 +1,7 @@
 //! Control files from the fields that differ: each its offset, its width, its value, and maybe its name.
-use crate::texts::cut_at;
-use wal_base::{Crc32c, decimal_u64};
+use crate::texts::{cut_at, long, number};
+use std::process::Abort;
+use wal_base::Crc32c;
 
 /// The fields of a cluster that was shut down on timeline 1, for surveys, and the sum of that file. That of another one
 /// stands in its row; they come from a script of its own (tests/pg_control.py).
@@ -27,40 +28,34 @@ const RESET: &str = "\
     checksumVersion, 256 8 506097522914230528 nonce, 264 8 1084818905618843912 nonce, 272 8 \
     1663540288323457296 nonce, 280 8 2242261671028070680 nonce";
 
-fn put(file: &mut [u8], at: usize, width: usize, value: u64) {
-    let places = file.iter_mut().skip(at).take(width);
-    for (place, byte) in places.zip(value.to_le_bytes()) {
-        *place = byte;
-    }
+fn put<R: Abort>(rt: &R, file: &mut [u8; 8192], at: usize, width: usize, value: u64) {
+    assert!(rt; at <= 8184 && width <= 8, "no field");
+    file[at..at + width].copy_from_slice(&value.to_le_bytes()[..width]);
 }
 
-fn put_field(file: &mut [u8], field: &str) -> Option<()> {
+fn put_field<R: Abort>(rt: &R, file: &mut [u8; 8192], field: &str) {
     let (at, behind) = cut_at(field, " ");
     let (width, behind) = cut_at(behind, " ");
     let (value, _name) = cut_at(behind, " ");
-    let at = decimal_u64(at.as_bytes())?;
-    let width = decimal_u64(width.as_bytes())?;
-    let value = decimal_u64(value.as_bytes())?;
-    put(file, at as usize, width as usize, value);
-    Some(())
+    let (at, width) = (number(rt, at), number(rt, width));
+    put(rt, file, at as usize, width as usize, long(rt, value));
 }
 
-fn put_fields(file: &mut [u8], fields: &str) -> Option<()> {
+fn put_fields<R: Abort>(rt: &R, file: &mut [u8; 8192], fields: &str) {
     for field in fields.split(", ") {
-        put_field(file, field)?;
+        put_field(rt, file, field);
     }
-    Some(())
 }
 
 /// The control file of a survey: `plain`, or `FIELD, ..: SUM`.
-pub(crate) fn surveyed(text: &str) -> Option<[u8; 8192]> {
+pub(crate) fn surveyed<R: Abort>(rt: &R, text: &str) -> [u8; 8192] {
     let mut file = [0; 8192];
-    put_fields(&mut file, SURVEYED)?;
+    put_fields(rt, &mut file, SURVEYED);
     if let Some((fields, sum)) = text.split_once(": ") {
-        put_fields(&mut file, fields)?;
-        put(&mut file, 288, 4, decimal_u64(sum.as_bytes())?);
+        put_fields(rt, &mut file, fields);
+        put(rt, &mut file, 288, 4, long(rt, sum));
     }
-    Some(file)
+    file
 }
 
 /// The sum of the first bytes of some, so many.
@@ -71,13 +66,13 @@ pub(crate) fn sum_of(bytes: &[u8], size: usize) -> u32 {
 }
 
 /// The control file of a reset, with its sum: `plain`, or the fields that differ.
-pub(crate) fn reset(edits: &str) -> Option<[u8; 8192]> {
+pub(crate) fn reset<R: Abort>(rt: &R, edits: &str) -> [u8; 8192] {
     let mut file = [0; 8192];
-    put_fields(&mut file, RESET)?;
+    put_fields(rt, &mut file, RESET);
     if edits != "plain" {
-        put_fields(&mut file, edits)?;
+        put_fields(rt, &mut file, edits);
     }
     let sum = sum_of(&file, 288);
-    put(&mut file, 288, 4, u64::from(sum));
-    Some(file)
+    put(rt, &mut file, 288, 4, u64::from(sum));
+    file
 }

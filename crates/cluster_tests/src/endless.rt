@@ -1,9 +1,9 @@
 //! Walks over a tree that tells nothing and has no end: each folder of it has one name.
-use crate::texts::cut_at;
+use crate::texts::{cut_at, says};
 use crate::walks::tell_walk;
 use cluster_tree::{Kind, Names, Path, Tree, TreeFault};
 use std::alloc::Global;
-use std::test::Fail;
+use std::process::Abort;
 
 /// A tree that says the same of each path, and changes nothing.
 #[derive(Drop)]
@@ -81,17 +81,17 @@ endless folder /t/u/v = TooDeep of 123
 endless none t = File t/d was changed meanwhile";
 
 /// `folder ROOT` or `none ROOT`: why a walk ends where each path is so.
-pub(crate) fn tell_endless(alloc: Global, out: &mut String, words: &str) -> Result<(), Fail> {
+pub(crate) fn tell_endless<R: AllocGlobal + Abort>(rt: &R, out: &mut String, words: &str) {
     let (kind, root) = cut_at(words, " ");
     let kind = match kind {
         "folder" => Kind::Folder,
         _ => Kind::Absent,
     };
-    tell_walk(alloc, out, &mut Endless { kind }, root)?;
+    tell_walk(rt, out, &mut Endless { kind }, root);
     let size = match out.as_str().strip_prefix("TooDeep ") {
         Some(path) if path.starts_with("d") => path.len(),
-        _ => return Ok(()),
+        _ => return,
     };
     out.clear();
-    Ok(write!(out, "TooDeep of {size}")?)
+    says(rt, out, "TooDeep of ", &size);
 }

@@ -3,11 +3,11 @@
 use crate::controls::sum_of;
 use crate::options::options_of;
 use crate::resets::{CONTROL, cluster, found_in, tell_answer};
-use crate::texts::{cut_at, number};
-use cluster_tree::{ChangeCall, FailPlan, FailingTree, Kind, MemoryTree, Path, Tree};
+use crate::texts::{cut_at, number, says, tell};
+use crate::trees::path_of;
+use cluster_tree::{ChangeCall, FailPlan, FailingTree, Kind, MemoryTree, Tree};
 use clusters::Found;
-use std::alloc::{AllocError, Global};
-use std::test::Fail;
+use std::process::Abort;
 
 /// The first and the last call that fails, the answer, and what stands then: `m` the mark, with its text `t`; `c` the new
 /// control file; `1` and `2` the segments, `p` the unfinished one, `d` what is said of the first; `n` the new segment. The
@@ -59,103 +59,99 @@ p t/pg_wal/000000010000000000000003.partial
 d t/pg_wal/archive_status/000000010000000000000001.done
 n t/pg_wal/000000010000000000000004";
 
-fn is_file(alloc: Global, tree: &mut MemoryTree, text: &str) -> Result<bool, Fail> {
-    let path = Path::parse(alloc, text)?;
-    Ok(tree.kind(&path) == Ok(Kind::File))
+fn is_file<R: AllocGlobal + Abort>(rt: &R, tree: &mut MemoryTree, text: &str) -> bool {
+    tree.kind(&path_of(rt, text)) == Ok(Kind::File)
 }
 
 // The letter of the mark, or nothing.
-fn mark(alloc: Global, tree: &mut MemoryTree) -> Result<&'static str, Fail> {
+fn mark<R: AllocGlobal + Abort>(rt: &R, tree: &mut MemoryTree) -> &'static str {
     let mut text = [0; 14];
-    Ok(match found_in(alloc, tree, MARK, &mut text)? {
+    match found_in(rt, tree, MARK, &mut text) {
         Found::Missing => "",
         Found::Filled if text == *b"pg_resetwal 1\n" => "t",
         _ => "m",
-    })
+    }
 }
 
 // The letter of the control file, or nothing.
-fn control(alloc: Global, tree: &mut MemoryTree) -> Result<&'static str, Fail> {
+fn control<R: AllocGlobal + Abort>(rt: &R, tree: &mut MemoryTree) -> &'static str {
     let mut bytes = [0; 8192];
-    let found = found_in(alloc, tree, CONTROL, &mut bytes)?;
+    let found = found_in(rt, tree, CONTROL, &mut bytes);
     let new = found == Found::Filled && sum_of(&bytes, 288) == 0xB40D_4A1B;
-    Ok(if new { "c" } else { "" })
+    if new { "c" } else { "" }
 }
 
 // Tells what stands.
-fn tell_standing(alloc: Global, out: &mut String, tree: &mut MemoryTree) -> Result<(), Fail> {
-    out.push_str(mark(alloc, tree)?)?;
-    out.push_str(control(alloc, tree)?)?;
+fn tell_standing<R: AllocGlobal + Abort>(rt: &R, out: &mut String, tree: &mut MemoryTree) {
+    tell(rt, out, mark(rt, tree));
+    tell(rt, out, control(rt, tree));
     for line in LETTERS.split('\n') {
         let (letter, file) = cut_at(line, " ");
-        if is_file(alloc, tree, file)? {
-            out.push_str(letter)?;
+        if is_file(rt, tree, file) {
+            tell(rt, out, letter);
         }
     }
-    Ok(())
 }
 
 // Tells the answer where the device's call of a number fails, and what stands then.
-fn tell_broken(alloc: Global, out: &mut String, number: u32) -> Result<(), Fail> {
-    let tree = cluster(alloc, "plain", FILES)?;
+fn tell_broken<R: AllocGlobal + Abort>(rt: &R, out: &mut String, number: u32) {
+    let tree = cluster(rt, "plain", FILES);
     let mut tree = FailingTree::new(tree, FailPlan::At(u64::from(number)));
-    tell_answer(alloc, out, &mut tree, &options_of("-")?)?;
-    out.push(' ')?;
-    tell_standing(alloc, out, &mut tree.into_inner())
+    tell_answer(rt, out, &mut tree, &options_of(rt, "-"));
+    tell(rt, out, " ");
+    tell_standing(rt, out, &mut tree.into_inner());
 }
 
-fn tell_change(out: &mut String, call: &ChangeCall) -> Result<(), AllocError> {
-    let (verb, path) = match call {
-        ChangeCall::Write(path, _, _) => ("write", path),
-        ChangeCall::Cut(path, _) => ("cut", path),
-        ChangeCall::MakeFile(path) => ("file", path),
-        ChangeCall::MakeFolder(path) => ("folder", path),
-        ChangeCall::Remove(path) => ("remove", path),
-        ChangeCall::Sync => return out.push_str("sync"),
-    };
-    write!(out, "{verb} {path}")
-}
-
-// Tells the changing call of a number of a reset.
-fn tell_call(alloc: Global, out: &mut String, number: u32) -> Result<(), Fail> {
-    let mut tree = cluster(alloc, "plain", FILES)?;
-    let before = tree.changes();
-    tell_answer(alloc, out, &mut tree, &options_of("-")?)?;
-    out.clear();
-    match tree.change(before.saturating_add(number as usize)) {
-        Some(call) => Ok(tell_change(out, call)?),
-        None => Ok(out.push_str("none")?),
+fn tell_change<R: Abort>(rt: &R, out: &mut String, call: &ChangeCall) {
+    match call {
+        ChangeCall::Write(path, _, _) => says(rt, out, "write ", path),
+        ChangeCall::Cut(path, _) => says(rt, out, "cut ", path),
+        ChangeCall::MakeFile(path) => says(rt, out, "file ", path),
+        ChangeCall::MakeFolder(path) => says(rt, out, "folder ", path),
+        ChangeCall::Remove(path) => says(rt, out, "remove ", path),
+        ChangeCall::Sync => tell(rt, out, "sync"),
     }
 }
 
-fn tell_one(alloc: Global, out: &mut String, verb: &str, number: u32) -> Result<(), Fail> {
+// Tells the changing call of a number of a reset.
+fn tell_call<R: AllocGlobal + Abort>(rt: &R, out: &mut String, number: u32) {
+    let mut tree = cluster(rt, "plain", FILES);
+    let before = tree.changes();
+    tell_answer(rt, out, &mut tree, &options_of(rt, "-"));
+    out.clear();
+    match tree.change(before.saturating_add(number as usize)) {
+        Some(call) => tell_change(rt, out, call),
+        None => tell(rt, out, "none"),
+    }
+}
+
+fn tell_one<R: AllocGlobal + Abort>(rt: &R, out: &mut String, verb: &str, number: u32) {
     match verb {
-        "broken" => tell_broken(alloc, out, number),
-        _ => tell_call(alloc, out, number),
+        "broken" => tell_broken(rt, out, number),
+        _ => tell_call(rt, out, number),
     }
 }
 
 // Whether the same is told of a number.
-fn is_told(alloc: Global, told: &str, verb: &str, number: u32) -> Result<bool, Fail> {
-    let mut out = String::new(alloc);
-    tell_one(alloc, &mut out, verb, number)?;
-    Ok(out.as_str() == told)
+fn is_told<R: AllocGlobal + Abort>(rt: &R, told: &str, verb: &str, number: u32) -> bool {
+    let mut out = String::new(rt.alloc());
+    tell_one(rt, &mut out, verb, number);
+    out.as_str() == told
 }
 
 /// `broken FIRST LAST` or `call FIRST LAST`: what is told of each number, which has to be the same.
-pub(crate) fn tell_faults(
-    alloc: Global,
+pub(crate) fn tell_faults<R: AllocGlobal + Abort>(
+    rt: &R,
     out: &mut String,
     verb: &str,
     words: &str,
-) -> Result<(), Fail> {
+) {
     let (first, last) = cut_at(words, " ");
-    let (first, last) = (number(first)?, number(last)?);
-    tell_one(alloc, out, verb, last)?;
+    let (first, last) = (number(rt, first), number(rt, last));
+    tell_one(rt, out, verb, last);
     for other in first..last {
-        if !is_told(alloc, out.as_str(), verb, other)? {
-            return Ok(write!(out, ", but not of {other}")?);
+        if !is_told(rt, out.as_str(), verb, other) {
+            return says(rt, out, ", but not of ", &other);
         }
     }
-    Ok(())
 }

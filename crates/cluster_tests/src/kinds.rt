@@ -1,22 +1,22 @@
 //! What stands at a path, as a text.
+use crate::texts::{long, says, tell};
 use file_walk::EntryKind;
-use std::alloc::AllocError;
-use std::test::Fail;
+use std::process::Abort;
 
 /// What a text says that stands somewhere: nothing, a folder, or a file of so many bytes.
-pub(crate) fn kind_of(text: &str) -> Result<Option<EntryKind>, Fail> {
-    Ok(match text {
+pub(crate) fn kind_of<R: Abort>(rt: &R, text: &str) -> Option<EntryKind> {
+    match text {
         "-" => None,
         "/" => Some(EntryKind::Folder),
-        size => Some(EntryKind::File(size.parse()?)),
-    })
+        size => Some(EntryKind::File(long(rt, size))),
+    }
 }
 
 /// Tells what stands somewhere.
-pub(crate) fn tell_kind(out: &mut String, kind: Option<&EntryKind>) -> Result<(), AllocError> {
+pub(crate) fn tell_kind<R: Abort>(rt: &R, out: &mut String, kind: Option<&EntryKind>) {
     match kind {
-        None => out.push('-'),
-        Some(EntryKind::Folder) => out.push('/'),
-        Some(EntryKind::File(size)) => write!(out, "{size}"),
+        None => tell(rt, out, "-"),
+        Some(EntryKind::Folder) => tell(rt, out, "/"),
+        Some(EntryKind::File(size)) => says(rt, out, "", size),
     }
 }

@@ -1,9 +1,8 @@
 //! Labels, as a script of its own writes and reads them. In rows the end of a line is written as `;`.
-use crate::texts::cut_at;
-use backup_label::{Label, LabelPlaces, read_label};
-use std::alloc::Global;
-use std::test::Fail;
-use wal_base::{Lsn, SegSize, decimal_u32, decimal_u64};
+use crate::texts::{cut_at, long, number, says, shows, tell};
+use backup_label::{Label, read_label};
+use std::process::Abort;
+use wal_base::{Lsn, SegSize};
 
 /// The start, the timeline, the size of segments, the checkpoint and the time; how many bytes the label has, and its text.
 pub(crate) const WRITTEN: &str = "\
@@ -35,45 +34,52 @@ read START WAL LOCATION: 0/1 (file 000000010000000000000001);CHECKPOINT LOCATION
 read START WAL LOCATION: 0/1 (file 000000010000000000000001);CHECKPOINT LOCATION:0/1; = \
     Err(Checkpoint)";
 
-fn label_of(words: &str) -> Option<Label> {
+fn label_of<R: Abort>(rt: &R, words: &str) -> Label {
     let (start, behind) = cut_at(words, " ");
     let (tli, behind) = cut_at(behind, " ");
     let (size, behind) = cut_at(behind, " ");
     let (checkpoint, time) = cut_at(behind, " ");
-    Some(Label {
-        start: Lsn(decimal_u64(start.as_bytes())?),
-        tli: decimal_u32(tli.as_bytes())?,
-        size: SegSize::new(decimal_u32(size.as_bytes())?)?,
-        checkpoint: Lsn(decimal_u64(checkpoint.as_bytes())?),
-        time: time.parse().ok()?,
-    })
+    Label {
+        start: Lsn(long(rt, start)),
+        tli: number(rt, tli),
+        size: SegSize::new(number(rt, size)).expect(rt, "no size"),
+        checkpoint: Lsn(long(rt, checkpoint)),
+        time: time.parse().expect(rt, "no time"),
+    }
 }
 
-fn tell_label(alloc: Global, out: &mut String, words: &str) -> Result<(), Fail> {
-    let text = label_of(words).ok_or("no label")?.text(alloc)?;
-    let shown = text.as_str().replace(alloc, '\n', ";")?;
-    Ok(write!(out, "{} {}", text.as_str().len(), shown.as_str())?)
+fn tell_label<R: AllocGlobal + Abort>(rt: &R, out: &mut String, words: &str) {
+    let label = label_of(rt, words);
+    let text = label.text(rt.alloc()).expect(rt, "no memory");
+    let shown = text.as_str().replace(rt.alloc(), '\n', ";");
+    says(rt, out, "", &text.as_str().len());
+    says(rt, out, " ", &shown.expect(rt, "no memory").as_str());
 }
 
-fn tell_read(alloc: Global, out: &mut String, words: &str) -> Result<(), Fail> {
-    let text = words.replace(alloc, ';', "\n")?;
+fn tell_read<R: AllocGlobal + Abort>(rt: &R, out: &mut String, words: &str) {
+    let text = words.replace(rt.alloc(), ';', "\n").expect(rt, "no memory");
     match read_label(text.as_bytes()) {
-        Ok(LabelPlaces { start, checkpoint }) => {
-            Ok(write!(out, "Ok(({}, {}))", start.0, checkpoint.0)?)
+        Ok(places) => {
+            says(rt, out, "Ok((", &places.start.0);
+            says(rt, out, ", ", &places.checkpoint.0);
+            tell(rt, out, "))");
         }
-        Err(fault) => Ok(write!(out, "Err({fault:?})")?),
+        Err(fault) => {
+            shows(rt, out, "Err(", &fault);
+            tell(rt, out, ")");
+        }
     }
 }
 
 /// `label START TIMELINE SIZE CHECKPOINT TIME` or `read TEXT`.
-pub(crate) fn tell_labels(
-    alloc: Global,
+pub(crate) fn tell_labels<R: AllocGlobal + Abort>(
+    rt: &R,
     out: &mut String,
     verb: &str,
     words: &str,
-) -> Result<(), Fail> {
+) {
     match verb {
-        "label" => tell_label(alloc, out, words),
-        _ => tell_read(alloc, out, words),
+        "label" => tell_label(rt, out, words),
+        _ => tell_read(rt, out, words),
     }
 }

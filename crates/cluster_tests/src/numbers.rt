@@ -8,14 +8,13 @@ ghost use Rattle.control_file.specs.Admission.{IsControl};
 use crate::controls::sum_of;
 use crate::options::options_of;
 use crate::resets::cluster;
-use crate::texts::cut_at;
+use crate::texts::{cut_at, says, tell, tell_sum};
 use crate::trees::{names_in, root_of};
 use cluster_tree::MemoryTree;
 use clusters::control_at;
 use control_file::{Control, write_control};
 use reset_numbers::{ResetOptions, is_fit, is_segment, is_status, new_control, new_segment};
-use std::alloc::{AllocError, Global};
-use std::test::Fail;
+use std::process::Abort;
 use wal_base::{Lsn, Segment};
 
 /// Options, the fields of the control file that differ, and files: the new segment's timeline and number, its
@@ -84,63 +83,64 @@ status 0000000100000000000000AF.partial.done = true
 status 00000001.history.done = false
 status 0000000100000000000000AF = false";
 
-fn tell_segment(
+/// The checksum of the new control file, whose checkpoint stands at a position.
+fn control_sum(options: &ResetOptions, old: &Control, segment: Segment, at: u64) -> u32
+    requires control { IsControl old.now }
+{
+    let control = new_control(options, 1700000000, at, segment.size, old);
+    let mut bytes = [0; 8192];
+    write_control(&control, &mut bytes);
+    sum_of(&bytes, 288)
+}
+
+fn tell_segment<R: Abort>(
+    rt: &R,
     out: &mut String,
     options: &ResetOptions,
     old: &Control,
     segment: Segment,
-) -> Result<(), AllocError>
+)
     requires control { IsControl old.now }
     requires low { segment.number * bytes_of segment.size < 2 ^ 63 }
 {
     let at = segment.start().0.saturating_add(40);
-    let control = new_control(options, 1700000000, at, segment.size, old);
-    let mut bytes = [0; 8192];
-    write_control(&control, &mut bytes);
-    let sum = sum_of(&bytes, 288);
-    write!(
-        out,
-        "{} {} {} {sum:08X}",
-        segment.tli,
-        segment.number,
-        Lsn(at)
-    )
+    says(rt, out, "", &segment.tli);
+    says(rt, out, " ", &segment.number);
+    says(rt, out, " ", &Lsn(at));
+    tell_sum(rt, out, control_sum(options, old, segment, at));
 }
 
-fn tell_new(
-    alloc: Global,
+fn tell_new<R: AllocGlobal + Abort>(
+    rt: &R,
     out: &mut String,
     tree: &mut MemoryTree,
     options: &ResetOptions,
-) -> Result<(), Fail> {
-    if !is_fit(options) {
-        return Err("unfit".into());
-    }
-    let old = control_at(alloc, tree, &root_of(alloc, "t")?)?;
-    let segment = new_segment(options, &old, &names_in(alloc, tree, "t/pg_wal")?);
-    match segment {
-        Some(segment) => Ok(tell_segment(out, options, &old, segment)?),
-        None => Ok(out.push_str("none")?),
+) {
+    assert!(rt; is_fit(options), "unfit");
+    let old = control_at(rt.alloc(), tree, &root_of(rt, "t")).expect(rt, "no control file");
+    match new_segment(options, &old, &names_in(rt, tree, "t/pg_wal")) {
+        Some(segment) => tell_segment(rt, out, options, &old, segment),
+        None => tell(rt, out, "none"),
     }
 }
 
 /// `numbers OPTIONS | CONTROL | FILES`, `fit OPTIONS`, `segment NAME` or `status NAME`.
-pub(crate) fn tell_numbers(
-    alloc: Global,
+pub(crate) fn tell_numbers<R: AllocGlobal + Abort>(
+    rt: &R,
     out: &mut String,
     verb: &str,
     words: &str,
-) -> Result<(), Fail> {
+) {
     let (options, behind) = cut_at(words, " | ");
     let yes = match verb {
         "numbers" => {
             let (control, files) = cut_at(behind, " | ");
-            let options = options_of(options)?;
-            return tell_new(alloc, out, &mut cluster(alloc, control, files)?, &options);
+            let mut tree = cluster(rt, control, files);
+            return tell_new(rt, out, &mut tree, &options_of(rt, options));
         }
-        "fit" => is_fit(&options_of(options)?),
+        "fit" => is_fit(&options_of(rt, options)),
         "segment" => is_segment(words.as_bytes()),
         _ => is_status(words.as_bytes()),
     };
-    Ok(write!(out, "{yes}")?)
+    says(rt, out, "", &yes);
 }

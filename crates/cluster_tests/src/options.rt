@@ -1,8 +1,7 @@
 //! Options of resets as texts.
-use crate::texts::cut_at;
+use crate::texts::{cut_at, long, number};
 use reset_cleanup::ResetOptions;
-use std::test::Fail;
-use wal_base::{decimal_u32, decimal_u64};
+use std::process::Abort;
 
 /// No option.
 const PLAIN: ResetOptions = ResetOptions {
@@ -19,25 +18,18 @@ const PLAIN: ResetOptions = ResetOptions {
     segment_mb: None,
 };
 
-fn pair(words: &str) -> Option<(u32, u32)> {
+fn pair<R: Abort>(rt: &R, words: &str) -> (u32, u32) {
     let (first, second) = cut_at(words, " ");
-    Some((
-        decimal_u32(first.as_bytes())?,
-        decimal_u32(second.as_bytes())?,
-    ))
+    (number(rt, first), number(rt, second))
 }
 
-fn place(words: &str) -> Option<(u32, u64, u64)> {
+fn place<R: Abort>(rt: &R, words: &str) -> (u32, u64, u64) {
     let (tli, behind) = cut_at(words, " ");
     let (high, low) = cut_at(behind, " ");
-    Some((
-        decimal_u32(tli.as_bytes())?,
-        decimal_u64(high.as_bytes())?,
-        decimal_u64(low.as_bytes())?,
-    ))
+    (number(rt, tli), long(rt, high), long(rt, low))
 }
 
-fn set_number(options: &mut ResetOptions, letter: &str, value: u32) -> Option<()> {
+fn set_number<R: Abort>(rt: &R, options: &mut ResetOptions, letter: &str, value: u32) {
     match letter {
         "e" => options.epoch = Some(value),
         "o" => options.oid = Some(value),
@@ -45,33 +37,31 @@ fn set_number(options: &mut ResetOptions, letter: &str, value: u32) -> Option<()
         "u" => options.oldest_xid = Some(value),
         "x" => options.xid = Some(value),
         "s" => options.segment_mb = Some(value),
-        _ => return None,
+        _ => panic!(rt; "no option"),
     }
-    Some(())
 }
 
-fn set(options: &mut ResetOptions, letter: &str, words: &str) -> Option<()> {
+fn set<R: Abort>(rt: &R, options: &mut ResetOptions, letter: &str, words: &str) {
     match letter {
-        "c" => options.commit_ts = Some(pair(words)?),
+        "c" => options.commit_ts = Some(pair(rt, words)),
         "f" => options.force = Some(()),
-        "l" => options.log = Some(place(words)?),
-        "m" => options.multi = Some(pair(words)?),
+        "l" => options.log = Some(place(rt, words)),
+        "m" => options.multi = Some(pair(rt, words)),
         "n" => options.dry = Some(()),
-        _ => return set_number(options, letter, decimal_u32(words.as_bytes())?),
+        _ => set_number(rt, options, letter, number(rt, words)),
     }
-    Some(())
 }
 
 /// The options of a text: pg_resetwal's letters, or `s` for the size of segments, each with its numbers, with commas
 /// between; none for a dash.
-pub(crate) fn options_of(text: &str) -> Result<ResetOptions, Fail> {
+pub(crate) fn options_of<R: Abort>(rt: &R, text: &str) -> ResetOptions {
     let mut options = PLAIN;
     if text == "-" {
-        return Ok(options);
+        return options;
     }
     for option in text.split(", ") {
         let (letter, words) = cut_at(option, " ");
-        set(&mut options, letter, words).ok_or("no option")?;
+        set(rt, &mut options, letter, words);
     }
-    Ok(options)
+    options
 }

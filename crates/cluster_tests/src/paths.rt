@@ -1,12 +1,12 @@
 //! What a rewind does at a path, which paths are excluded, and which are files of main forks. The expected values are those
 //! of the table in docs/FORMATS.md, and of a script of its own, which reads paths by a regular expression.
 use crate::kinds::kind_of;
-use crate::texts::cut_at;
+use crate::texts::{cut_at, says, shows, tell};
+use crate::trees::path_of;
 use block_refs::RelName;
 use cluster_tree::Path;
 use file_walk::{decide, excluded, is_relation_file};
-use std::alloc::{AllocError, Global};
-use std::test::Fail;
+use std::process::Abort;
 
 /// A path, what the target and the source have there, and what is done.
 pub(crate) const ACTIONS: &str = "\
@@ -96,33 +96,31 @@ relation . = -
 relation pg_tblspc/5/16385 = -
 relation /base/5/16385 = -";
 
-fn tell_action(out: &mut String, path: &Path, words: &str) -> Result<(), Fail> {
+fn tell_action<R: Abort>(rt: &R, out: &mut String, path: &Path, words: &str) {
     let (target, source) = cut_at(words, " ");
-    let target = kind_of(target)?;
-    let source = kind_of(source)?;
+    let target = kind_of(rt, target);
+    let source = kind_of(rt, source);
     let action = decide(path, target.as_ref(), source.as_ref());
-    Ok(write!(out, "{action:?}")?)
+    shows(rt, out, "", &action);
 }
 
-fn tell_relation(out: &mut String, found: Option<(RelName, u32)>) -> Result<(), AllocError> {
+fn tell_relation<R: Abort>(rt: &R, out: &mut String, found: Option<(RelName, u32)>) {
     match found {
-        None => out.push('-'),
-        Some((rel, segment)) => write!(out, "{rel} {segment}"),
+        None => tell(rt, out, "-"),
+        Some((rel, segment)) => {
+            says(rt, out, "", &rel);
+            says(rt, out, " ", &segment);
+        }
     }
 }
 
 /// `action PATH TARGET SOURCE`, `excluded PATH` or `relation PATH`.
-pub(crate) fn tell_path(
-    alloc: Global,
-    out: &mut String,
-    verb: &str,
-    words: &str,
-) -> Result<(), Fail> {
+pub(crate) fn tell_path<R: AllocGlobal + Abort>(rt: &R, out: &mut String, verb: &str, words: &str) {
     let (path, behind) = cut_at(words, " ");
-    let path = Path::parse(alloc, path)?;
+    let path = path_of(rt, path);
     match verb {
-        "action" => tell_action(out, &path, behind),
-        "excluded" => Ok(write!(out, "{}", excluded(&path))?),
-        _ => Ok(tell_relation(out, is_relation_file(&path))?),
+        "action" => tell_action(rt, out, &path, behind),
+        "excluded" => says(rt, out, "", &excluded(&path)),
+        _ => tell_relation(rt, out, is_relation_file(&path)),
     }
 }

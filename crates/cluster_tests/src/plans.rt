@@ -1,14 +1,15 @@
 //! The steps of a plan. The expected steps are those of the rule of writes in docs/FORMATS.md, worked
 //! out by hand.
 use crate::kinds::kind_of;
-use crate::texts::cut_at;
+use crate::texts::{cut_at, says, tell};
 use crate::touching::touched;
+use crate::trees::path_of;
 use cluster_tree::Path;
 use file_walk::Pair;
 use rewind_plan::{Clusters, first_lacking, steps_of};
 use rewind_writes::Step;
-use std::alloc::{AllocError, Global};
-use std::test::Fail;
+use std::collections::VecDeque;
+use std::process::Abort;
 
 /// Paths with what target and source have there, touched blocks of relation 16385, and the steps; `-` for none.
 pub(crate) const PLANS: &str = "\
@@ -28,72 +29,87 @@ plan a / -, a/x 1 -, b - /, b-c - 5, b/d - 0, global/pg_control 8192 8192, pg_wa
     remove t/a/x, remove t/a";
 
 /// The pair of a path, what the target has there and what the source has.
-fn pair(alloc: Global, words: &str) -> Result<Pair, Fail> {
+fn pair<R: AllocGlobal + Abort>(rt: &R, words: &str) -> Pair {
     let (path, sides) = cut_at(words, " ");
     let (target, source) = cut_at(sides, " ");
-    let target = kind_of(target)?;
-    let source = kind_of(source)?;
-    Ok(Pair {
-        path: Path::parse(alloc, path)?,
-        target,
-        source,
-    })
+    Pair {
+        path: path_of(rt, path),
+        target: kind_of(rt, target),
+        source: kind_of(rt, source),
+    }
 }
 
-/// Adds the pairs of a text.
-fn add_pairs(alloc: Global, pairs: &mut Vec<Pair>, text: &str) -> Result<(), Fail> {
+/// The pairs of a text.
+fn pairs_of<R: AllocGlobal + Abort>(rt: &R, text: &str) -> Vec<Pair> {
+    let mut pairs = Vec::new(rt.alloc());
     if text == "-" {
-        return Ok(());
+        return pairs;
     }
     for words in text.split(", ") {
-        pairs.push(pair(alloc, words)?)?;
+        pairs.push(pair(rt, words)).expect(rt, "no memory");
     }
-    Ok(())
+    pairs
 }
 
-fn tell_step(out: &mut String, step: &Step) -> Result<(), AllocError> {
-    if !out.is_empty() {
-        out.push_str(", ")?;
-    }
+/// Tells a copy from a file to another.
+fn tell_copy<R: Abort>(rt: &R, out: &mut String, verb: &str, from: &Path, to: &Path) {
+    says(rt, out, verb, from);
+    says(rt, out, " ", to);
+}
+
+fn tell_step<R: Abort>(rt: &R, out: &mut String, step: &Step) {
     match step {
-        Step::Folder(path) => write!(out, "folder {path}"),
-        Step::Whole { from, to, size } => write!(out, "whole {from} {to} {size}"),
-        Step::Cut(path, size) => write!(out, "cut {path} {size}"),
-        Step::Range { from, to, at, size } => write!(out, "range {from} {to} {at} {size}"),
-        Step::Remove(path) => write!(out, "remove {path}"),
+        Step::Folder(path) => says(rt, out, "folder ", path),
+        Step::Whole { from, to, size } => {
+            tell_copy(rt, out, "whole ", from, to);
+            says(rt, out, " ", size);
+        }
+        Step::Cut(path, size) => {
+            says(rt, out, "cut ", path);
+            says(rt, out, " ", size);
+        }
+        Step::Range { from, to, at, size } => {
+            tell_copy(rt, out, "range ", from, to);
+            says(rt, out, " ", at);
+            says(rt, out, " ", size);
+        }
+        Step::Remove(path) => says(rt, out, "remove ", path),
+    }
+}
+
+fn tell_all<R: Abort>(rt: &R, out: &mut String, steps: &VecDeque<Step>) {
+    for step in steps.iter() {
+        if !out.is_empty() {
+            tell(rt, out, ", ");
+        }
+        tell_step(rt, out, step);
     }
 }
 
 /// Tells the steps of such clusters, a dash for none.
-fn tell_steps(
-    alloc: Global,
+fn tell_steps<R: AllocGlobal + Abort>(
+    rt: &R,
     out: &mut String,
     clusters: &Clusters<'_>,
     pairs: &[Pair],
-) -> Result<(), Fail> {
-    if first_lacking(clusters, pairs).is_some() {
-        return Err("too deep".into());
+) {
+    assert!(rt; first_lacking(clusters, pairs).is_none(), "too deep");
+    let steps = steps_of(rt.alloc(), clusters, pairs).expect(rt, "no memory");
+    tell_all(rt, out, &steps);
+    if out.is_empty() {
+        tell(rt, out, "-");
     }
-    let steps = steps_of(alloc, clusters, pairs)?;
-    if steps.is_empty() {
-        out.push('-')?;
-    }
-    for step in steps.iter() {
-        tell_step(out, step)?;
-    }
-    Ok(())
 }
 
 /// The steps between the roots `t` and `s`, of files of 131072 blocks at most: `PAIR, .. | BLOCK ..`.
-pub(crate) fn tell_plan(alloc: Global, out: &mut String, words: &str) -> Result<(), Fail> {
-    let (pairs_text, blocks) = cut_at(words, " | ");
-    let mut pairs = Vec::new(alloc);
-    add_pairs(alloc, &mut pairs, pairs_text)?;
+pub(crate) fn tell_plan<R: AllocGlobal + Abort>(rt: &R, out: &mut String, words: &str) {
+    let (pairs, blocks) = cut_at(words, " | ");
+    let pairs = pairs_of(rt, pairs);
     let clusters = Clusters {
-        target: &Path::parse(alloc, "t")?,
-        source: &Path::parse(alloc, "s")?,
+        target: &path_of(rt, "t"),
+        source: &path_of(rt, "s"),
         per_file: 131_072,
-        touched: &touched(alloc, blocks)?,
+        touched: &touched(rt, blocks),
     };
-    tell_steps(alloc, out, &clusters, &pairs)
+    tell_steps(rt, out, &clusters, &pairs);
 }

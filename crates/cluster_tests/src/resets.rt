@@ -2,13 +2,12 @@
 use crate::controls;
 use crate::controls::sum_of;
 use crate::options::options_of;
-use crate::texts::cut_at;
-use crate::trees::{names_in, put_all, put_file, root_of, tree_of};
+use crate::texts::{cut_at, says, tell_sum};
+use crate::trees::{names_in, path_of, put_all, put_file, root_of, tree_of};
 use cluster_tree::{MemoryTree, Names, Path, Tree};
 use clusters::{Found, read_whole};
 use reset_cleanup::{ResetOptions, is_fit, reset_log};
-use std::alloc::{AllocError, Global};
-use std::test::Fail;
+use std::process::Abort;
 use wal_base::Lsn;
 
 /// The control file.
@@ -51,172 +50,177 @@ reset o 20000 = 0/400028 B1E51A13 5A3DD650 00000001.history 00000001000000000000
 reset O 123 = 0/400028 12E7BF67 506D918B 00000001.history 000000010000000000000004 archive_status";
 
 // A cluster `t` with this control file, unless it has `none`, and no folder of the log.
-fn bare(alloc: Global, control: &str) -> Result<MemoryTree, Fail> {
-    let mut tree = tree_of(alloc, "d t, d t/global")?;
+fn bare<R: AllocGlobal + Abort>(rt: &R, control: &str) -> MemoryTree {
+    let mut tree = tree_of(rt, "d t, d t/global");
     if control != "none" {
-        let bytes = controls::reset(control).ok_or("no control file")?;
-        put_file(alloc, &mut tree, CONTROL, &bytes)?;
+        put_file(rt, &mut tree, CONTROL, &controls::reset(rt, control));
     }
-    Ok(tree)
+    tree
 }
 
 /// A cluster `t` with these fields of its control file and these entries beside it.
-pub(crate) fn cluster_of(alloc: Global, control: &str, lines: &str) -> Result<MemoryTree, Fail> {
-    let mut tree = bare(alloc, control)?;
-    put_all(alloc, &mut tree, lines)?;
-    Ok(tree)
+pub(crate) fn cluster_of<R: AllocGlobal + Abort>(rt: &R, control: &str, lines: &str) -> MemoryTree {
+    let mut tree = bare(rt, control);
+    put_all(rt, &mut tree, lines);
+    tree
 }
 
 /// A cluster `t` with a folder of the log, and in it files: `NAMES`, or their lines.
-pub(crate) fn cluster(alloc: Global, control: &str, files: &str) -> Result<MemoryTree, Fail> {
+pub(crate) fn cluster<R: AllocGlobal + Abort>(rt: &R, control: &str, files: &str) -> MemoryTree {
     let files = if files == "NAMES" { NAMES } else { files };
-    let mut tree = cluster_of(alloc, control, "d t/pg_wal, d t/pg_wal/archive_status")?;
-    put_all(alloc, &mut tree, files)?;
-    Ok(tree)
+    let mut tree = cluster_of(rt, control, "d t/pg_wal, d t/pg_wal/archive_status");
+    put_all(rt, &mut tree, files);
+    tree
 }
 
 /// Tells what a reset of `t` in November 2023 answers: the place of the new checkpoint, or the fault.
-pub(crate) fn tell_answer<F: Tree>(
-    alloc: Global,
+pub(crate) fn tell_answer<F: Tree, R: AllocGlobal + Abort>(
+    rt: &R,
     out: &mut String,
     tree: &mut F,
     options: &ResetOptions,
-) -> Result<(), Fail> {
-    if !is_fit(options) {
-        return Err("unfit".into());
-    }
-    let answer = reset_log(alloc, tree, &root_of(alloc, "t")?, options, 1700000000);
-    match answer {
-        Ok(control) => Ok(write!(out, "{}", Lsn(control.checkPoint))?),
-        Err(fault) => Ok(write!(out, "{fault}")?),
+) {
+    assert!(rt; is_fit(options), "unfit");
+    match reset_log(rt.alloc(), tree, &root_of(rt, "t"), options, 1700000000) {
+        Ok(control) => says(rt, out, "", &Lsn(control.checkPoint)),
+        Err(fault) => says(rt, out, "", &fault),
     }
 }
 
 /// Fills with the bytes of a file, which has to have as many.
-pub(crate) fn found_in(
-    alloc: Global,
+pub(crate) fn found_in<R: AllocGlobal + Abort>(
+    rt: &R,
     tree: &mut MemoryTree,
     file: &str,
     into: &mut [u8],
-) -> Result<Found, Fail> {
-    Ok(read_whole(tree, Path::parse(alloc, file)?, into)?)
+) -> Found {
+    read_whole(tree, path_of(rt, file), into).expect(rt, "no answer")
 }
 
 fn are_zeros(bytes: &[u8]) -> bool {
-    bytes.iter().all(|byte| *byte == 0)
+    for &byte in bytes {
+        if byte != 0 {
+            return false;
+        }
+    }
+    true
+}
+
+// Whether a control file says this sum, before zeros.
+fn says_sum(bytes: &[u8], sum: u32) -> bool {
+    match bytes.get(292..) {
+        Some(rest) => bytes.get(288..292) == Some(&sum.to_le_bytes()[..]) && are_zeros(rest),
+        None => false,
+    }
 }
 
 // The checksum of the control file, which has to say it, before zeros.
-fn sealed(alloc: Global, tree: &mut MemoryTree) -> Result<u32, Fail> {
+fn sealed<R: AllocGlobal + Abort>(rt: &R, tree: &mut MemoryTree) -> u32 {
     let mut bytes = [0; 8192];
-    let found = found_in(alloc, tree, CONTROL, &mut bytes)?;
+    let found = found_in(rt, tree, CONTROL, &mut bytes);
     let sum = sum_of(&bytes, 288);
-    let said = bytes.get(288..292) == Some(&sum.to_le_bytes()[..]);
-    let zeros = bytes.get(292..).is_some_and(are_zeros);
-    if found != Found::Filled || !said || !zeros {
-        return Err("not sealed".into());
-    }
-    Ok(sum)
+    assert!(rt;
+        found == Found::Filled && says_sum(&bytes, sum),
+        "not sealed"
+    );
+    sum
 }
 
-// The checksum of a new segment's first page, where it has this size and ends in zeros.
-fn page_sum(tree: &mut MemoryTree, file: &Path, size: u64) -> Option<u32> {
-    let mut first = [0; 8192];
-    let mut last = [0; 8192];
-    tree.read_at(file, 0, &mut first).ok()?;
-    tree.read_at(file, size.checked_sub(8192)?, &mut last).ok()?;
-    let fits = tree.size(file) == Ok(size) && are_zeros(&last);
-    fits.then_some(sum_of(&first, 8192))
+// The checksum of a new segment's first page, which has to have this size and to end in zeros.
+fn page_sum<R: Abort>(rt: &R, tree: &mut MemoryTree, file: &Path, size: u64) -> u32 {
+    let mut page = [0; 8192];
+    tree.read_at(file, size.saturating_sub(8192), &mut page)
+        .expect(rt, "no last page");
+    assert!(rt;
+        tree.size(file) == Ok(size) && are_zeros(&page),
+        "not a new segment"
+    );
+    tree.read_at(file, 0, &mut page).expect(rt, "no first page");
+    sum_of(&page, 8192)
 }
 
 // The checksum of the new segment, which stands behind the history.
-fn new_sum(
-    alloc: Global,
+fn new_sum<R: AllocGlobal + Abort>(
+    rt: &R,
     tree: &mut MemoryTree,
     names: &Names,
     megabytes: u32,
-) -> Result<u32, Fail> {
-    let name = names.get(1).ok_or("no new segment")?;
-    let file = Path::parse(alloc, "t/pg_wal")?.join(alloc, name)?;
+) -> u32 {
+    let name = names.get(1).expect(rt, "no new segment");
+    let folder = path_of(rt, "t/pg_wal");
+    let file = folder.join(rt.alloc(), name).expect(rt, "no path");
     let size = u64::from(megabytes).saturating_mul(1048576);
-    match page_sum(tree, &file, size) {
-        Some(sum) => Ok(sum),
-        None => Err("not a new segment".into()),
-    }
+    page_sum(rt, tree, &file, size)
 }
 
 // Tells names.
-fn tell_names(out: &mut String, names: &Names) -> Result<(), AllocError> {
+fn tell_names<R: Abort>(rt: &R, out: &mut String, names: &Names) {
     for at in 0..names.len() {
-        write!(out, " {}", names.get(at).unwrap_or(""))?;
+        says(rt, out, " ", &names.get(at).unwrap_or(""));
     }
-    Ok(())
 }
 
 // One name or two have to stand in a folder, and no other.
-fn check_names(
-    alloc: Global,
+fn check_names<R: AllocGlobal + Abort>(
+    rt: &R,
     tree: &mut MemoryTree,
     folder: &str,
     first: &str,
     second: Option<&str>,
-) -> Result<(), Fail> {
-    let names = names_in(alloc, tree, folder)?;
-    if names.get(0) != Some(first) || names.get(1) != second || names.len() > 2 {
-        return Err("other names".into());
-    }
-    Ok(())
+) {
+    let names = names_in(rt, tree, folder);
+    assert!(rt;
+        names.get(0) == Some(first) && names.get(1) == second,
+        "other names"
+    );
+    assert!(rt; names.len() <= 2, "other names");
 }
 
 // What a reset left, behind what it said.
-fn tell_left(
-    alloc: Global,
+fn tell_left<R: AllocGlobal + Abort>(
+    rt: &R,
     out: &mut String,
     tree: &mut MemoryTree,
     megabytes: u32,
-) -> Result<(), Fail> {
-    let sum = sealed(alloc, tree)?;
-    let names = names_in(alloc, tree, "t/pg_wal")?;
-    let page = new_sum(alloc, tree, &names, megabytes)?;
-    write!(out, " {sum:08X} {page:08X}")?;
-    Ok(tell_names(out, &names)?)
+) {
+    let names = names_in(rt, tree, "t/pg_wal");
+    tell_sum(rt, out, sealed(rt, tree));
+    tell_sum(rt, out, new_sum(rt, tree, &names, megabytes));
+    tell_names(rt, out, &names);
 }
 
 // Tells of a reset of a cluster with a whole log, which keeps what stands elsewhere.
-fn tell_log(alloc: Global, out: &mut String, options: &str) -> Result<(), Fail> {
-    let options = options_of(options)?;
-    let mut tree = cluster(alloc, "plain", LOG)?;
-    tell_answer(alloc, out, &mut tree, &options)?;
-    tell_left(alloc, out, &mut tree, options.segment_mb.unwrap_or(1))?;
+fn tell_log<R: AllocGlobal + Abort>(rt: &R, out: &mut String, options: &str) {
+    let options = options_of(rt, options);
+    let mut tree = cluster(rt, "plain", LOG);
+    tell_answer(rt, out, &mut tree, &options);
+    tell_left(rt, out, &mut tree, options.segment_mb.unwrap_or(1));
     let said = "t/pg_wal/archive_status";
-    check_names(alloc, &mut tree, "t", "global", Some("pg_wal"))?;
-    check_names(alloc, &mut tree, "t/global", "pg_control", None)?;
-    check_names(alloc, &mut tree, said, "00000001.history.done", None)
+    check_names(rt, &mut tree, "t", "global", Some("pg_wal"));
+    check_names(rt, &mut tree, "t/global", "pg_control", None);
+    check_names(rt, &mut tree, said, "00000001.history.done", None);
 }
 
 // Tells what a reset says, which has to `change` the tree, or to `keep` it.
-fn tell_changing(alloc: Global, out: &mut String, verb: &str, words: &str) -> Result<(), Fail> {
+fn tell_changing<R: AllocGlobal + Abort>(rt: &R, out: &mut String, verb: &str, words: &str) {
     let (options, behind) = cut_at(words, " | ");
     let (control, lines) = cut_at(behind, " | ");
-    let options = options_of(options)?;
-    let mut tree = cluster_of(alloc, control, lines)?;
+    let mut tree = cluster_of(rt, control, lines);
     let before = tree.changes();
-    tell_answer(alloc, out, &mut tree, &options)?;
-    if (tree.changes() != before) != (verb == "change") {
-        return Err("changed, or not".into());
-    }
-    Ok(())
+    tell_answer(rt, out, &mut tree, &options_of(rt, options));
+    let changed = tree.changes() != before;
+    assert!(rt; changed == (verb == "change"), "changed, or not");
 }
 
 /// `reset OPTIONS`, `keep OPTIONS | CONTROL | LINE, ..` or `change OPTIONS | CONTROL | LINE, ..`.
-pub(crate) fn tell_reset(
-    alloc: Global,
+pub(crate) fn tell_reset<R: AllocGlobal + Abort>(
+    rt: &R,
     out: &mut String,
     verb: &str,
     words: &str,
-) -> Result<(), Fail> {
+) {
     match verb {
-        "reset" => tell_log(alloc, out, words),
-        _ => tell_changing(alloc, out, verb, words),
+        "reset" => tell_log(rt, out, words),
+        _ => tell_changing(rt, out, verb, words),
     }
 }

@@ -10,9 +10,7 @@ use crate::surveys::tell_survey;
 use crate::texts::cut_at;
 use crate::walks::tell_walks;
 use crate::{endless, faults, labels, numbers, paths, plans, refusals, resets, surveys, walks};
-use std::alloc::Global;
 use std::process::Abort;
-use std::test::Fail;
 
 /// The texts of rows of rewinds.
 const REWINDS: [&str; 18] = [
@@ -53,52 +51,54 @@ const RESETS: [&str; 12] = [
 ];
 
 /// Tells what a row of a rewind is answered.
-fn tell_rewind(alloc: Global, out: &mut String, verb: &str, words: &str) -> Result<(), Fail> {
+fn tell_rewind<R: AllocGlobal + Abort>(rt: &R, out: &mut String, verb: &str, words: &str) {
     match verb {
-        "action" | "excluded" | "relation" => tell_path(alloc, out, verb, words),
-        "label" | "read" => tell_labels(alloc, out, verb, words),
-        "endless" => tell_endless(alloc, out, words),
-        "plan" => tell_plan(alloc, out, words),
-        "survey" | "whole" => tell_survey(alloc, out, verb, words),
-        _ => tell_walks(alloc, out, verb, words),
+        "action" | "excluded" | "relation" => tell_path(rt, out, verb, words),
+        "label" | "read" => tell_labels(rt, out, verb, words),
+        "endless" => tell_endless(rt, out, words),
+        "plan" => tell_plan(rt, out, words),
+        "survey" | "whole" => tell_survey(rt, out, verb, words),
+        _ => tell_walks(rt, out, verb, words),
     }
 }
 
 /// Tells what a row is answered.
-fn tell(alloc: Global, out: &mut String, row: &str) -> Result<(), Fail> {
+fn tell<R: AllocGlobal + Abort>(rt: &R, out: &mut String, row: &str) {
     let (verb, words) = cut_at(row, " ");
     match verb {
-        "numbers" | "fit" | "segment" | "status" => tell_numbers(alloc, out, verb, words),
-        "reset" | "keep" | "change" => tell_reset(alloc, out, verb, words),
-        "broken" | "call" => tell_faults(alloc, out, verb, words),
-        _ => tell_rewind(alloc, out, verb, words),
+        "numbers" | "fit" | "segment" | "status" => tell_numbers(rt, out, verb, words),
+        "reset" | "keep" | "change" => tell_reset(rt, out, verb, words),
+        "broken" | "call" => tell_faults(rt, out, verb, words),
+        _ => tell_rewind(rt, out, verb, words),
     }
+}
+
+/// A row is answered as it says.
+fn check_row<R: AllocGlobal + Abort>(rt: &R, row: &str, meant: &str) {
+    let mut told = String::new(rt.alloc());
+    tell(rt, &mut told, row);
+    assert!(rt; told.as_str() == meant, "{row} = {meant}: {told}");
 }
 
 /// Each row of a text is answered as it says.
-fn check<R: AllocGlobal + Abort>(rt: &R, text: &str) -> Result<(), Fail> {
+fn check<R: AllocGlobal + Abort>(rt: &R, text: &str) {
     for line in text.split('\n') {
         if let Some((row, meant)) = line.split_once(" = ") {
-            let mut told = String::new(rt.alloc());
-            tell(rt.alloc(), &mut told, row)?;
-            assert_eq!(rt; told.as_str(), meant, "{line}");
+            check_row(rt, row, meant);
         }
     }
-    Ok(())
 }
 
 #[test]
-fn each_row_of_a_rewind_is_answered(rt: HostRuntime) -> Result<(), Fail> {
+fn each_row_of_a_rewind_is_answered(rt: HostRuntime) {
     for text in REWINDS {
-        check(&rt, text)?;
+        check(&rt, text);
     }
-    Ok(())
 }
 
 #[test]
-fn each_row_of_a_reset_is_answered(rt: HostRuntime) -> Result<(), Fail> {
+fn each_row_of_a_reset_is_answered(rt: HostRuntime) {
     for text in RESETS {
-        check(&rt, text)?;
+        check(&rt, text);
     }
-    Ok(())
 }

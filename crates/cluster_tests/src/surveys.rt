@@ -1,13 +1,12 @@
 //! Each answer of a survey over trees in memory: `READ | TARGET | SOURCE | LINE, ..`, where the read of a number fails (none
 //! for 0), a control file is `none`, `plain`, `short` by a byte, or fields and a sum, and lines stand beside them.
 use crate::controls::surveyed;
-use crate::texts::{cut_at, number};
-use crate::trees::{plan_of, put_all, put_file, root_of, tree_of};
-use cluster_tree::{FailPlan, FailingTree, MemoryTree, Path, Tree};
+use crate::texts::{cut_at, number, says, shows, tell};
+use crate::trees::{path_of, plan_of, put_all, put_file, root_of, tree_of};
+use cluster_tree::{FailPlan, FailingTree, MemoryTree, Tree};
 use clusters::{Found, read_whole};
 use rewind_survey::{RewindFault, Surveyed, survey};
-use std::alloc::{AllocError, Global};
-use std::test::Fail;
+use std::process::Abort;
 
 /// Two control files are fit, or refused.
 pub(crate) const CONTROLS: &str = "\
@@ -78,94 +77,85 @@ whole a 2 = Some(OtherSize(3))
 whole b 3 = Some(Missing)";
 
 // Puts the control file of a cluster.
-fn put_control(
-    alloc: Global,
-    tree: &mut MemoryTree,
-    file: &str,
-    control: &str,
-) -> Result<(), Fail> {
+fn put_control<R: AllocGlobal + Abort>(rt: &R, tree: &mut MemoryTree, file: &str, control: &str) {
     if control == "none" {
-        return Ok(());
+        return;
     }
-    let bytes = surveyed(control).ok_or("no control file")?;
     let size = if control == "short" { 8191 } else { 8192 };
-    put_file(alloc, tree, file, &bytes[..size])
+    put_file(rt, tree, file, &surveyed(rt, control)[..size]);
 }
 
 // A target `t` and a source `s` with these control files, and lines beside them.
-fn clusters_of(alloc: Global, target: &str, source: &str, lines: &str) -> Result<MemoryTree, Fail> {
-    let mut tree = tree_of(alloc, "d t, d t/global, d s, d s/global")?;
-    put_control(alloc, &mut tree, "t/global/pg_control", target)?;
-    put_control(alloc, &mut tree, "s/global/pg_control", source)?;
-    put_all(alloc, &mut tree, lines)?;
-    Ok(tree)
+fn clusters_of<R: AllocGlobal + Abort>(
+    rt: &R,
+    target: &str,
+    source: &str,
+    lines: &str,
+) -> MemoryTree {
+    let mut tree = tree_of(rt, "d t, d t/global, d s, d s/global");
+    put_control(rt, &mut tree, "t/global/pg_control", target);
+    put_control(rt, &mut tree, "s/global/pg_control", source);
+    put_all(rt, &mut tree, lines);
+    tree
 }
 
-fn tell_answer(out: &mut String, answer: &Result<Surveyed, RewindFault>) -> Result<(), AllocError> {
+fn tell_answer<R: Abort>(rt: &R, out: &mut String, answer: &Result<Surveyed, RewindFault>) {
     match answer {
-        Ok(Surveyed::SameTimeline) => out.push_str("nothing on one timeline"),
-        Ok(Surveyed::EndsAtFork(fork)) => write!(out, "nothing past {fork:?}"),
-        Ok(Surveyed::Parted(found)) => write!(out, "{:?}", found.told),
-        Err(fault) => write!(out, "{fault}"),
+        Ok(Surveyed::SameTimeline) => tell(rt, out, "nothing on one timeline"),
+        Ok(Surveyed::EndsAtFork(fork)) => shows(rt, out, "nothing past ", fork),
+        Ok(Surveyed::Parted(found)) => shows(rt, out, "", &found.told),
+        Err(fault) => says(rt, out, "", fault),
     }
 }
 
 // Tells what the target `t` needs to follow `s`.
-fn tell_need<F: Tree>(alloc: Global, out: &mut String, tree: &mut F) -> Result<(), Fail> {
-    let target = root_of(alloc, "t")?;
-    let source = root_of(alloc, "s")?;
-    if target.holds(&source) || source.holds(&target) {
-        return Err("no two clusters".into());
-    }
-    Ok(tell_answer(out, &survey(alloc, tree, &target, &source))?)
+fn tell_need<F: Tree, R: AllocGlobal + Abort>(rt: &R, out: &mut String, tree: &mut F) {
+    let target = root_of(rt, "t");
+    let source = root_of(rt, "s");
+    assert!(rt;
+        !target.holds(&source) && !source.holds(&target),
+        "no two clusters"
+    );
+    tell_answer(rt, out, &survey(rt.alloc(), tree, &target, &source));
 }
 
 // Tells what a survey says, which has to leave the tree as it is.
-fn tell_tree(
-    alloc: Global,
-    out: &mut String,
-    tree: MemoryTree,
-    plan: FailPlan,
-) -> Result<(), Fail> {
+fn tell_tree<R: AllocGlobal + Abort>(rt: &R, out: &mut String, tree: MemoryTree, plan: FailPlan) {
     let before = tree.changes();
     let mut tree = FailingTree::new(tree, plan);
-    tell_need(alloc, out, &mut tree)?;
-    if tree.into_inner().changes() != before {
-        return Err("it was changed".into());
-    }
-    Ok(())
+    tell_need(rt, out, &mut tree);
+    assert!(rt; tree.into_inner().changes() == before, "it was changed");
 }
 
-fn found_in(alloc: Global, file: &str, into: &mut [u8]) -> Result<Found, Fail> {
-    let mut tree = tree_of(alloc, "h a 616263")?;
-    let file = Path::parse(alloc, file)?;
-    Ok(read_whole(&mut tree, file, into)?)
+fn found_in<R: AllocGlobal + Abort>(rt: &R, file: &str, into: &mut [u8]) -> Found {
+    let mut tree = tree_of(rt, "h a 616263");
+    read_whole(&mut tree, path_of(rt, file), into).expect(rt, "no answer")
 }
 
-fn tell_whole(alloc: Global, out: &mut String, words: &str) -> Result<(), Fail> {
+fn tell_whole<R: AllocGlobal + Abort>(rt: &R, out: &mut String, words: &str) {
     let (file, size) = cut_at(words, " ");
+    let size = number(rt, size);
     let mut three = [0; 3];
-    let into = three.get_mut(..number(size)? as usize).ok_or("too large")?;
-    match found_in(alloc, file, into)? {
-        Found::Filled => Ok(write!(out, "{three:?}")?),
-        other => Ok(write!(out, "{:?}", Some(other))?),
+    assert!(rt; size <= 3, "too large");
+    match found_in(rt, file, &mut three[..size as usize]) {
+        Found::Filled => shows(rt, out, "", &three),
+        other => shows(rt, out, "", &Some(other)),
     }
 }
 
 /// `survey READ | TARGET | SOURCE | LINE, ..`, or `whole FILE SIZE`.
-pub(crate) fn tell_survey(
-    alloc: Global,
+pub(crate) fn tell_survey<R: AllocGlobal + Abort>(
+    rt: &R,
     out: &mut String,
     verb: &str,
     words: &str,
-) -> Result<(), Fail> {
+) {
     if verb == "whole" {
-        return tell_whole(alloc, out, words);
+        return tell_whole(rt, out, words);
     }
     let (read, behind) = cut_at(words, " | ");
     let (target, behind) = cut_at(behind, " | ");
     let (source, lines) = cut_at(behind, " | ");
-    let plan = plan_of(read)?;
-    let tree = clusters_of(alloc, target, source, lines)?;
-    tell_tree(alloc, out, tree, plan)
+    let tree = clusters_of(rt, target, source, lines);
+    tell_tree(rt, out, tree, plan_of(rt, read));
 }

@@ -1,15 +1,15 @@
 //! Sets of blocks that records touch.
-ghost use Rattle.std.specs.Prelude.{◌≤◌, length, IfOk};
+ghost use Rattle.std.specs.Prelude.{◌≤◌, length};
 
+use crate::texts::number;
 use crate::trees::{put_file, root_of, tree_of};
 use block_refs::split_record;
 use cluster_tree::MemoryTree;
-use std::alloc::Global;
-use std::test::Fail;
+use std::process::Abort;
 use touched_blocks::Touched;
 use wal_base::{Lsn, SegSize, Spans};
 use wal_pages::LogPath;
-use wal_records::{LogWriter, Record, RecordCursor};
+use wal_records::{LogWriter, RecordCursor};
 
 /// Where the log begins, and where its record starts.
 const SEGMENT: Lsn = Lsn(0x10_0000);
@@ -33,66 +33,60 @@ fn body_of(block: u32) -> [u8; 20] {
 
 // A log of one record that references a block.
 #[tactic(auto, using(wal_records::proofs::NearLemmas::ends_near))]
-fn writer_of(alloc: Global, block: u32) -> Result<LogWriter, Fail> {
-    let size = SegSize::new(0x10_0000).ok_or("no size")?;
-    let mut writer = LogWriter::new(alloc, SEGMENT, 1, 7, size)?;
-    if writer.position().0 > 1 << 62 {
-        return Err("no such record".into());
-    }
-    writer.append(0, 0, HEAP, &body_of(block))?;
-    Ok(writer)
+fn writer_of<R: AllocGlobal + Abort>(rt: &R, block: u32) -> LogWriter {
+    let size = SegSize::new(0x10_0000).expect(rt, "no size");
+    let mut writer = LogWriter::new(rt.alloc(), SEGMENT, 1, 7, size).expect(rt, "no memory");
+    assert!(rt; writer.position().0 <= 1 << 62, "no such record");
+    writer
+        .append(0, 0, HEAP, &body_of(block))
+        .expect(rt, "no record");
+    writer
 }
 
 // A tree with that log.
-fn tree_with(alloc: Global, block: u32) -> Result<MemoryTree, Fail> {
-    let writer = writer_of(alloc, block)?;
-    let mut tree = tree_of(alloc, "d log")?;
+fn tree_with<R: AllocGlobal + Abort>(rt: &R, block: u32) -> MemoryTree {
+    let writer = writer_of(rt, block);
+    let mut tree = tree_of(rt, "d log");
     let file = "log/000000010000000000000001";
-    put_file(alloc, &mut tree, file, writer.bytes())?;
-    Ok(tree)
+    put_file(rt, &mut tree, file, writer.bytes());
+    tree
 }
 
 /// Where the log lies.
-fn path_of(alloc: Global) -> Result<LogPath, Fail>
-    ensures { IfOk result (λ log. length log.folder.parts ≤ 63) }
+fn log_path<R: AllocGlobal + Abort>(rt: &R) -> LogPath
+    ensures { length result.folder.parts ≤ 63 }
 {
-    let size = SegSize::new(0x10_0000).ok_or("no size")?;
-    let folder = root_of(alloc, "log")?;
-    Ok(LogPath {
-        folder,
-        spans: Spans::one(alloc, 1)?,
-        size,
+    LogPath {
+        folder: root_of(rt, "log"),
+        spans: Spans::one(rt.alloc(), 1).expect(rt, "no memory"),
+        size: SegSize::new(0x10_0000).expect(rt, "no size"),
         system: Some(7),
-    })
+    }
 }
 
 // A cursor that has read that record.
-fn cursor_with(alloc: Global, block: u32) -> Result<RecordCursor, Fail> {
-    let mut cursor = RecordCursor::at(alloc, path_of(alloc)?, START)?;
-    let _step = cursor.next(&mut tree_with(alloc, block)?)?;
-    Ok(cursor)
+fn cursor_with<R: AllocGlobal + Abort>(rt: &R, block: u32) -> RecordCursor {
+    let mut tree = tree_with(rt, block);
+    let mut cursor = RecordCursor::at(rt.alloc(), log_path(rt), START).expect(rt, "no log");
+    let _step = cursor.next(&mut tree).expect(rt, "no record");
+    cursor
 }
 
-fn add_record(set: &mut Touched, rec: &Record) -> Result<(), Fail> {
-    Ok(set.add_record(rec, &split_record(rec)?)?)
-}
-
-fn add(alloc: Global, set: &mut Touched, block: u32) -> Result<(), Fail> {
-    let cursor = cursor_with(alloc, block)?;
-    match cursor.current() {
-        Some(rec) => add_record(set, rec),
-        None => Err("no record".into()),
-    }
+fn add<R: AllocGlobal + Abort>(rt: &R, set: &mut Touched, block: u32) {
+    let cursor = cursor_with(rt, block);
+    let rec = cursor.current().expect(rt, "no record");
+    let parts = split_record(rec).expect(rt, "no parts");
+    set.add_record(rec, &parts).expect(rt, "no such record");
 }
 
 /// The set of these blocks of relation 16385 of database 5, none for a dash.
-pub(crate) fn touched(alloc: Global, blocks: &str) -> Result<Touched, Fail> {
-    let mut set = Touched::new(alloc);
+pub(crate) fn touched<R: AllocGlobal + Abort>(rt: &R, blocks: &str) -> Touched {
+    let mut set = Touched::new(rt.alloc());
     if blocks == "-" {
-        return Ok(set);
+        return set;
     }
     for block in blocks.split(' ') {
-        add(alloc, &mut set, block.parse()?)?;
+        add(rt, &mut set, number(rt, block));
     }
-    Ok(set)
+    set
 }

@@ -1,90 +1,103 @@
 //! Trees in memory from short lines.
-ghost use Rattle.std.specs.Prelude.{◌≤◌, length, IfOk};
+ghost use Rattle.std.specs.Prelude.{◌≤◌, length};
 
 use crate::texts::{cut_at, number};
 use cluster_tree::{FailPlan, MemoryTree, Names, Path, Tree};
-use std::alloc::Global;
-use std::test::Fail;
+use std::process::Abort;
+
+/// The path of a text.
+pub(crate) fn path_of<R: AllocGlobal + Abort>(rt: &R, text: &str) -> Path {
+    Path::parse(rt.alloc(), text).expect(rt, "no path")
+}
 
 /// The path of a cluster's root, or of the folder of a log.
-pub(crate) fn root_of(alloc: Global, text: &str) -> Result<Path, Fail>
-    ensures { IfOk result (λ root. length root.parts ≤ 61) }
+pub(crate) fn root_of<R: AllocGlobal + Abort>(rt: &R, text: &str) -> Path
+    ensures { length result.parts ≤ 61 }
 {
-    let root = Path::parse(alloc, text)?;
-    if root.len() > 61 {
-        return Err("too deep".into());
-    }
-    Ok(root)
+    let root = path_of(rt, text);
+    assert!(rt; root.len() <= 61, "too deep");
+    root
 }
 
 /// The plan where the call of a number fails, none for 0.
-pub(crate) fn plan_of(number_text: &str) -> Result<FailPlan, Fail> {
-    match number(number_text)? {
-        0 => Ok(FailPlan::Never),
-        call => Ok(FailPlan::At(u64::from(call))),
+pub(crate) fn plan_of<R: Abort>(rt: &R, number_text: &str) -> FailPlan {
+    match number(rt, number_text) {
+        0 => FailPlan::Never,
+        call => FailPlan::At(u64::from(call)),
     }
 }
 
 /// The names in a folder.
-pub(crate) fn names_in(alloc: Global, tree: &mut MemoryTree, folder: &str) -> Result<Names, Fail> {
-    Ok(tree.list(alloc, &Path::parse(alloc, folder)?)?)
+pub(crate) fn names_in<R: AllocGlobal + Abort>(
+    rt: &R,
+    tree: &mut MemoryTree,
+    folder: &str,
+) -> Names {
+    tree.list(rt.alloc(), &path_of(rt, folder))
+        .expect(rt, "no folder")
 }
 
 /// Makes a file of these bytes.
-pub(crate) fn put_file(
-    alloc: Global,
+pub(crate) fn put_file<R: AllocGlobal + Abort>(
+    rt: &R,
     tree: &mut MemoryTree,
     path: &str,
     bytes: &[u8],
-) -> Result<(), Fail> {
-    let path = Path::parse(alloc, path)?;
-    tree.make_file(&path)?;
-    Ok(tree.write_at(&path, 0, bytes)?)
+) {
+    let path = path_of(rt, path);
+    tree.make_file(&path).expect(rt, "no file");
+    tree.write_at(&path, 0, bytes).expect(rt, "no bytes");
+}
+
+/// Makes a file of so many zeros.
+fn put_zeros<R: AllocGlobal + Abort>(rt: &R, tree: &mut MemoryTree, path: &str, size: u32) {
+    let zeros = vec![in rt.alloc(); 0; size as usize].expect(rt, "no memory");
+    put_file(rt, tree, path, &zeros);
+}
+
+/// Makes a file of bytes by their digits.
+fn put_bytes<R: AllocGlobal + Abort>(rt: &R, tree: &mut MemoryTree, path: &str, digits: &str) {
+    let bytes = hex::decode(rt.alloc(), digits).expect(rt, "no digits");
+    put_file(rt, tree, path, &bytes);
 }
 
 /// Makes what is no file.
-fn put_other(alloc: Global, tree: &mut MemoryTree, kind: &str, path: &str) -> Result<(), Fail> {
-    let path = Path::parse(alloc, path)?;
+fn put_other<R: AllocGlobal + Abort>(rt: &R, tree: &mut MemoryTree, kind: &str, path: &str) {
+    let path = path_of(rt, path);
     match kind {
-        "d" => Ok(tree.make_folder(&path)?),
-        "l" => Ok(tree.add_link(&path)?),
-        "b" => Ok(tree.add_bad_name(&path)?),
-        _ => Err("no kind of entry".into()),
+        "d" => tree.make_folder(&path).expect(rt, "no folder"),
+        "l" => tree.add_link(&path).expect(rt, "no link"),
+        "b" => tree.add_bad_name(&path).expect(rt, "no name"),
+        _ => panic!(rt; "no kind of entry"),
     }
 }
 
 /// Carries out a line: a folder `d`, a file `f` of so many zeros, a file `h` of bytes by their digits, a link `l`, or a name
 /// `b` in a folder that isn't UTF-8; or nothing.
-fn put(alloc: Global, tree: &mut MemoryTree, line: &str) -> Result<(), Fail> {
+fn put<R: AllocGlobal + Abort>(rt: &R, tree: &mut MemoryTree, line: &str) {
     let (kind, behind) = cut_at(line, " ");
     let (path, words) = cut_at(behind, " ");
     match kind {
-        "" => Ok(()),
-        "f" => put_file(
-            alloc,
-            tree,
-            path,
-            &vec![in alloc; 0; number(words)? as usize]?,
-        ),
-        "h" => put_file(alloc, tree, path, &hex::decode(alloc, words)?),
-        _ => put_other(alloc, tree, kind, path),
+        "" => {}
+        "f" => put_zeros(rt, tree, path, number(rt, words)),
+        "h" => put_bytes(rt, tree, path, words),
+        _ => put_other(rt, tree, kind, path),
     }
 }
 
 /// Carries out lines in turn, none for a dash.
-pub(crate) fn put_all(alloc: Global, tree: &mut MemoryTree, lines: &str) -> Result<(), Fail> {
+pub(crate) fn put_all<R: AllocGlobal + Abort>(rt: &R, tree: &mut MemoryTree, lines: &str) {
     if lines == "-" {
-        return Ok(());
+        return;
     }
     for line in lines.split(", ") {
-        put(alloc, tree, line)?;
+        put(rt, tree, line);
     }
-    Ok(())
 }
 
 /// The tree that lines make.
-pub(crate) fn tree_of(alloc: Global, lines: &str) -> Result<MemoryTree, Fail> {
-    let mut tree = MemoryTree::new(alloc);
-    put_all(alloc, &mut tree, lines)?;
-    Ok(tree)
+pub(crate) fn tree_of<R: AllocGlobal + Abort>(rt: &R, lines: &str) -> MemoryTree {
+    let mut tree = MemoryTree::new(rt.alloc());
+    put_all(rt, &mut tree, lines);
+    tree
 }

@@ -1,12 +1,11 @@
 //! What lies below a root, and what is wrong there. The expected lines come from a script of its own that sorts the paths
 //! below the root by their bytes.
 use crate::kinds::tell_kind;
-use crate::texts::{cut_at, number};
-use crate::trees::{plan_of, tree_of};
+use crate::texts::{cut_at, number, says, tell};
+use crate::trees::{path_of, plan_of, tree_of};
 use cluster_tree::{FailingTree, MemoryTree, Path, Tree};
 use file_walk::{Entries, Pair, WalkFault, pair_up, walk};
-use std::alloc::{AllocError, Global};
-use std::test::Fail;
+use std::process::Abort;
 
 /// Which read fails, a root, a tree, and the entries below the root in the order of texts.
 pub(crate) const IN_ORDER: &str = "\
@@ -56,118 +55,108 @@ pairs d t, d t/a, f t/a/x 1, f t/a-b 2, d t/c, d s, d s/a, f s/a/x 3, f s/a/w 4,
     = a / /, a-b 2 -, a/w - 4, a/x 1 3, b - 5, c / 6";
 
 /// Tells a fault by its variant and its values.
-fn tell_fault(out: &mut String, fault: &WalkFault) -> Result<(), AllocError> {
-    let (variant, path) = match fault {
-        WalkFault::Link(path) => ("Link", path),
-        WalkFault::NameNotText(path) => ("NameNotText", path),
-        WalkFault::TooDeep(path) => ("TooDeep", path),
-        WalkFault::OddSize(path, size) => return write!(out, "OddSize {path} {size}"),
-        WalkFault::File(cause) => return write!(out, "File {cause}"),
-    };
-    write!(out, "{variant} {path}")
+fn tell_fault<R: Abort>(rt: &R, out: &mut String, fault: &WalkFault) {
+    match fault {
+        WalkFault::Link(path) => says(rt, out, "Link ", path),
+        WalkFault::NameNotText(path) => says(rt, out, "NameNotText ", path),
+        WalkFault::TooDeep(path) => says(rt, out, "TooDeep ", path),
+        WalkFault::OddSize(path, size) => {
+            says(rt, out, "OddSize ", path);
+            says(rt, out, " ", size);
+        }
+        WalkFault::File(cause) => says(rt, out, "File ", cause),
+    }
 }
 
 /// Tells a path behind what was told.
-fn tell_name(out: &mut String, path: &Path) -> Result<(), AllocError> {
+fn tell_name<R: Abort>(rt: &R, out: &mut String, path: &Path) {
     let gap = if out.is_empty() { "" } else { ", " };
-    write!(out, "{gap}{path} ")
+    says(rt, out, gap, path);
+    tell(rt, out, " ");
 }
 
 /// Tells the entries, a dash where there is none.
-fn tell_entries(out: &mut String, entries: &Entries) -> Result<(), AllocError> {
+fn tell_entries<R: Abort>(rt: &R, out: &mut String, entries: &Entries) {
     if entries.len() == 0 {
-        return out.push('-');
+        return tell(rt, out, "-");
     }
     for at in 0..entries.len() {
         if let Some(entry) = entries.get(at) {
-            tell_name(out, &entry.path)?;
-            tell_kind(out, Some(&entry.kind))?;
+            tell_name(rt, out, &entry.path);
+            tell_kind(rt, out, Some(&entry.kind));
         }
     }
-    Ok(())
 }
 
 /// Tells what a walk gives.
-pub(crate) fn tell_walk<F: Tree>(
-    alloc: Global,
+pub(crate) fn tell_walk<F: Tree, R: AllocGlobal + Abort>(
+    rt: &R,
     out: &mut String,
     tree: &mut F,
     root: &str,
-) -> Result<(), Fail> {
-    let walked = walk(alloc, tree, &Path::parse(alloc, root)?);
-    match walked {
-        Ok(entries) => Ok(tell_entries(out, &entries)?),
-        Err(fault) => Ok(tell_fault(out, &fault)?),
+) {
+    match walk(rt.alloc(), tree, &path_of(rt, root)) {
+        Ok(entries) => tell_entries(rt, out, &entries),
+        Err(fault) => tell_fault(rt, out, &fault),
     }
 }
 
 /// What a walk of a tree gives where the read of a number fails, none for 0.
-fn tell_failing(alloc: Global, out: &mut String, words: &str, lines: &str) -> Result<(), Fail> {
+fn tell_failing<R: AllocGlobal + Abort>(rt: &R, out: &mut String, words: &str, lines: &str) {
     let (read, root) = cut_at(words, " ");
-    let plan = plan_of(read)?;
-    let mut tree = FailingTree::new(tree_of(alloc, lines)?, plan);
-    tell_walk(alloc, out, &mut tree, root)
+    let mut tree = FailingTree::new(tree_of(rt, lines), plan_of(rt, read));
+    tell_walk(rt, out, &mut tree, root);
 }
 
-fn entries_of(alloc: Global, tree: &mut MemoryTree, root: &str) -> Result<Entries, Fail> {
-    Ok(walk(alloc, tree, &Path::parse(alloc, root)?)?)
+fn entries_of<R: AllocGlobal + Abort>(rt: &R, tree: &mut MemoryTree, root: &str) -> Entries {
+    walk(rt.alloc(), tree, &path_of(rt, root)).expect(rt, "no walk")
 }
 
 /// Tells how many entries a walk finds.
-fn tell_count(
-    alloc: Global,
-    out: &mut String,
-    tree: &mut MemoryTree,
-    root: &str,
-) -> Result<(), Fail> {
-    let count = entries_of(alloc, tree, root)?.len();
-    Ok(write!(out, "{count}")?)
+fn tell_count<R: AllocGlobal + Abort>(rt: &R, out: &mut String, tree: &mut MemoryTree, root: &str) {
+    says(rt, out, "", &entries_of(rt, tree, root).len());
 }
 
 /// Folders below `t` that lie in one another, the last of so many parts with that of the root.
-fn nested(alloc: Global, parts: u32) -> Result<MemoryTree, Fail> {
-    let mut tree = tree_of(alloc, "d t")?;
-    let mut folder = Path::parse(alloc, "t")?;
+fn nested<R: AllocGlobal + Abort>(rt: &R, parts: u32) -> MemoryTree {
+    let mut tree = tree_of(rt, "d t");
+    let mut folder = path_of(rt, "t");
     for _ in 1..parts {
-        folder = folder.join(alloc, "d")?;
-        tree.make_folder(&folder)?;
+        folder = folder.join(rt.alloc(), "d").expect(rt, "no path");
+        tree.make_folder(&folder).expect(rt, "no folder");
     }
-    Ok(tree)
+    tree
 }
 
-fn tell_pair(out: &mut String, pair: &Pair) -> Result<(), AllocError> {
-    tell_name(out, &pair.path)?;
-    tell_kind(out, pair.target.as_ref())?;
-    out.push(' ')?;
-    tell_kind(out, pair.source.as_ref())
+fn tell_pair<R: Abort>(rt: &R, out: &mut String, pair: &Pair) {
+    tell_name(rt, out, &pair.path);
+    tell_kind(rt, out, pair.target.as_ref());
+    tell(rt, out, " ");
+    tell_kind(rt, out, pair.source.as_ref());
 }
 
-fn pairs_of(alloc: Global, tree: &mut MemoryTree) -> Result<Vec<Pair>, Fail> {
-    let target = entries_of(alloc, tree, "t")?;
-    let source = entries_of(alloc, tree, "s")?;
-    Ok(pair_up(alloc, target, source)?)
-}
-
-fn tell_pairs(alloc: Global, out: &mut String, lines: &str) -> Result<(), Fail> {
-    let pairs = pairs_of(alloc, &mut tree_of(alloc, lines)?)?;
+fn tell_pairs<R: AllocGlobal + Abort>(rt: &R, out: &mut String, lines: &str) {
+    let mut tree = tree_of(rt, lines);
+    let target = entries_of(rt, &mut tree, "t");
+    let source = entries_of(rt, &mut tree, "s");
+    let pairs = pair_up(rt.alloc(), target, source).expect(rt, "no memory");
     for pair in pairs.iter() {
-        tell_pair(out, pair)?;
+        tell_pair(rt, out, pair);
     }
-    Ok(())
 }
 
 /// `walk READ ROOT: LINE, ..`, `count ROOT: LINE, ..`, `nested PARTS` or `pairs LINE, ..`.
-pub(crate) fn tell_walks(
-    alloc: Global,
+pub(crate) fn tell_walks<R: AllocGlobal + Abort>(
+    rt: &R,
     out: &mut String,
     verb: &str,
     given: &str,
-) -> Result<(), Fail> {
+) {
     let (words, lines) = cut_at(given, ": ");
     match verb {
-        "walk" => tell_failing(alloc, out, words, lines),
-        "count" => tell_count(alloc, out, &mut tree_of(alloc, lines)?, words),
-        "nested" => tell_count(alloc, out, &mut nested(alloc, number(words)?)?, "t"),
-        _ => tell_pairs(alloc, out, given),
+        "walk" => tell_failing(rt, out, words, lines),
+        "count" => tell_count(rt, out, &mut tree_of(rt, lines), words),
+        "nested" => tell_count(rt, out, &mut nested(rt, number(rt, words)), "t"),
+        _ => tell_pairs(rt, out, given),
     }
 }

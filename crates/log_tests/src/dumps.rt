@@ -63,5 +63,5 @@ fn a_failed_read_leaves_the_lines_before_it(rt: HostRuntime) {
     let first = leaves(&rt, 1, "");
     let second = leaves(&rt, 2, "");
     let third = leaves(&rt, 3, LINE);
-    assert_eq!(rt; (first, second, third), (true, true, true));
+    assert!(rt; first && second && third);
 }

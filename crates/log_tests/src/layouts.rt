@@ -61,8 +61,12 @@ fn layouts_and_names_are_read_as_they_say(rt: HostRuntime) {
         Rows::Layouts,
         &[
             layout_texts::LAYOUTS,
+            layout_texts::FORKS,
+            layout_texts::LISTS,
             layout_texts::ENDS,
-            block_texts::BLOCKS,
+            layout_texts::PREFIXES,
+            block_texts::HEAP,
+            block_texts::BTREE,
             name_texts::NAMES,
             block_names::NAMES,
         ],

@@ -59,6 +59,16 @@ fn has_bytes<R: AllocGlobal + Abort>(rt: &R, rec: &Record, parts: &Parts) -> boo
 const BYTES: &str = "\
 [225, 226, 227, 228] Some([17, 18, 19]) Some([33, 34]) Some([]) None off: 58081, flags: 0xE3";
 
+/// Whether all bytes of some are this one.
+fn are_all(bytes: &[u8], wanted: u8) -> bool {
+    for &byte in bytes {
+        if byte != wanted {
+            return false;
+        }
+    }
+    true
+}
+
 /// Whether there is a page of the images of blocks 0 and 4 in a room of bytes AA, whether the room stays without one, and
 /// of the page the first byte, whether its hole is of zeros, and the bytes behind that and the page.
 fn has_images(rec: &Record, parts: &Parts) -> bool
@@ -67,10 +77,10 @@ fn has_images(rec: &Record, parts: &Parts) -> bool
     let mut told = Told::new(IMAGES);
     let mut room = [0xAA; 8193];
     told.shows("", &image_page(rec, parts, 0, &mut room));
-    told.shows(" ", &room.iter().all(|byte| *byte == 0xAA));
+    told.shows(" ", &are_all(&room, 0xAA));
     told.shows(" ", &image_page(rec, parts, 4, &mut room));
     told.shows(" ", &room[0]);
-    told.shows(" ", &room[1..8190].iter().all(|byte| *byte == 0));
+    told.shows(" ", &are_all(&room[1..8190], 0));
     told.shows(" ", &&room[8190..]);
     told.is_all()
 }
@@ -78,14 +88,12 @@ fn has_images(rec: &Record, parts: &Parts) -> bool
 const IMAGES: &str = "false true true 117 true [118, 119, 170]";
 
 /// Whether a record has its references, its bytes and its images.
-fn has_all<R: AllocGlobal + Abort>(rt: &R, rec: &Record) -> (bool, bool, bool) {
+fn has_all<R: AllocGlobal + Abort>(rt: &R, rec: &Record) -> bool {
     match split_record(rec) {
-        Ok(parts) => (
-            has_references(&parts),
-            has_bytes(rt, rec, &parts),
-            has_images(rec, &parts),
-        ),
-        Err(_) => (false, false, false),
+        Ok(parts) => {
+            has_references(&parts) && has_bytes(rt, rec, &parts) && has_images(rec, &parts)
+        }
+        Err(_) => false,
     }
 }
 
@@ -99,6 +107,5 @@ fn has_same_parts(rec: &Record) -> bool {
 fn a_record_has_its_references_bytes_and_images(rt: HostRuntime) {
     let cursor = cursor_over(&rt, 10, 0x80, &THREE_BLOCKS);
     let rec = cursor.current().expect(&rt, "no record");
-    let has = (has_all(&rt, rec), has_same_parts(rec));
-    assert_eq!(rt; has, ((true, true, true), true));
+    assert!(rt; has_all(&rt, rec) && has_same_parts(rec));
 }

@@ -5,7 +5,7 @@ ghost use Rattle.wal_records.specs.Cursor.{Knows};
 
 use crate::logs::{FIRST, SYSTEM, log_path, one_timeline, size, tree_of, write};
 use crate::record_rows::*;
-use crate::rows::{Rows, check};
+use crate::rows::{Rows, check, check_row};
 use crate::texts::{bytes_of, cut_at, plan_of, position};
 use crate::told::Told;
 use crate::written::log_tree;
@@ -157,11 +157,9 @@ fn is_stored_read<R: AllocGlobal + Abort>(rt: &R) -> bool {
     let size = size(rt);
     let mut cursor = cursor_at(rt, size, FIRST);
     let is_lent = cursor.current().is_some();
-    let answer = cursor.next(&mut stored(rt));
-    match cursor.current() {
-        Some(current) => !is_lent && answer == Ok(Step::Record) && is_stored(current, size),
-        None => false,
-    }
+    let _step = cursor.next(&mut stored(rt)).expect(rt, "no record");
+    let current = cursor.current().expect(rt, "no record");
+    !is_lent && is_stored(current, size)
 }
 
 #[test]
@@ -241,5 +239,5 @@ fn first_other_by_itself<R: AllocGlobal + Abort>(rt: &R) -> Option<&'static str>
 
 #[test]
 fn the_record_at_a_place_is_read_by_itself(rt: HostRuntime) {
-    assert_eq!(rt; first_other_by_itself(&rt), None);
+    check_row(&rt, BY_ITSELF, first_other_by_itself(&rt));
 }

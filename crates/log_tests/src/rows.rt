@@ -37,11 +37,18 @@ fn other<'a, R: AllocGlobal + Abort>(rt: &R, rows: Rows<'_>, row: &'a str) -> Op
     if is_so { None } else { Some(meant) }
 }
 
+/// Nothing of a row comes out otherwise.
+pub fn check_row<R: Abort>(rt: &R, row: &str, other: Option<&str>) {
+    if let Some(other) = other {
+        panic!(rt; "{row}: not {other}");
+    }
+}
+
 /// Each row of a text comes out as it says. A line that begins with `#` is for the reader.
 fn check_text<R: AllocGlobal + Abort>(rt: &R, rows: Rows<'_>, text: &str) {
     for row in text.split('\n') {
         if !row.is_empty() && !row.starts_with('#') {
-            assert_eq!(rt; other(rt, rows, row), None, "{row}");
+            check_row(rt, row, other(rt, rows, row));
         }
     }
 }

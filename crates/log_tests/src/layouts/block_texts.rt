@@ -1,6 +1,6 @@
 // Bytes of blocks and what they say, written out by hand from the layouts.
 
-pub(crate) const BLOCKS: &str =
+pub(crate) const HEAP: &str =
     "block insert 0 0 028002091805A1A2 = TupleHeader { infomask2: 32770, infomask: 2306, hoff: 24 } [5, 161, 162]
 block insert 0 0 0280020918 = TupleHeader { infomask2: 32770, infomask: 2306, hoff: 24 } []
 block insert 0 0 02800209 = none
@@ -35,7 +35,10 @@ block multi 1 0 02000100020818A1A2EE = none
 block multi 1 0 02000100020818A1A2EE01000300020920B1 = none
 block multi 3 0 02000100020818A1A2EE01000300020920B1 = none
 block multi 0 0 02 = none
-# index tuples of 16 bytes, with the bit 4000 beside the size, and of 9, which take 16
+";
+
+pub(crate) const BTREE: &str =
+    "# index tuples of 16 bytes, with the bit 4000 beside the size, and of 9, which take 16
 block restored 0 0 000001000100104001020304050607080000020001000900090A0B0C0D0E0F10 = tuples [0, 0, 1, 0, 1, 0, 16, 64, 1, 2, 3, 4, 5, 6, 7, 8] [0, 0, 2, 0, 1, 0, 9, 0, 9, 10, 11, 12, 13, 14, 15, 16] true
 block restored 0 0 000001000100104001020304050607080000020001000900090A0B0C0D0E0F = none
 block restored 0 0 000001000100104001020304050607080000020001000900 = none
@@ -50,6 +53,21 @@ block split 1 0 000001000100104001020304050607080000020001000900090A0B0C0D0E0F10
 block split 0 0 000001000100104001020304050607080000020001000900090A0B0C0D0E0F10 = new None key [0, 0, 1, 0, 1, 0, 16, 64, 1, 2, 3, 4, 5, 6, 7, 8]
 block split 1 0 000001000100104001020304050607080000020001000900090A0B0C0D0E0F = none
 block split 0 0 000001000100104001020304050607 = none
+# three tuples from place 1 on, and 258 from place 5 on
+block dedup 2 0 0100030005000201 = intervals Interval { base: 1, count: 3 } Interval { base: 5, count: 258 } (Some(Interval { base: 5, count: 258 }), None)
+block dedup 2 0 01000300050002 = none
+# a tuple of 16 bytes, whose tid goes to index 2; one of no more than its header
+block posting 0 0 020000000100030010000102030405060708 = at 2 [0, 0, 1, 0, 3, 0, 16, 0, 1, 2, 3, 4, 5, 6, 7, 8]
+block posting 0 0 02010000010003000800 = at 258 [0, 0, 1, 0, 3, 0, 8, 0]
+block posting 0 0 020100000100030008 = none
+# place 2 goes; place 3 loses the tids 1 and 258, and place 260 the tid 0; a byte behind them is ignored
+block shortened 1 2 02000300040102000100020101000000 = deleted 2 (Some(2), None) updates 2, 3 loses 1 258 (Some(258), None), 260 loses 0 (Some(0), None)
+block shortened 1 2 02000300040102000100020101000000EE = deleted 2 (Some(2), None) updates 2, 3 loses 1 258 (Some(258), None), 260 loses 0 (Some(0), None)
+block shortened 1 2 020003000401020001000201010000 = none
+block shortened 1 2 02000300040102000100020101 = none
+block shortened 1 2 0200030004010200 = none
+block shortened 1 0 0200 = deleted 2 (Some(2), None) updates 0
+block shortened 1 0 02 = none
 block meta 0 0 04000000030000000100000012010000020000000000010001 = Some(BtreeMeta { version: 4, root: 3, level: 1, fast_root: 274, fast_level: 2, deleted_pages: 65536, all_equal_image: 1 })
 block meta 0 0 040000000300000001000000120100000200000000000100 = None
 ";

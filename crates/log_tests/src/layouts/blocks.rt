@@ -110,6 +110,39 @@ fn split(told: &mut Told<'_>, with_new: bool, bytes: &[u8]) {
     told.shows(" key ", &tuples.high_key);
 }
 
+fn dedup(told: &mut Told<'_>, count: u16, bytes: &[u8]) {
+    let Some(intervals) = dedup_intervals(bytes, count) else {
+        return told.text("none");
+    };
+    told.text("intervals");
+    let last = intervals.get(intervals.len().saturating_sub(1));
+    let past = intervals.get(intervals.len());
+    for interval in intervals {
+        told.shows(" ", &interval);
+    }
+    told.shows(" ", &(last, past));
+}
+
+fn posting(told: &mut Told<'_>, bytes: &[u8]) {
+    let Some(insert) = posting_insert(bytes) else {
+        return told.text("none");
+    };
+    told.shows("at ", &insert.index);
+    told.shows(" ", &insert.tuple);
+}
+
+fn shortened(told: &mut Told<'_>, deleted: u16, updated: u16, bytes: &[u8]) {
+    let Some(lists) = posting_updates(bytes, deleted, updated) else {
+        return told.text("none");
+    };
+    places(told, "deleted", lists.deleted);
+    told.shows(" updates ", &lists.updates.len());
+    for update in lists.updates {
+        told.shows(", ", &update.place);
+        places(told, " loses", update.gone);
+    }
+}
+
 /// Tells what the bytes of a block of a kind are read as, by the numbers that the main bytes tell.
 fn layout(told: &mut Told<'_>, kind: &str, one: u16, other: u16, bytes: &[u8]) {
     let parts = OldParts {
@@ -125,6 +158,9 @@ fn layout(told: &mut Told<'_>, kind: &str, one: u16, other: u16, bytes: &[u8]) {
         "multi" => multi_insert(told, one, bytes),
         "restored" => restored(told, bytes),
         "split" => split(told, one == 1, bytes),
+        "dedup" => dedup(told, one, bytes),
+        "posting" => posting(told, bytes),
+        "shortened" => shortened(told, one, other, bytes),
         "meta" => told.shows("", &metapage(bytes)),
         _ => told.text("no such kind"),
     }

@@ -2,6 +2,14 @@
 use crate::told::Told;
 use record_layouts::*;
 
+/// Tells the redo of a checkpoint.
+fn checkpoint(told: &mut Told<'_>, bytes: &[u8]) {
+    match read_checkpoint(bytes) {
+        Some(found) => told.shows("", &found.redo),
+        None => told.text("none"),
+    }
+}
+
 /// Tells what a layout says of XLOG, Storage and Database.
 pub fn xlog(told: &mut Told<'_>, name: &str, bytes: &[u8]) -> bool {
     match name {
@@ -11,7 +19,7 @@ pub fn xlog(told: &mut Told<'_>, name: &str, bytes: &[u8]) -> bool {
         "EndOfRecovery" => told.read(EndOfRecovery::read(bytes)),
         "OverwriteContrecord" => told.read(OverwriteContrecord::read(bytes)),
         "ParameterChange" => told.read(ParameterChange::read(bytes)),
-        "Checkpoint" => told.read(read_checkpoint(bytes).map(|cp| cp.redo)),
+        "Checkpoint" => checkpoint(told, bytes),
         "StorageCreate" => told.read(StorageCreate::read(bytes)),
         "StorageTruncate" => told.read(StorageTruncate::read(bytes)),
         "DatabaseCopy" => told.read(DatabaseCopy::read(bytes)),

@@ -39,7 +39,9 @@ read HeapPrune 010203040506070809 = HeapPrune { horizon: 67305985, nredirected: 
 read HeapFreezePage 01020304050607 = HeapFreezePage { horizon: 67305985, nplans: 1541, catalog: Some(7) }
 read BtreeDelete 010203040506070809 = BtreeDelete { horizon: 67305985, ndeleted: 1541, nupdated: 2055, catalog: Some(9) }
 whole Checkpoint 00000000000000000000000000000000000000000000000000000000000000000000000000000000000000000000000000000000000000000000000000000000000000000000000000000000000000000000000000000000 = 0
-# forks are four
+";
+
+pub(crate) const FORKS: &str = "# forks are four
 whole StorageCreate 0102030405060708090A0B0C00000000 = StorageCreate { rel: RelName { space: 67305985, database: 134678021, relation: 202050057 }, fork: Main }
 read CreatedName 0102030405060708090A0B0C000000 = RelName { space: 67305985, database: 134678021, relation: 202050057 }
 whole StorageCreate 0102030405060708090A0B0C01000000 = StorageCreate { rel: RelName { space: 67305985, database: 134678021, relation: 202050057 }, fork: FreeSpace }
@@ -54,7 +56,9 @@ read StorageCreate 0102030405060708090A0B0C00010000 = none
 read CreatedName 0102030405060708090A0B0C000100 = RelName { space: 67305985, database: 134678021, relation: 202050057 }
 read StorageCreate 0102030405060708090A0B0C00000080 = none
 read CreatedName 0102030405060708090A0B0C000000 = RelName { space: 67305985, database: 134678021, relation: 202050057 }
-# lists
+";
+
+pub(crate) const LISTS: &str = "# lists
 whole DatabaseDrop 05000000020000007F06000080060000 = database 5 spaces 1663 1664
 read DatabaseDrop 05000000020000007F060000800600 = none
 read DatabaseDrop 05000000FEFFFFFF7F060000 = none
@@ -83,7 +87,9 @@ whole Commit 010000000000008020000000A0000000010000000700000000000000 = time -92
 whole Commit 0100000000000080BF010000050000007F06000002000000BD020000BE020000020000007F06000005000000004000007F0600000500000001400000010000000200000005000000004000000100000009080706050403020100010203040506BF020000616200A0000000010000000700000000000000 = time -9223372036854775807 xinfo 447 subxacts 701 702 dropped RelName { space: 1663, database: 5, relation: 16384 } RelName { space: 1663, database: 5, relation: 16385 } stats StatsItem { kind: 2, database: 5, object: 16384 } messages Message { bytes: [9, 8, 7, 6, 5, 4, 3, 2, 1, 0, 1, 2, 3, 4, 5, 6] } in Some(DatabaseName { database: 5, space: 1663 }) from Some(Origin { lsn: Lsn(4294967456), time: 7 }) prepared 703 [97, 98]
 whole Abort 0100000000000080BF010000050000007F06000002000000BD020000BE020000020000007F06000005000000004000007F060000050000000140000001000000020000000500000000400000BF020000616200A0000000010000000700000000000000 = time -9223372036854775807 xinfo 447 subxacts 701 702 dropped RelName { space: 1663, database: 5, relation: 16384 } RelName { space: 1663, database: 5, relation: 16385 } stats StatsItem { kind: 2, database: 5, object: 16384 } messages in Some(DatabaseName { database: 5, space: 1663 }) from Some(Origin { lsn: Lsn(4294967456), time: 7 }) prepared 703 [97, 98]
 whole AbortWithoutFlags 0100000000000080 = time -9223372036854775807 xinfo 0 subxacts dropped stats messages in None from None
-# names are told as far as they are whole
+";
+
+pub(crate) const PREFIXES: &str = "# names are told as far as they are whole
 read Dropped 01000000000000800600000002000000BD020000BE020000020000007F06000005000000004000007F0600000500000001400000 = there dropped RelName { space: 1663, database: 5, relation: 16384 } RelName { space: 1663, database: 5, relation: 16385 }
 read Dropped 01000000000000800600000002000000BD020000BE020000020000007F06000005000000004000007F06000005000000014000 = there dropped RelName { space: 1663, database: 5, relation: 16384 }
 read Dropped 010000000000008024000000020000007F06000005000000004000007F0600000500000001400000A00000000100000007000000000000 = there dropped RelName { space: 1663, database: 5, relation: 16384 } RelName { space: 1663, database: 5, relation: 16385 }

@@ -11,30 +11,48 @@ use crate::touched::walk_control::control;
 use crate::touched::walk_logs::tree_of;
 use crate::touched::walk_rows::HINTED;
 use cluster_tree::{FailingTree, Tree};
-use log_walk::{LogWalkFault, common_checkpoint, end_of_target, touch_log};
+use log_walk::{CommonCheckpoint, LogWalkFault, common_checkpoint, end_of_target, touch_log};
 use std::alloc::Global;
 use std::process::Abort;
 use touched_blocks::Touched;
 use wal_base::{Lsn, SegSize};
 use wal_records::RecordCursor;
 
-/// Where the target's log ends.
+/// Where the target's log ends, by the position of the checkpoint's record and `minRecoveryPoint`.
+fn end_of<R: AllocGlobal + Abort>(
+    rt: &R,
+    checkpoint: u64,
+    least: u64,
+    cells: &str,
+) -> Result<Lsn, LogWalkFault> {
+    let mut cursor = cursor_at(rt, size(rt), 0);
+    let mut tree = tree_of(rt, cells);
+    end_of_target(&mut cursor, &mut tree, &control(checkpoint, least))
+}
+
+/// Tells where the target's log ends.
 fn end<R: AllocGlobal + Abort>(rt: &R, told: &mut Told<'_>, words: &str, cells: &str) {
     let (checkpoint, least) = cut_at(words, " ");
-    let control = control(position(rt, checkpoint), position(rt, least));
-    let mut cursor = cursor_at(rt, size(rt), 0);
-    match end_of_target(&mut cursor, &mut tree_of(rt, cells), &control) {
+    match end_of(rt, position(rt, checkpoint), position(rt, least), cells) {
         Ok(end) => told.says("", &end),
         Err(fault) => told.shows("", &fault),
     }
 }
 
-/// Where the last common checkpoint starts, and its redo.
-fn common<R: AllocGlobal + Abort>(rt: &R, told: &mut Told<'_>, fork: &str, cells: &str) {
+/// The last common checkpoint below a fork.
+fn common_of<R: AllocGlobal + Abort>(
+    rt: &R,
+    fork: u64,
+    cells: &str,
+) -> Result<CommonCheckpoint, LogWalkFault> {
     let size = size(rt);
-    let fork = Lsn(position(rt, fork));
     let mut cursor = cursor_at(rt, size, 0);
-    match common_checkpoint(&mut cursor, &mut tree_of(rt, cells), size, fork) {
+    common_checkpoint(&mut cursor, &mut tree_of(rt, cells), size, Lsn(fork))
+}
+
+/// Tells where the last common checkpoint starts, and its redo.
+fn common<R: AllocGlobal + Abort>(rt: &R, told: &mut Told<'_>, fork: &str, cells: &str) {
+    match common_of(rt, position(rt, fork), cells) {
         Ok(found) => {
             told.says("", &found.start);
             told.says(" ", &Lsn(found.checkpoint.redo));
