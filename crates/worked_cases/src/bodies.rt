@@ -1,7 +1,6 @@
 // Bodies of records, with parts and without; the offsets are worked out by hand from the format.
-use super::driver::check;
 
-const BODIES: &str =
+pub(crate) const WITHOUT_PARTS: &str =
     "# block 2 of 1663/5/16384 with three bytes and an image of 24, block 3 with two bytes, and four main bytes: the
 # headers stand at 0, 25 and 33, and end at 35; in each of these some bytes are others
 case bodies without parts
@@ -125,7 +124,9 @@ status 1
 run pg_waldump -p t -s 0/100818
 err pg_waldump: error: BadParts 0/100818 0
 status 1
-case bodies with parts
+";
+
+pub(crate) const WITH_PARTS: &str = "case bodies with parts
 folder t
 folder t/pg_wal
 log t/pg_wal
@@ -145,8 +146,3 @@ run pg_waldump -p t -s 0/1001C0
 err pg_waldump: error: BadParts 0/1001C0 276
 status 1
 ";
-
-#[test]
-fn bodies_are_split(rt: HostRuntime) {
-    check(&rt, &[BODIES]);
-}

@@ -1,8 +1,8 @@
 // What a clean-up of an archive removes, as its reference page and the names of segments say.
-use super::driver::check;
 
 // Which files go.
-const REMOVED: &str = "case the files below the one that is kept, whatever their timelines
+pub(crate) const REMOVED: &str =
+    "case the files below the one that is kept, whatever their timelines
 folder arch
 file arch/000000010000000000000009 00
 file arch/000000010000000000000009.gz 00
@@ -113,7 +113,7 @@ status 0
 ";
 
 // What is refused.
-const REFUSED: &str = "case entries that are no files are seen before the first removal
+pub(crate) const REFUSED: &str = "case entries that are no files are seen before the first removal
 folder arch
 file arch/000000010000000000000001 00
 folder arch/000000010000000000000002
@@ -299,7 +299,7 @@ size arch/000000010000000000000009 1
 ";
 
 // Calls that fail.
-const FAULTS: &str = "case each call fails in turn: a listing, two looks, two removals
+pub(crate) const FAULTS: &str = "case each call fails in turn: a listing, two looks, two removals
 folder arch
 file arch/000000010000000000000001 00
 file arch/000000010000000000000002 00
@@ -364,18 +364,3 @@ run pg_archivecleanup arch 00000001000000000000000A
 call remove arch/000000010000000000000002
 status 0
 ";
-
-#[test]
-fn an_archive_is_cleaned_up(rt: HostRuntime) {
-    check(&rt, &[REMOVED]);
-}
-
-#[test]
-fn a_clean_up_is_refused_before_it_begins(rt: HostRuntime) {
-    check(&rt, &[REFUSED]);
-}
-
-#[test]
-fn a_clean_up_stops_at_the_first_fault(rt: HostRuntime) {
-    check(&rt, &[FAULTS]);
-}

@@ -1,13 +1,9 @@
 // Comparisons of two clusters: whether they are the same, and else where they differ first. Positions
 // and bytes are worked out by hand from the formats.
-use super::driver::check;
-use super::names::NAMES;
-use super::replays::FOLLOWS;
-use super::rewinds::CLUSTERS;
 
 // Clusters that were replayed. A whole copy of the source has at first what a rewind copies; or its page
 // is at its last stage, at 0/105000, while the log has an image of it that ends at 0/101000.
-const REPLAYED: &str = "part long
+pub(crate) const REPLAYED: &str = "part long
 log %/pg_wal tli=2
 record $checkpoint
 filler 3856
@@ -128,7 +124,7 @@ status 0
 ";
 
 // Two clusters that are the same, each changed in one place.
-const COMPARED: &str = "part alike
+pub(crate) const COMPARED: &str = "part alike
 take follower t
 take follower u
 file t/base/5/PG_VERSION 31360A
@@ -265,7 +261,7 @@ status 1
 ";
 
 // Why clusters aren't compared, in order.
-const REFUSED: &str = "case marks
+pub(crate) const REFUSED: &str = "case marks
 control t version=1301
 control u
 file t/pg_walreplay.unfinished
@@ -360,7 +356,7 @@ status 1
 ";
 
 // Each read fails once, and so does the write of the line.
-const FAULTS: &str = "case reads that fail
+pub(crate) const FAULTS: &str = "case reads that fail
 take follower t
 take follower u
 reads 200
@@ -372,23 +368,3 @@ run pg_walcompare t u
 err pg_walcompare: error: SinkFault
 status 3
 ";
-
-#[test]
-fn replayed_clusters_are_compared(rt: HostRuntime) {
-    check(&rt, &[NAMES, CLUSTERS, FOLLOWS, REPLAYED]);
-}
-
-#[test]
-fn differences_are_told(rt: HostRuntime) {
-    check(&rt, &[NAMES, FOLLOWS, COMPARED]);
-}
-
-#[test]
-fn a_comparison_is_refused(rt: HostRuntime) {
-    check(&rt, &[NAMES, FOLLOWS, REFUSED]);
-}
-
-#[test]
-fn a_comparison_breaks_off(rt: HostRuntime) {
-    check(&rt, &[NAMES, FOLLOWS, FAULTS]);
-}

@@ -1,9 +1,7 @@
 // Control files of clusters, whose checksums an independent script gives.
-use super::driver::check;
-use super::names::NAMES;
 
 // What is looked at in two control files, in order.
-const PAIRS: &str = "case Crc t 95208C9A A4E9CA92 of a pair
+pub(crate) const PAIRS: &str = "case Crc t 95208C9A A4E9CA92 of a pair
 control t
 control t2
 put t/global/pg_control 100 01
@@ -116,7 +114,7 @@ bytes t2/global/pg_control 288 83829135
 ";
 
 // Control files that are not there or too short.
-const MISSING: &str = "case a control file that is missing or short
+pub(crate) const MISSING: &str = "case a control file that is missing or short
 control t
 folder s
 folder s/global
@@ -136,7 +134,7 @@ status 1
 ";
 
 // The control file of the source of the example pair, some lines of it.
-const SHOWN: &str = "case a control file is shown
+pub(crate) const SHOWN: &str = "case a control file is shown
 control t2 time=1700000000 checkPoint=1048800 cp.redo=1048800 cp.tli=2 cp.prevTli=1 cp.fpw=1 cp.nextXid=701 cp.nextOid=16385 cp.nextMulti=1 cp.oldestXid=700 cp.oldestXidDb=1 cp.oldestMulti=1 cp.oldestMultiDb=1 cp.time=1700000000
 run pg_controldata t2
 has Database cluster state:               shut down
@@ -147,7 +145,7 @@ status 0
 ";
 
 // Devices that fail.
-const FAULTS: &str = "case writes that fail
+pub(crate) const FAULTS: &str = "case writes that fail
 control t2 time=1700000000 checkPoint=1048800 cp.redo=1048800 cp.tli=2 cp.prevTli=1 cp.fpw=1 cp.nextXid=701 cp.nextOid=16385 cp.nextMulti=1 cp.oldestXid=700 cp.oldestXidDb=1 cp.oldestMulti=1 cp.oldestMultiDb=1 cp.time=1700000000
 control t
 run pg_controldata t2
@@ -195,23 +193,3 @@ err $same
 err $needless
 status 0
 ";
-
-#[test]
-fn a_rewind_looks_at_both_control_files(rt: HostRuntime) {
-    check(&rt, &[NAMES, PAIRS]);
-}
-
-#[test]
-fn a_control_file_is_missing_or_short(rt: HostRuntime) {
-    check(&rt, &[MISSING]);
-}
-
-#[test]
-fn a_control_file_is_shown(rt: HostRuntime) {
-    check(&rt, &[SHOWN]);
-}
-
-#[test]
-fn a_device_that_fails_ends_a_run(rt: HostRuntime) {
-    check(&rt, &[NAMES, FAULTS]);
-}

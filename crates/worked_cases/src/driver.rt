@@ -7,7 +7,6 @@ mod line;
 mod log;
 mod names;
 mod outcome;
-mod parts;
 mod scene;
 mod setup;
 mod told;
@@ -22,16 +21,17 @@ fn take_text<R: AllocGlobal + Abort>(rt: &R, scene: &mut Scene, text: &str) {
     }
 }
 
-/// What differs from what the cases of these texts want, a line for each difference.
-pub(crate) fn differences<R: AllocGlobal + Abort>(rt: &R, texts: &[&str]) -> String {
+/// Runs the cases of these texts, of which this has to be told, a line for each difference.
+pub(crate) fn check_told<R: AllocGlobal + Abort>(rt: &R, texts: &[&str], wanted: &str) {
     let mut scene = Scene::new(rt.alloc());
     for text in texts {
         take_text(rt, &mut scene, text);
     }
-    scene.told(rt)
+    let told = scene.told(rt);
+    assert!(rt; told == wanted, "{told}");
 }
 
 /// Runs the cases of these texts, in which nothing may differ.
 pub(crate) fn check<R: AllocGlobal + Abort>(rt: &R, texts: &[&str]) {
-    assert_eq!(rt; differences(rt, texts).as_str(), "");
+    check_told(rt, texts, "");
 }

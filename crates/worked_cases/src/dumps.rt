@@ -1,9 +1,7 @@
 // Dumps of logs, from their start to their end. Lines are written out from the format.
-use super::driver::check;
-use super::names::NAMES;
 
 // Where dumps begin and end, and what they are refused for.
-const LOGS: &str = "case the log of the example pair
+pub(crate) const LOGS: &str = "case the log of the example pair
 folder t
 folder t/pg_wal
 log t/pg_wal
@@ -213,7 +211,7 @@ status 1
 ";
 
 // The first page of the log of the source; the sum of its record is what an independent script gives.
-const SEGMENT: &str = "case the segment of the example pair, byte by byte
+pub(crate) const SEGMENT: &str = "case the segment of the example pair, byte by byte
 folder s
 folder s/pg_wal
 zeros s/pg_wal/000000010000000000000001 8192
@@ -225,7 +223,7 @@ status 1
 ";
 
 // Devices that fail.
-const FAULTS: &str = "case reads that fail
+pub(crate) const FAULTS: &str = "case reads that fail
 folder t
 folder t/pg_wal
 log t/pg_wal
@@ -247,18 +245,3 @@ run pg_waldump -p t -q -s 0/100028 -n 2
 failing out from 1
 status 0
 ";
-
-#[test]
-fn logs_are_shown(rt: HostRuntime) {
-    check(&rt, &[NAMES, LOGS]);
-}
-
-#[test]
-fn a_segment_is_shown(rt: HostRuntime) {
-    check(&rt, &[NAMES, SEGMENT]);
-}
-
-#[test]
-fn a_device_that_fails_ends_a_dump(rt: HostRuntime) {
-    check(&rt, &[NAMES, FAULTS]);
-}

@@ -1,8 +1,7 @@
 // The words of pg_waldump that are refused.
-use super::driver::check;
 
 // Words that are in no grammar.
-const REFUSED: &str = "case words of pg_waldump that are refused
+pub(crate) const REFUSED: &str = "case words of pg_waldump that are refused
 run pg_waldump
 err pg_waldump: error: Usage
 status 1
@@ -150,8 +149,3 @@ word\x20
 err pg_waldump: error: Usage
 status 1
 ";
-
-#[test]
-fn faulty_words_are_told(rt: HostRuntime) {
-    check(&rt, &[REFUSED]);
-}

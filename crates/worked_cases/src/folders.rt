@@ -1,8 +1,8 @@
 // Where the log of a dump lies. Heads of segments are written out from the format of a page's header.
-use super::driver::check;
 
 // The folder of a log.
-const FOLDERS: &str = "# Segments of 40 bytes, the head alone: a log that is found has no record.
+pub(crate) const FOLDERS: &str =
+    "# Segments of 40 bytes, the head alone: a log that is found has no record.
 case a log in the folder or in pg_wal
 folder d
 file d/000000010000000000000001 13D10200010000000000100000000000000000000000000001000000000000000000100000200000
@@ -111,7 +111,7 @@ status 1
 ";
 
 // Which files are segments, and the size that one tells.
-const SEGMENTS: &str = "case 40 bytes, byte 34 is 16
+pub(crate) const SEGMENTS: &str = "case 40 bytes, byte 34 is 16
 folder d
 file d/000000010000000000000001 13D10200010000000000100000000000000000000000000001000000000000000000100000200000
 run pg_waldump d/000000010000000000000001
@@ -221,7 +221,7 @@ status 1
 ";
 
 // The start and the stop, in segments of 1 MB.
-const BOUNDS: &str = "case a start lies in its segment, and the last segment behind it
+pub(crate) const BOUNDS: &str = "case a start lies in its segment, and the last segment behind it
 folder d
 file d/000000010000000000000001 13D10200010000000000100000000000000000000000000001000000000000000000100000200000
 file d/000000010000000000001000 13D10200010000000000100000000000000000000000000001000000000000000000100000200000
@@ -269,18 +269,3 @@ run pg_waldump d/00000001FFFFFFFF00000FFF
 err pg_waldump: error: NoRecordAt FFFFFFFF/FFF00000
 status 1
 ";
-
-#[test]
-fn a_log_is_looked_for(rt: HostRuntime) {
-    check(&rt, &[FOLDERS]);
-}
-
-#[test]
-fn a_segment_tells_the_size(rt: HostRuntime) {
-    check(&rt, &[SEGMENTS]);
-}
-
-#[test]
-fn bounds_suit_the_segments(rt: HostRuntime) {
-    check(&rt, &[BOUNDS]);
-}

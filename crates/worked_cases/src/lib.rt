@@ -5,6 +5,8 @@
 #[cfg(test)]
 mod bodies;
 #[cfg(test)]
+mod cases;
+#[cfg(test)]
 mod clean_ups;
 #[cfg(test)]
 mod comparisons;

@@ -1,9 +1,7 @@
 // The options of pg_waldump.
-use super::driver::check;
-use super::names::NAMES;
 
 // Each option, and each form of its value.
-const OPTIONS: &str = "case each option by its letter and by its name
+pub(crate) const OPTIONS: &str = "case each option by its letter and by its name
 folder t
 folder t/pg_wal
 log t/pg_wal
@@ -255,8 +253,3 @@ run pg_waldump -r list -n x
 err pg_waldump: error: Usage
 status 1
 ";
-
-#[test]
-fn each_option_counts(rt: HostRuntime) {
-    check(&rt, &[NAMES, OPTIONS]);
-}

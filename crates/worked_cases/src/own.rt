@@ -1,5 +1,5 @@
 // What the driver itself tells.
-use super::driver::differences;
+use super::driver::check_told;
 
 // Nearly each line here asks for what isn't so.
 const WRONG: &str = "case wrong
@@ -43,5 +43,5 @@ wrong: words without a status
 
 #[test]
 fn what_differs_is_told(rt: HostRuntime) {
-    assert_eq!(rt; differences(&rt, &[WRONG]).as_str(), TOLD);
+    check_told(&rt, &[WRONG], TOLD);
 }

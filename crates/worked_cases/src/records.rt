@@ -1,8 +1,7 @@
 // Records of each operation, and what is shown of them, whole and cut by one byte. The texts are those of
 // docs/RECORDS.md, and places and sizes are counted by an independent script.
-use super::driver::check;
 
-const RECORDS: &str = "case records of XLOG
+pub(crate) const XLOG: &str = "case records of XLOG
 folder t
 folder t/pg_wal
 log t/pg_wal
@@ -63,7 +62,9 @@ out rmgr: XLOG        len (rec/tot):     24/    24, tx:        700, lsn: 0/00100
 out rmgr: XLOG        len (rec/tot):     42/    42, tx:        700, lsn: 0/00100630, prev 0/00100618, desc: OVERWRITE_CONTRECORD lsn 1/100028
 out rmgr: XLOG        len (rec/tot):     41/    41, tx:        700, lsn: 0/00100660, prev 0/00100630, desc: OVERWRITE_CONTRECORD (short)
 status 0
-case records of Transaction
+";
+
+pub(crate) const TRANSACTION: &str = "case records of Transaction
 folder t
 folder t/pg_wal
 log t/pg_wal
@@ -102,7 +103,9 @@ out rmgr: Transaction len (rec/tot):     24/    24, tx:        700, lsn: 0/00100
 out rmgr: Transaction len (rec/tot):     34/    34, tx:        700, lsn: 0/001002C8, prev 0/001002B0, desc: ABORT_PREPARED time 11
 out rmgr: Transaction len (rec/tot):     33/    33, tx:        700, lsn: 0/001002F0, prev 0/001002C8, desc: ABORT_PREPARED (short)
 status 0
-case records of Storage to Sequence
+";
+
+pub(crate) const STORAGE_TO_SEQUENCE: &str = "case records of Storage to Sequence
 folder t
 folder t/pg_wal
 log t/pg_wal
@@ -185,7 +188,9 @@ out rmgr: Standby     len (rec/tot):     24/    24, tx:        700, lsn: 0/00100
 out rmgr: Sequence    len (rec/tot):     38/    38, tx:        700, lsn: 0/00100610, prev 0/001005F8, desc: LOG rel 1663/5/16384
 out rmgr: Sequence    len (rec/tot):     37/    37, tx:        700, lsn: 0/00100638, prev 0/00100610, desc: LOG (short)
 status 0
-case records of Heap
+";
+
+pub(crate) const HEAP: &str = "case records of Heap
 folder t
 folder t/pg_wal
 log t/pg_wal
@@ -236,7 +241,9 @@ out rmgr: Heap        len (rec/tot):     33/    33, tx:        700, lsn: 0/00100
 out rmgr: Heap        len (rec/tot):     28/    28, tx:        700, lsn: 0/00100318, prev 0/001002F0, desc: INPLACE off: 65535
 out rmgr: Heap        len (rec/tot):     27/    27, tx:        700, lsn: 0/00100338, prev 0/00100318, desc: INPLACE (short)
 status 0
-case records of Heap2
+";
+
+pub(crate) const HEAP2: &str = "case records of Heap2
 folder t
 folder t/pg_wal
 log t/pg_wal
@@ -273,7 +280,9 @@ out rmgr: Heap2       len (rec/tot):     33/    33, tx:        700, lsn: 0/00100
 out rmgr: Heap2       len (rec/tot):     30/    30, tx:        700, lsn: 0/001001F0, prev 0/001001C8, desc: MULTI_INSERT+INIT ntuples: 3, flags: 0x02
 out rmgr: Heap2       len (rec/tot):     29/    29, tx:        700, lsn: 0/00100210, prev 0/001001F0, desc: MULTI_INSERT+INIT (short)
 status 0
-case records of Btree
+";
+
+pub(crate) const BTREE: &str = "case records of Btree
 folder t
 folder t/pg_wal
 log t/pg_wal
@@ -330,7 +339,10 @@ out rmgr: Btree       len (rec/tot):     29/    29, tx:        700, lsn: 0/00100
 out rmgr: Btree       len (rec/tot):     24/    24, tx:        700, lsn: 0/00100330, prev 0/00100310, desc: REUSE_PAGE\x20
 out rmgr: Btree       len (rec/tot):     24/    24, tx:        700, lsn: 0/00100348, prev 0/00100330, desc: META_CLEANUP\x20
 status 0
-# the byte that says whether the relation is a catalog may be missing; bytes behind a layout change nothing;
+";
+
+pub(crate) const NO_PART: &str =
+    "# the byte that says whether the relation is a catalog may be missing; bytes behind a layout change nothing;
 # a fork above 3 and a negative number are short; NEW_CID and what is in no table have no text
 case what is no part of a layout
 folder t
@@ -378,8 +390,3 @@ out rmgr: Hash        len (rec/tot):     66/    66, tx:        700, lsn: 0/00100
 out rmgr: LogicalMessage len (rec/tot):     66/    66, tx:        700, lsn: 0/00100370, prev 0/00100328, desc: INFO_00\x20
 status 0
 ";
-
-#[test]
-fn records_say_what_they_do(rt: HostRuntime) {
-    check(&rt, &[RECORDS]);
-}

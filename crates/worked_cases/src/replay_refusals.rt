@@ -1,9 +1,6 @@
 // Why no replay is begun. Nothing is changed then.
-use super::driver::check;
-use super::names::NAMES;
-use super::replays::FOLLOWS;
 
-const REFUSED: &str = "case a cluster that ends too soon
+pub(crate) const REFUSED: &str = "case a cluster that ends too soon
 take follower t
 put t/pg_wal/000000020000000000000001 184 01
 run pg_walreplay t
@@ -75,8 +72,3 @@ run pg_walreplay t
 err pg_walreplay: error: ControlMissing t
 status 1
 ";
-
-#[test]
-fn a_replay_is_refused(rt: HostRuntime) {
-    check(&rt, &[NAMES, FOLLOWS, REFUSED]);
-}

@@ -1,8 +1,5 @@
 // Replays that are made: the example pair whole, and clusters that follow its source. Positions and
 // bytes are worked out by hand from the formats.
-use super::driver::check;
-use super::names::NAMES;
-use super::rewinds::CLUSTERS;
 
 /// The source's log behind the fork: an insert into block 2 at 0/1000A0, and a shutdown checkpoint at
 /// 0/1000E0. Of a cluster that follows it: its control file, three empty heap pages, its history, its log
@@ -66,7 +63,7 @@ whole
 ";
 
 // What is changed, call by call, and what stands there then.
-const MADE: &str = "case the example pair
+pub(crate) const MADE: &str = "case the example pair
 take pair
 run pg_rewind -D t --source-pgdata s
 err $parted
@@ -178,7 +175,7 @@ bytes t/global/pg_control 136 E00010000000000002000000
 ";
 
 // Once the mark is made it stays, but for a replay that is done.
-const BROKEN: &str = "case a page that is not there
+pub(crate) const BROKEN: &str = "case a page that is not there
 take copy t
 take pages t
 take history t
@@ -285,13 +282,3 @@ call sync
 status 3
 absent t/pg_walreplay.unfinished
 ";
-
-#[test]
-fn a_log_is_replayed(rt: HostRuntime) {
-    check(&rt, &[NAMES, CLUSTERS, FOLLOWS, MADE]);
-}
-
-#[test]
-fn a_replay_breaks_off(rt: HostRuntime) {
-    check(&rt, &[NAMES, CLUSTERS, FOLLOWS, BROKEN]);
-}

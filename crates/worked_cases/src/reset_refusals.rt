@@ -1,8 +1,7 @@
 // Resets that are refused, and calls that fail.
-use super::driver::check;
 
 // What is refused, in the order in which it is looked for.
-const REFUSED: &str = "case marks of unfinished runs, of each command
+pub(crate) const REFUSED: &str = "case marks of unfinished runs, of each command
 folder t
 file t/pg_rewind.unfinished
 run pg_resetwal t
@@ -118,7 +117,7 @@ status 1
 ";
 
 // Calls that fail.
-const FAULTS: &str = "case each read fails in turn, and nothing is changed
+pub(crate) const FAULTS: &str = "case each read fails in turn, and nothing is changed
 control t checkPoint=1048616 cp.redo=1048616 cp.fpw=1 cp.nextXid=700 cp.nextOid=16385 cp.nextMulti=1 cp.oldestXid=700 cp.oldestXidDb=1 cp.oldestMulti=1 cp.oldestMultiDb=1
 folder t/pg_wal
 file t/pg_wal/000000010000000000000001 01
@@ -274,13 +273,3 @@ run pg_resetwal -n t
 err pg_resetwal: error: SinkFault
 status 3
 ";
-
-#[test]
-fn a_reset_is_refused_before_it_begins(rt: HostRuntime) {
-    check(&rt, &[REFUSED]);
-}
-
-#[test]
-fn a_reset_stops_at_the_first_fault(rt: HostRuntime) {
-    check(&rt, &[FAULTS]);
-}

@@ -1,8 +1,8 @@
 // The words of pg_resetwal.
-use super::driver::check;
 
 // Values of options, by the control file's text.
-const NUMBERS: &str = "case numbers are decimal, octal behind a 0 and hexadecimal behind 0x
+pub(crate) const NUMBERS: &str =
+    "case numbers are decimal, octal behind a 0 and hexadecimal behind 0x
 control t checkPoint=1048616 cp.redo=1048616 cp.fpw=1 cp.nextXid=700 cp.nextOid=16385 cp.nextMulti=1 cp.oldestXid=700 cp.oldestXidDb=1 cp.oldestMulti=1 cp.oldestMultiDb=1
 folder t/pg_wal
 file t/pg_wal/000000010000000000000001 01
@@ -65,7 +65,7 @@ status 0
 ";
 
 // Words that are refused, before a path is.
-const FAULTY: &str = "case each rule on words
+pub(crate) const FAULTY: &str = "case each rule on words
 control t checkPoint=1048616 cp.redo=1048616 cp.fpw=1 cp.nextXid=700 cp.nextOid=16385 cp.nextMulti=1 cp.oldestXid=700 cp.oldestXidDb=1 cp.oldestMulti=1 cp.oldestMultiDb=1
 folder t/pg_wal
 file t/pg_wal/000000010000000000000001 01
@@ -270,13 +270,3 @@ run pg_resetwal a/a/a/a/a/a/a/a/a/a/a/a/a/a/a/a/a/a/a/a/a/a/a/a/a/a/a/a/a/a/a/a/
 err pg_resetwal: error: TooDeep a/a/a/a/a/a/a/a/a/a/a/a/a/a/a/a/a/a/a/a/a/a/a/a/a/a/a/a/a/a/a/a/a/a/a/a/a/a/a/a/a/a/a/a/a/a/a/a/a/a/a/a/a/a/a/a/a/a/a/a/a/a
 status 1
 ";
-
-#[test]
-fn numbers_of_a_reset_are_read(rt: HostRuntime) {
-    check(&rt, &[NUMBERS]);
-}
-
-#[test]
-fn faulty_words_of_a_reset_are_told(rt: HostRuntime) {
-    check(&rt, &[FAULTY]);
-}

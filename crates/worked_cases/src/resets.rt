@@ -1,9 +1,8 @@
 // Resets of a log, as the reference page of pg_resetwal says. The bytes and the text that are wanted come
 // from a script of its own that follows the formats.
-use super::driver::check;
 
 // What a reset does.
-const MADE: &str = "case a new segment behind all others
+pub(crate) const MADE: &str = "case a new segment behind all others
 control t checkPoint=1048616 cp.redo=1048616 cp.fpw=1 cp.nextXid=700 cp.nextOid=16385 cp.nextMulti=1 cp.oldestXid=700 cp.oldestXidDb=1 cp.oldestMulti=1 cp.oldestMultiDb=1
 folder t/pg_wal
 file t/pg_wal/000000010000000000000001 01
@@ -144,7 +143,7 @@ bytes t/global/pg_control 16 01000000
 ";
 
 // What a dry run prints.
-const DRY: &str = "case the text of the new control file, and nothing is changed
+pub(crate) const DRY: &str = "case the text of the new control file, and nothing is changed
 control t checkPoint=1048616 cp.redo=1048616 cp.fpw=1 cp.nextXid=700 cp.nextOid=16385 cp.nextMulti=1 cp.oldestXid=700 cp.oldestXidDb=1 cp.oldestMulti=1 cp.oldestMultiDb=1 state=6
 folder t/pg_wal
 file t/pg_wal/000000010000000000000001 01
@@ -208,13 +207,3 @@ run pg_resetwal -nf -D t
 has Latest checkpoint location:           0/400028
 status 0
 ";
-
-#[test]
-fn a_log_is_reset(rt: HostRuntime) {
-    check(&rt, &[MADE]);
-}
-
-#[test]
-fn a_dry_run_prints_the_new_control_file(rt: HostRuntime) {
-    check(&rt, &[DRY]);
-}

@@ -1,12 +1,9 @@
 // Rewinds in which a call of the tree fails, each behind the looks in turn. The order of calls is that of
 // docs/FORMATS.md.
-use super::driver::check;
-use super::names::NAMES;
-use super::rewinds::CLUSTERS;
 
 // A call of the tree. Behind 35 looks come the mark and its sync, a file's kind, the file, its bytes and
 // their write, and so on.
-const CALLS: &str = "case the mark is not made
+pub(crate) const CALLS: &str = "case the mark is not made
 control $target
 folder t/pg_wal
 log t/pg_wal
@@ -363,8 +360,3 @@ run pg_rewind -D t --source-pgdata s
 err pg_rewind: error: NotClean t 5
 status 1
 ";
-
-#[test]
-fn a_call_that_fails_ends_a_rewind(rt: HostRuntime) {
-    check(&rt, &[NAMES, CLUSTERS, CALLS]);
-}

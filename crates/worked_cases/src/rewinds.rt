@@ -1,7 +1,5 @@
 // Rewinds of the example pair and of pairs like it. Positions and bytes are worked out by hand from the
 // formats.
-use super::driver::check;
-use super::names::NAMES;
 
 /// The clusters: a target whose last checkpoint is the third record of its log, one that was shut down with
 /// the first, and a source on timeline 2, which left timeline 1 at 0/1000A0. What is told of them.
@@ -17,7 +15,7 @@ name done pg_rewind: Done!
 ";
 
 // What a dry run reports, and what is told where nothing is to be done.
-const REPORTS: &str = "case the example pair
+pub(crate) const REPORTS: &str = "case the example pair
 control $target
 folder t/pg_wal
 log t/pg_wal
@@ -68,7 +66,7 @@ status 0
 ";
 
 // Histories that refuse.
-const HISTORIES: &str = "case no history of the source
+pub(crate) const HISTORIES: &str = "case no history of the source
 control $target
 folder t/pg_wal
 log t/pg_wal
@@ -154,7 +152,7 @@ status 1
 ";
 
 // Devices that fail.
-const FAULTS: &str = "case writes that fail
+pub(crate) const FAULTS: &str = "case writes that fail
 control $target
 folder t/pg_wal
 log t/pg_wal
@@ -194,18 +192,3 @@ err $rewinding
 err $done
 status 0
 ";
-
-#[test]
-fn a_rewind_is_reported(rt: HostRuntime) {
-    check(&rt, &[NAMES, CLUSTERS, REPORTS]);
-}
-
-#[test]
-fn a_history_refuses(rt: HostRuntime) {
-    check(&rt, &[NAMES, CLUSTERS, HISTORIES]);
-}
-
-#[test]
-fn a_device_that_fails_ends_a_report(rt: HostRuntime) {
-    check(&rt, &[NAMES, CLUSTERS, FAULTS]);
-}

@@ -1,11 +1,8 @@
 // Rewinds that are made, and what else refuses one. Positions and bytes are worked out by hand from the
 // formats.
-use super::driver::check;
-use super::names::NAMES;
-use super::rewinds::CLUSTERS;
 
 // What is changed, call by call, and what stands there then.
-const MADE: &str = "case the example pair
+pub(crate) const MADE: &str = "case the example pair
 control $target
 folder t/base
 folder t/base/5
@@ -160,7 +157,7 @@ absent t/postmaster.pid
 ";
 
 // What lies below the roots refuses.
-const PATHS: &str = "case a file and a folder
+pub(crate) const PATHS: &str = "case a file and a folder
 control $target
 folder t/pg_wal
 log t/pg_wal
@@ -299,7 +296,7 @@ status 1
 ";
 
 // A line that standard error doesn't take.
-const LINES: &str = "case the first line fails
+pub(crate) const LINES: &str = "case the first line fails
 control $target
 folder t/pg_wal
 log t/pg_wal
@@ -377,18 +374,3 @@ run pg_rewind -D t --source-pgdata s
 err pg_rewind: error: NotClean t 5
 status 1
 ";
-
-#[test]
-fn a_rewind_is_made(rt: HostRuntime) {
-    check(&rt, &[NAMES, CLUSTERS, MADE]);
-}
-
-#[test]
-fn a_path_refuses(rt: HostRuntime) {
-    check(&rt, &[NAMES, CLUSTERS, PATHS]);
-}
-
-#[test]
-fn a_line_that_fails_ends_a_rewind(rt: HostRuntime) {
-    check(&rt, &[NAMES, CLUSTERS, LINES]);
-}

@@ -1,10 +1,7 @@
 // Logs of a target that a rewind refuses. Positions and bytes are worked out by hand from the formats.
-use super::driver::check;
-use super::names::NAMES;
-use super::rewinds::CLUSTERS;
 
 // Logs that refuse at the target's end or on the walk back.
-const WALKS: &str = "case no log of the target
+pub(crate) const WALKS: &str = "case no log of the target
 control $target
 folder t/pg_wal
 control $source
@@ -122,7 +119,7 @@ status 1
 ";
 
 // Logs that refuse while they are read.
-const READINGS: &str = "case a log that ends before the target's end
+pub(crate) const READINGS: &str = "case a log that ends before the target's end
 control t checkPoint=1048616 cp.redo=1048616 cp.tli=1 cp.prevTli=1 cp.fpw=1 cp.nextXid=701 cp.nextOid=16385 cp.nextMulti=1 cp.oldestXid=700 cp.oldestXidDb=1 cp.oldestMulti=1 cp.oldestMultiDb=1 cp.time=1700000000 time=1700000000 minRecoveryPoint=1049088
 folder t/pg_wal
 log t/pg_wal
@@ -206,13 +203,3 @@ run pg_rewind -D t --source-pgdata s
 err pg_rewind: error: EndNotRecord 0/1000C0 0/1000E0
 status 1
 ";
-
-#[test]
-fn a_walk_over_the_log_refuses(rt: HostRuntime) {
-    check(&rt, &[NAMES, CLUSTERS, WALKS]);
-}
-
-#[test]
-fn a_record_of_the_log_refuses(rt: HostRuntime) {
-    check(&rt, &[NAMES, CLUSTERS, READINGS]);
-}

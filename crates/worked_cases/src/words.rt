@@ -1,9 +1,7 @@
 // The words of the commands.
-use super::driver::check;
-use super::names::NAMES;
 
 // Words that are in no grammar, and folders with no room for a pair.
-const REFUSED: &str = "case words that are refused
+pub(crate) const REFUSED: &str = "case words that are refused
 control t
 control t2
 word\x20
@@ -124,7 +122,7 @@ status 1
 ";
 
 // The order of what is wrong with two roots.
-const ROOTS: &str = "case the roots of a rewind
+pub(crate) const ROOTS: &str = "case the roots of a rewind
 control t
 control t2
 run pg_rewind -nD t --source-pgdata t/s
@@ -161,7 +159,7 @@ status 0
 ";
 
 // Each form in which words may be given.
-const FORMS: &str = "case words in each form
+pub(crate) const FORMS: &str = "case words in each form
 control t
 control t2
 run pg_rewind --source-pgdata t2 -D t
@@ -203,18 +201,3 @@ run pg_controldata -- t
 has pg_control version number:            1300
 status 0
 ";
-
-#[test]
-fn words_are_refused(rt: HostRuntime) {
-    check(&rt, &[REFUSED]);
-}
-
-#[test]
-fn the_roots_of_a_rewind_are_refused(rt: HostRuntime) {
-    check(&rt, &[ROOTS]);
-}
-
-#[test]
-fn words_are_read_in_each_form(rt: HostRuntime) {
-    check(&rt, &[NAMES, FORMS]);
-}

@@ -4,22 +4,64 @@ use cluster_tree::FailPlan;
 use std::alloc::Global;
 use std::process::Abort;
 
-/// What a run is asked to do, and what it has to do then.
+/// Which calls of a run fail.
 #[derive(Drop)]
-pub(crate) struct Asked {
-    pub(crate) words: Vec<String>,
-    pub(crate) now: i64,
+pub(crate) struct Fails {
+    pub(crate) tree: FailPlan,
+    pub(crate) out: FailPlan,
+    pub(crate) err: FailPlan,
+    /// How many of the first reads are made to fail once each, before the words run as they are asked to.
+    pub(crate) reads: u64,
+}
+
+/// How a run has to end, and what it has to write and to change.
+#[derive(Drop)]
+pub(crate) struct Wanted {
     pub(crate) status: u8,
-    pub(crate) tree_fails: FailPlan,
-    pub(crate) out_fails: FailPlan,
-    pub(crate) err_fails: FailPlan,
-    /// How many reads it makes at most; each of them is made to fail once.
-    pub(crate) reads: Option<u64>,
     pub(crate) out: String,
     pub(crate) err: String,
     /// Lines that standard output has among others, in place of `out`.
     pub(crate) has: String,
     pub(crate) calls: String,
+}
+
+/// What a run is asked to do, and what it has to do then.
+#[derive(Drop)]
+pub(crate) struct Asked {
+    pub(crate) words: Vec<String>,
+    pub(crate) now: i64,
+    pub(crate) fails: Fails,
+    pub(crate) wanted: Wanted,
+}
+
+impl Fails {
+    // None fails.
+    fn none() -> Fails {
+        Fails {
+            tree: FailPlan::Never,
+            out: FailPlan::Never,
+            err: FailPlan::Never,
+            reads: 0,
+        }
+    }
+
+    // `failing tree|out|err at|from N`: which calls fail.
+    fn add<R: Abort>(&mut self, rt: &R, behind: &str) {
+        let (what, behind) = first_word(behind);
+        let plan = plan(rt, behind);
+        match what {
+            "tree" => self.tree = plan,
+            "out" => self.out = plan,
+            "err" => self.err = plan,
+            _ => panic!(rt; "what fails?"),
+        }
+    }
+
+    // `reads N`: each of the first N reads fails once, and then the one behind them, if there is one.
+    fn add_reads(&mut self, reads: u64) {
+        self.reads = reads;
+        self.tree = FailPlan::At(reads.saturating_add(1));
+    }
 }
 
 // Adds a line to a text.
@@ -28,21 +70,39 @@ fn add_line<R: Abort>(rt: &R, text: &mut String, line: &str) {
     add(rt, text, "\n");
 }
 
+impl Wanted {
+    // Nothing is wanted.
+    fn new(alloc: Global) -> Wanted {
+        Wanted {
+            status: 0,
+            out: String::new(alloc),
+            err: String::new(alloc),
+            has: String::new(alloc),
+            calls: String::new(alloc),
+        }
+    }
+
+    // Takes a line that says what is wanted, if it is one.
+    fn take<R: Abort>(&mut self, rt: &R, verb: &str, behind: &str) -> bool {
+        match verb {
+            "out" => add_line(rt, &mut self.out, behind),
+            "err" => add_line(rt, &mut self.err, behind),
+            "has" => add_line(rt, &mut self.has, behind),
+            "call" => add_line(rt, &mut self.calls, behind),
+            _ => return false,
+        }
+        true
+    }
+}
+
 impl Asked {
     /// Nothing is asked for yet.
     pub(crate) fn new(alloc: Global) -> Asked {
         Asked {
             words: Vec::new(alloc),
             now: 1700000000,
-            status: 0,
-            tree_fails: FailPlan::Never,
-            out_fails: FailPlan::Never,
-            err_fails: FailPlan::Never,
-            reads: None,
-            out: String::new(alloc),
-            err: String::new(alloc),
-            has: String::new(alloc),
-            calls: String::new(alloc),
+            fails: Fails::none(),
+            wanted: Wanted::new(alloc),
         }
     }
 
@@ -58,18 +118,6 @@ impl Asked {
         }
     }
 
-    // `failing tree|out|err at|from N`: which calls fail.
-    fn fail<R: Abort>(&mut self, rt: &R, behind: &str) {
-        let (what, behind) = first_word(behind);
-        let plan = plan(rt, behind);
-        match what {
-            "tree" => self.tree_fails = plan,
-            "out" => self.out_fails = plan,
-            "err" => self.err_fails = plan,
-            _ => panic!(rt; "what fails?"),
-        }
-    }
-
     /// Takes a line that says what is run or wanted, if it is one.
     pub(crate) fn take<R: AllocGlobal + Abort>(
         &mut self,
@@ -80,14 +128,10 @@ impl Asked {
         match verb {
             "run" => self.add_words(rt, behind),
             "word" => self.add_word(rt, behind),
-            "failing" => self.fail(rt, behind),
             "now" => self.now = narrow(rt, behind),
-            "reads" => self.reads = Some(number(rt, behind)),
-            "out" => add_line(rt, &mut self.out, behind),
-            "err" => add_line(rt, &mut self.err, behind),
-            "has" => add_line(rt, &mut self.has, behind),
-            "call" => add_line(rt, &mut self.calls, behind),
-            _ => return false,
+            "failing" => self.fails.add(rt, behind),
+            "reads" => self.fails.add_reads(number(rt, behind)),
+            _ => return self.wanted.take(rt, verb, behind),
         }
         true
     }

@@ -2,10 +2,9 @@
 use cluster_tree::{ChangeCall, MemoryTree};
 use std::process::Abort;
 
-// Whether a changing call is a write that goes on where the one before it ends.
+// Whether a changing call behind another is a write that goes on where that one ends.
 fn goes_on(tree: &MemoryTree, at: usize) -> bool {
-    let before = at.checked_sub(1).and_then(|it| tree.change(it));
-    match (before, tree.change(at)) {
+    match (tree.change(at.saturating_sub(1)), tree.change(at)) {
         (Some(ChangeCall::Write(file, start, count)), Some(ChangeCall::Write(next, there, _))) => {
             file.holds(next) && next.holds(file) && start.saturating_add(*count) == *there
         }

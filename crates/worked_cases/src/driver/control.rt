@@ -39,40 +39,40 @@ const FIELDS: [(&str, usize, usize); 28] = [
     ("checksumVersion", 252, 4),
 ];
 
-// The fields of a cluster that was shut down on timeline 1.
-const SHUT_DOWN: [(&str, u64); 13] = [
-    ("sysid", 7300000000000000001),
-    ("version", 1300),
-    ("catalog", 202307071),
-    ("state", 1),
-    ("cp.tli", 1),
-    ("cp.prevTli", 1),
-    ("walLogHints", 1),
-    ("maxAlign", 8),
-    ("floatFormat", 0x4132_D687_0000_0000),
-    ("blcksz", 8192),
-    ("relseg", 131072),
-    ("walBlcksz", 8192),
-    ("walSegSize", 1048576),
-];
+// The fields of a cluster that was shut down on timeline 1; `floatFormat` has the bits of 1234567.0.
+const SHUT_DOWN: &str =
+    "sysid=7300000000000000001 version=1300 catalog=202307071 state=1 cp.tli=1 cp.prevTli=1 \
+walLogHints=1 maxAlign=8 floatFormat=4698053236609777664 blcksz=8192 relseg=131072 walBlcksz=8192 walSegSize=1048576";
 
-fn put(file: &mut [u8; SIZE], at: usize, width: usize, value: u64) {
-    let places = file.iter_mut().skip(at).take(width);
-    for (place, byte) in places.zip(value.to_le_bytes()) {
-        *place = byte;
-    }
+fn put<R: Abort>(rt: &R, file: &mut [u8; SIZE], at: usize, width: usize, value: u64) {
+    assert!(rt; at <= CRC_AT && width <= 8, "no place of a field");
+    file[at..at + width].copy_from_slice(&value.to_le_bytes()[..width]);
 }
 
-fn put_field<R: Abort>(rt: &R, file: &mut [u8; SIZE], field: &str, value: u64) {
-    let known = FIELDS.iter().find(|(name, _, _)| *name == field);
-    let (_, at, width) = known.expect(rt, "no such field");
-    put(file, *at, *width, value);
+// The offset and the width of a field.
+fn place_of(name: &str) -> Option<(usize, usize)> {
+    for (known, at, width) in FIELDS {
+        if known == name {
+            return Some((at, width));
+        }
+    }
+    None
 }
 
 // `NAME=VALUE`.
-fn put_named<R: Abort>(rt: &R, file: &mut [u8; SIZE], field: &str) {
+fn put_field<R: Abort>(rt: &R, file: &mut [u8; SIZE], field: &str) {
     let (name, value) = field.split_once('=').expect(rt, "no value of a field");
-    put_field(rt, file, name, number(rt, value));
+    let (at, width) = place_of(name).expect(rt, "no such field");
+    put(rt, file, at, width, number(rt, value));
+}
+
+// `NAME=VALUE ..`.
+fn put_fields<R: Abort>(rt: &R, file: &mut [u8; SIZE], fields: &str) {
+    for field in fields.split(' ') {
+        if !field.is_empty() {
+            put_field(rt, file, field);
+        }
+    }
 }
 
 fn checksum(file: &[u8; SIZE]) -> u32 {
@@ -81,24 +81,13 @@ fn checksum(file: &[u8; SIZE]) -> u32 {
     sum.value()
 }
 
-fn shut_down<R: Abort>(rt: &R) -> [u8; SIZE] {
-    let mut file = [0; SIZE];
-    for (field, value) in SHUT_DOWN {
-        put_field(rt, &mut file, field, value);
-    }
-    file
-}
-
 /// The bytes of the control file of a cluster that was shut down on timeline 1, with these fields
 /// changed (`NAME=VALUE ..`) and the checksum of them.
 pub(crate) fn control_bytes<R: Abort>(rt: &R, fields: &str) -> [u8; SIZE] {
-    let mut file = shut_down(rt);
-    for field in fields.split(' ') {
-        if !field.is_empty() {
-            put_named(rt, &mut file, field);
-        }
-    }
+    let mut file = [0; SIZE];
+    put_fields(rt, &mut file, SHUT_DOWN);
+    put_fields(rt, &mut file, fields);
     let crc = checksum(&file);
-    put(&mut file, CRC_AT, 4, u64::from(crc));
+    put(rt, &mut file, CRC_AT, 4, u64::from(crc));
     file
 }

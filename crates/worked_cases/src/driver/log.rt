@@ -16,25 +16,23 @@ pub(crate) struct NewLog {
     writer: LogWriter,
 }
 
-// The value of a field `NAME=VALUE` among these, if it is given.
-fn value_of<'a>(fields: &'a str, name: &str) -> Option<&'a str> {
+// What stands behind a field's name and `=` among these, or else this.
+fn value_of<'a>(fields: &'a str, name: &str, missing: &'a str) -> &'a str {
     for field in fields.split(' ') {
-        if let Some((given, value)) = field.split_once('=')
-            && given == name
-        {
-            return Some(value);
+        if let Some(value) = field.strip_prefix(name) {
+            return value;
         }
     }
-    None
+    missing
 }
 
 // Where the log begins, as a position.
 fn start_of<R: Abort>(rt: &R, fields: &str) -> Lsn {
-    Lsn::parse(value_of(fields, "at").unwrap_or("0/100000")).expect(rt, "no position")
+    Lsn::parse(value_of(fields, "at=", "0/100000")).expect(rt, "no position")
 }
 
 fn size_of<R: Abort>(rt: &R, fields: &str) -> SegSize {
-    let size = narrow(rt, value_of(fields, "size").unwrap_or("1048576"));
+    let size = narrow(rt, value_of(fields, "size=", "1048576"));
     SegSize::new(size).expect(rt, "no size of segments")
 }
 
@@ -43,13 +41,9 @@ fn writer_of<R: AllocGlobal + Abort>(
     rt: &R,
     start: Lsn,
     tli: u32,
+    system: u64,
     size: SegSize,
-    fields: &str,
 ) -> LogWriter {
-    let system = number(
-        rt,
-        value_of(fields, "system").unwrap_or("7300000000000000001"),
-    );
     assert!(rt;
         start.0 % u64::from(size.bytes()) == 0 && start.0 < 1 << 63,
         "no start of a segment"
@@ -63,15 +57,16 @@ impl NewLog {
     /// the system 7300000000000000001.
     pub(crate) fn new<R: AllocGlobal + Abort>(rt: &R, behind: &str) -> NewLog {
         let (folder, fields) = first_word(behind);
-        let tli = narrow(rt, value_of(fields, "tli").unwrap_or("1"));
+        let tli = narrow(rt, value_of(fields, "tli=", "1"));
         let start = start_of(rt, fields);
         let size = size_of(rt, fields);
+        let system = number(rt, value_of(fields, "system=", "7300000000000000001"));
         NewLog {
             folder: path(rt, folder),
             tli,
             start: start.0,
             size,
-            writer: writer_of(rt, start, tli, size, fields),
+            writer: writer_of(rt, start, tli, system, size),
         }
     }
 
@@ -105,12 +100,24 @@ impl NewLog {
     pub(crate) fn add_filler<R: AllocGlobal + Abort>(&mut self, rt: &R, behind: &str) {
         let total: u32 = narrow(rt, behind);
         let main = total.saturating_sub(29);
-        let mut body = vec![in rt.alloc(); 254].expect(rt, "no memory");
-        body.extend_from_slice(&main.to_le_bytes())
-            .expect(rt, "no memory");
+        let [a, b, c, d] = main.to_le_bytes();
+        let mut body = vec![in rt.alloc(); 254, a, b, c, d].expect(rt, "no memory");
         body.resize(body.len() + main as usize, 0x5A)
             .expect(rt, "no memory");
         self.append(rt, 0, 0x20, 0, &body);
+    }
+
+    // Puts the segment at a position into the folder.
+    fn put_segment<R: AllocGlobal + Abort>(
+        &self,
+        rt: &R,
+        tree: &mut MemoryTree,
+        at: u64,
+        bytes: &[u8],
+    ) {
+        let segment = Segment::of(self.tli, Lsn(at), self.size);
+        let name = segment.name(rt.alloc()).expect(rt, "no memory");
+        add_file(rt, tree, &below(rt, &self.folder, name.as_str()), bytes);
     }
 
     /// Puts the segments that the log has so far into its folder.
@@ -118,9 +125,7 @@ impl NewLog {
         let size = self.size.bytes();
         let mut at = self.start;
         for bytes in self.writer.bytes().chunks(size as usize) {
-            let segment = Segment::of(self.tli, Lsn(at), self.size);
-            let name = segment.name(rt.alloc()).expect(rt, "no memory");
-            add_file(rt, tree, &below(rt, &self.folder, name.as_str()), bytes);
+            self.put_segment(rt, tree, at, bytes);
             at = at.saturating_add(u64::from(size));
         }
     }

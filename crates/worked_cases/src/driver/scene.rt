@@ -1,11 +1,10 @@
 // What the lines so far made.
 use super::asked::Asked;
 use super::files::holds;
-use super::line::{first_word, narrow, owned};
+use super::line::{first_word, narrow, owned, path};
 use super::log::NewLog;
 use super::names::Named;
 use super::outcome::run_and_compare;
-use super::parts::Parts;
 use super::setup::set_up;
 use super::told::Told;
 use cluster_tree::MemoryTree;
@@ -17,7 +16,6 @@ use std::process::Abort;
 #[derive(Drop)]
 pub(crate) struct Scene {
     named: Named,
-    parts: Parts,
     tree: MemoryTree,
     log: Option<NewLog>,
     asked: Asked,
@@ -29,7 +27,6 @@ impl Scene {
     pub(crate) fn new(alloc: Global) -> Scene {
         Scene {
             named: Named::new(alloc),
-            parts: Parts::new(alloc),
             tree: MemoryTree::new(alloc),
             log: None,
             asked: Asked::new(alloc),
@@ -42,96 +39,110 @@ impl Scene {
         self.end_run(rt);
         self.log = None;
         self.tree = MemoryTree::new(rt.alloc());
-        self.told.begin(rt, name);
+        self.told.case = owned(rt, name);
     }
 
     // Tells words that were not run.
     fn end_run<R: AllocGlobal + Abort>(&mut self, rt: &R) {
         if !self.asked.words.is_empty() {
             self.asked = Asked::new(rt.alloc());
-            self.told.tell(rt, "words without a status");
+            self.told.tell(rt, &["words without a status"]);
         }
     }
 
     // `status N`: runs what was asked, which has to end so.
     fn run<R: AllocGlobal + Abort>(&mut self, rt: &R, behind: &str) {
         let mut asked = mem::replace(&mut self.asked, Asked::new(rt.alloc()));
-        asked.status = narrow(rt, behind);
+        asked.wanted.status = narrow(rt, behind);
         let tree = mem::replace(&mut self.tree, MemoryTree::new(rt.alloc()));
         self.tree = run_and_compare(rt, tree, &asked, &mut self.told);
     }
 
-    // A line of a log that is being written: each record, and where it ends the segments so far.
+    // The log that is being written.
+    fn open_log<R: Abort>(&mut self, rt: &R) -> &mut NewLog {
+        self.log.as_mut().expect(rt, "no log was begun")
+    }
+
+    // `end`: puts the segments of the log into its folder.
+    fn end_log<R: AllocGlobal + Abort>(&mut self, rt: &R) {
+        let log = self.log.take().expect(rt, "no log was begun");
+        log.put(rt, &mut self.tree);
+    }
+
+    // A line of a path: what stands there, or has to.
+    fn take_path<R: AllocGlobal + Abort>(&mut self, rt: &R, verb: &str, behind: &str) -> bool {
+        let (text, words) = first_word(behind);
+        let at = path(rt, text);
+        if set_up(rt, &mut self.tree, verb, &at, words) {
+            return true;
+        }
+        let seen = holds(rt, &mut self.tree, verb, &at, words);
+        if seen == Some(false) {
+            self.told.tell(rt, &["not so: ", verb, " ", behind]);
+        }
+        seen.is_some()
+    }
+
+    // A line of a log that is being written.
     fn take_log<R: AllocGlobal + Abort>(&mut self, rt: &R, verb: &str, behind: &str) -> bool {
-        match (verb, &mut self.log) {
-            ("log", _) => self.log = Some(NewLog::new(rt, behind)),
-            ("record", Some(log)) => log.add_record(rt, behind),
-            ("filler", Some(log)) => log.add_filler(rt, behind),
-            ("end", Some(log)) => {
-                log.put(rt, &mut self.tree);
-                self.log = None;
-            }
-            _ => return false,
+        match verb {
+            "log" => self.log = Some(NewLog::new(rt, behind)),
+            "record" => self.open_log(rt).add_record(rt, behind),
+            "filler" => self.open_log(rt).add_filler(rt, behind),
+            "end" => self.end_log(rt),
+            _ => return self.take_path(rt, verb, behind),
         }
         true
     }
 
-    // A line that belongs to no part of a case.
-    fn take_own<R: AllocGlobal + Abort>(&mut self, rt: &R, verb: &str, behind: &str) -> bool {
+    // A line of a run, or of what the run works on.
+    fn take_run<R: AllocGlobal + Abort>(&mut self, rt: &R, verb: &str, behind: &str) -> bool {
+        self.asked.take(rt, verb, behind) || self.take_log(rt, verb, behind)
+    }
+
+    // Takes a line by its first word and what stands behind it.
+    fn take_words<R: AllocGlobal + Abort>(&mut self, rt: &R, verb: &str, behind: &str) -> bool {
         match verb {
             "" | "#" => {}
             "name" => self.named.add(rt, behind),
             "case" => self.begin(rt, behind),
             "status" => self.run(rt, behind),
-            _ => return false,
+            _ => return self.take_run(rt, verb, behind),
         }
         true
-    }
-
-    // A line of what the tree has to hold.
-    fn look<R: AllocGlobal + Abort>(&mut self, rt: &R, verb: &str, behind: &str) -> bool {
-        let seen = holds(rt, &mut self.tree, verb, behind);
-        if seen == Some(false) {
-            self.told.not_so(rt, verb, behind);
-        }
-        seen.is_some()
-    }
-
-    // Takes a line by its first word and what stands behind it.
-    fn take_words<R: AllocGlobal + Abort>(&mut self, rt: &R, verb: &str, behind: &str) -> bool {
-        self.take_own(rt, verb, behind)
-            || self.asked.take(rt, verb, behind)
-            || self.take_log(rt, verb, behind)
-            || set_up(rt, &mut self.tree, verb, behind)
-            || self.look(rt, verb, behind)
     }
 
     // Takes a line that belongs to no part.
     fn take_line<R: AllocGlobal + Abort>(&mut self, rt: &R, line: &str) {
         let (verb, behind) = first_word(line);
-        let behind = owned(rt, self.named.text_of(behind).expect(rt, "no such name"));
+        let behind = self.named.text_of(rt, behind);
         assert!(rt;
             self.take_words(rt, verb, &behind),
             "not a line of a case: {line}"
         );
     }
 
-    /// Takes a line.
-    pub(crate) fn take<R: AllocGlobal + Abort>(&mut self, rt: &R, line: &str) {
-        if self.parts.keep(rt, line) {
-            return;
-        }
-        let Some(part) = line.strip_prefix("take ") else {
-            return self.take_line(rt, line);
-        };
-        for line in self.parts.lines_of(rt, part).split('\n') {
+    // `take NAME ROOT`: takes the lines of a part.
+    fn take_part<R: AllocGlobal + Abort>(&mut self, rt: &R, behind: &str) {
+        for line in self.named.lines_of(rt, behind).split('\n') {
             self.take_line(rt, line);
         }
     }
 
+    /// Takes a line.
+    pub(crate) fn take<R: AllocGlobal + Abort>(&mut self, rt: &R, line: &str) {
+        if self.named.keep(rt, line) {
+            return;
+        }
+        match line.strip_prefix("take ") {
+            Some(part) => self.take_part(rt, part),
+            None => self.take_line(rt, line),
+        }
+    }
+
     /// All that was told.
-    pub(crate) fn told<R: AllocGlobal + Abort>(mut self, rt: &R) -> String {
+    pub(crate) fn told<R: AllocGlobal + Abort>(&mut self, rt: &R) -> &str {
         self.end_run(rt);
-        self.told.text()
+        self.told.text.as_str()
     }
 }

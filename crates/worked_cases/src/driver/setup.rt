@@ -1,6 +1,6 @@
 // The lines that describe a tree.
 use super::control::control_bytes;
-use super::line::{below, bytes, first_word, narrow, number, path, zeros};
+use super::line::{below, bytes, first_word, narrow, number, zeros};
 use cluster_tree::{MemoryTree, Path, Tree};
 use std::process::Abort;
 
@@ -33,18 +33,18 @@ fn put_bytes<R: AllocGlobal + Abort>(rt: &R, tree: &mut MemoryTree, file: &Path,
 }
 
 // `cut PATH SIZE`: a file of this size.
-fn cut<R: AllocGlobal + Abort>(rt: &R, tree: &mut MemoryTree, file: &Path, size: &str) {
+fn cut<R: Abort>(rt: &R, tree: &mut MemoryTree, file: &Path, size: &str) {
     tree.cut(file, number(rt, size)).expect(rt, "no such file");
 }
 
-// Makes or changes the entry at a path.
-fn set_at<R: AllocGlobal + Abort>(
+/// Carries out a line that describes a tree at a path, if it is one.
+pub(crate) fn set_up<R: AllocGlobal + Abort>(
     rt: &R,
     tree: &mut MemoryTree,
     verb: &str,
     path: &Path,
     words: &str,
-) {
+) -> bool {
     match verb {
         "folder" => add_folder(rt, tree, path),
         "file" => add_file(rt, tree, path, &bytes(rt, words)),
@@ -53,23 +53,8 @@ fn set_at<R: AllocGlobal + Abort>(
         "cut" => cut(rt, tree, path, words),
         "link" => tree.add_link(path).expect(rt, "no room for a link"),
         "badname" => tree.add_bad_name(path).expect(rt, "no such folder"),
-        _ => add_control(rt, tree, path, words),
+        "control" => add_control(rt, tree, path, words),
+        _ => return false,
     }
-}
-
-/// Carries out a line that describes a tree, if it is one.
-pub(crate) fn set_up<R: AllocGlobal + Abort>(
-    rt: &R,
-    tree: &mut MemoryTree,
-    verb: &str,
-    behind: &str,
-) -> bool {
-    let (text, words) = first_word(behind);
-    match verb {
-        "folder" | "file" | "zeros" | "put" | "cut" | "link" | "badname" | "control" => {
-            set_at(rt, tree, verb, &path(rt, text), words);
-            true
-        }
-        _ => false,
-    }
+    true
 }
