@@ -12,7 +12,7 @@ use Rattle.run_acts.specs.Causes.{IsFree, IsOfLook, cause_of, ending_of}
 use Rattle.run_acts.specs.Unseen.{CarriesUnseen}
 use Rattle.run_acts.specs.declared.cause.Cause.{Cause}
 use Rattle.run_acts.specs.declared.cause.Cause.TheVariants as cause
-use Rattle.run_acts.proofs.AnswerSteps.{carries_look, carries_refused, last_exact, last_print}
+use Rattle.run_acts.proofs.AnswerSteps.{IsBreak, break_ends, break_free, carries_look, carries_refused, last_exact, last_print}
 use Rattle.run_acts.proofs.UnseenSteps.{still, unseen_seen, unseen_still}
 use Rattle.run_acts.proofs.WithinSteps.{none-within}
 use Rattle.cmd_pair.specs.Pair.{IsPair, pair_acts, pair_answer, pair_line, places, room_answer, room_refusal}
@@ -20,20 +20,6 @@ use Rattle.cmd_pair.specs.Stays.{StaysInPair}
 use Rattle.cmd_pair.specs.Tried.{IsOfTrial, IsTriedPair, LeavesPair}
 use Rattle.cmd_pair.proofs.FormLemmas.{answer-form, answer-looks}
 use Rattle.cmd_pair.proofs.StayLemmas.{changes_of, state}
-
--- a failure that may break off changes
-abbrev IsBreak : Cause → Type 0
-IsBreak e = (e ≡ cause.WriteFault) ⊎ (e ≡ cause.ReadFault) ⊎ (e ≡ cause.OutOfMemory)
-
-break_free : {e : Cause} → IsBreak e → IsFree e
-break_free (inl is) = inr (inl is)
-break_free (inr (inl is)) = inl is
-break_free (inr (inr is)) = inr (inr (inr is))
-
-break_ends : {e : Cause} → IsBreak e → (ending_of e ≡ WriteFailed) ⊎ (ending_of e ≡ ReadFailed) ⊎ (ending_of e ≡ NoMemory)
-break_ends (inl is) = inl (ap ending_of is)
-break_ends (inr (inl is)) = inr (inl (ap ending_of is))
-break_ends (inr (inr is)) = inr (inr (ap ending_of is))
 
 -- what may come once changes were begun breaks them off, or is what the tree contradicted
 breaks_or_changed : (e : Cause) → IsOfTrial e → IsBreak e ⊎ ((path : PathValue) × (e ≡ cause.Changed path))

@@ -21,7 +21,7 @@ use Rattle.run_acts.specs.Causes.{IsFree, IsOfLook, cause_of, ending_of}
 use Rattle.run_acts.specs.Unseen.{CarriesUnseen}
 use Rattle.run_acts.specs.declared.cause.Cause.{Cause}
 use Rattle.run_acts.specs.declared.cause.Cause.TheVariants as cause
-use Rattle.run_acts.proofs.AnswerSteps.{carries_look, carries_refused, last_exact, last_print, unfree}
+use Rattle.run_acts.proofs.AnswerSteps.{IsBreak, break_ends, break_free, carries_look, carries_refused, last_exact, last_print, unfree}
 use Rattle.run_acts.proofs.UnseenSteps.{still, unseen_seen}
 use Rattle.cmd_walreplay.specs.Walreplay.{IsWalreplay, LeavesReplayed, after_line, begun_answer, broken, checked_answer, done_acts, replay_cause, replayed_line, walreplay_answer}
 use Rattle.cmd_walreplay.proofs.FormLemmas.{answer-form, answer-looks}
@@ -87,20 +87,6 @@ leaves_replayed out out' tells c c' words told (Ok u) is puts line = record {
 leaves_replayed out out' tells c c' words told (Err e) is puts line = tt
 
 -- ---- causes
-
--- a failure that may break off changes
-abbrev IsBreak : Cause → Type 0
-IsBreak e = (e ≡ cause.WriteFault) ⊎ (e ≡ cause.ReadFault) ⊎ (e ≡ cause.OutOfMemory)
-
-break_free : {e : Cause} → IsBreak e → IsFree e
-break_free (inl is) = inr (inl is)
-break_free (inr (inl is)) = inl is
-break_free (inr (inr is)) = inr (inr (inr is))
-
-break_ends : {e : Cause} → IsBreak e → (ending_of e ≡ WriteFailed) ⊎ (ending_of e ≡ ReadFailed) ⊎ (ending_of e ≡ NoMemory)
-break_ends (inl is) = inl (ap ending_of is)
-break_ends (inr (inl is)) = inr (inl (ap ending_of is))
-break_ends (inr (inr is)) = inr (inr (ap ending_of is))
 
 -- a replay breaks off, or is refused
 breaks_or_refused : (f : ReplayFault) → IsOfLook (replay_cause f) ⊎ (f ≡ fault.WriteFault) → IsBreak (replay_cause f) ⊎ (ending_of (replay_cause f) ≡ Refused)

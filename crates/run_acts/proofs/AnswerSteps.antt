@@ -2,12 +2,26 @@
 use Rattle.std.proofs.Common.{◌≡◌, ℕ, ◌⊎◌, Bool, List, [], ◌∷◌, inl, inr, refl, sym, ap, ◌∙◌, subst, Result, Ok, Err, OnOk, OnErr, IfErr}
 use Rattle.cluster_tree.specs.Contents.{Contents}
 use Rattle.cluster_tree.specs.declared.tree.ChangeCall.{ChangeCall}
-use Rattle.acts.specs.Acts.{Act, Look, Print, Report, Do, Within, Ending, Refused, ReadFailed, NoMemory, Sunk, Seen, seen, Puts, Breaks, Performs, ends}
+use Rattle.acts.specs.Acts.{Act, Look, Print, Report, Do, Within, Ending, Refused, WriteFailed, ReadFailed, NoMemory, Sunk, Seen, seen, Puts, Breaks, Performs, ends}
 use Rattle.acts.proofs.ActSteps.{after_reads, look_goes_on, look_breaks, print_goes_on, print_breaks, report_goes_on, report_breaks}
 use Rattle.run_acts.specs.Answers.{Answer, Carries, cause_in, refused, does}
 use Rattle.run_acts.specs.Causes.{IsFree, IsOfLook, cause_of, ending_of}
 use Rattle.run_acts.specs.declared.cause.Cause.{Cause}
 use Rattle.run_acts.specs.declared.cause.Cause.TheVariants as cause
+
+-- a failure that may break off changes
+abbrev pub IsBreak : Cause → Type 0
+IsBreak e = (e ≡ cause.WriteFault) ⊎ (e ≡ cause.ReadFault) ⊎ (e ≡ cause.OutOfMemory)
+
+pub break_free : {e : Cause} → IsBreak e → IsFree e
+break_free (inl is) = inr (inl is)
+break_free (inr (inl is)) = inl is
+break_free (inr (inr is)) = inr (inr (inr is))
+
+pub break_ends : {e : Cause} → IsBreak e → (ending_of e ≡ WriteFailed) ⊎ (ending_of e ≡ ReadFailed) ⊎ (ending_of e ≡ NoMemory)
+break_ends (inl is) = inl (ap ending_of is)
+break_ends (inr (inl is)) = inr (inl (ap ending_of is))
+break_ends (inr (inr is)) = inr (inr (ap ending_of is))
 
 -- acts that begin with a look
 abbrev pub Looks : List Act → Type 0
