@@ -10,19 +10,28 @@ ghost use Rattle.layout.specs.Writing.{laid, value_bytes};
 use crate::row::Row;
 use crate::value::Value;
 
+// Writes bytes at an offset.
+#[tactic(auto, unfolding(crate::specs::Splice::splice))]
+fn put_bytes(into: &mut [u8], at: usize, bytes: &[u8])
+    requires { at + length bytes.now ≤ length into.old }
+    ensures { into.new ≡ splice into.old at bytes.now }
+{
+    into[at..at + bytes.len()].copy_from_slice(bytes);
+}
+
 /// Writes a value at an offset, over what stood there.
-#[tactic(auto, unfolding(crate::specs::Writing::value_bytes, crate::specs::Splice::splice))]
+#[tactic(auto, unfolding(crate::specs::Writing::value_bytes))]
 pub fn put(into: &mut [u8], at: usize, value: Value)
     requires { at + width value ≤ length into.old }
     ensures { into.new ≡ splice into.old at (value_bytes value) }
 {
     match value {
-        Value::Byte(n) => into[at] = n,
-        Value::Half(n) => into[at..at + 2].copy_from_slice(&n.to_le_bytes()),
-        Value::Word(n) => into[at..at + 4].copy_from_slice(&n.to_le_bytes()),
-        Value::Long(n) => into[at..at + 8].copy_from_slice(&n.to_le_bytes()),
-        Value::Signed(n) => into[at..at + 8].copy_from_slice(&n.to_le_bytes()),
-        Value::Raw(bytes) => into[at..at + 32].copy_from_slice(&bytes),
+        Value::Byte(n) => put_bytes(into, at, &[n]),
+        Value::Half(n) => put_bytes(into, at, &n.to_le_bytes()),
+        Value::Word(n) => put_bytes(into, at, &n.to_le_bytes()),
+        Value::Long(n) => put_bytes(into, at, &n.to_le_bytes()),
+        Value::Signed(n) => put_bytes(into, at, &n.to_le_bytes()),
+        Value::Raw(bytes) => put_bytes(into, at, &bytes),
     }
 }
 
