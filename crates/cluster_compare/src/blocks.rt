@@ -19,7 +19,7 @@ use std::alloc::Global;
 const BLOCK: usize = 8192;
 
 /// A segment of a fork, by its number, and how many blocks a segment has at most.
-#[derive(Clone, Copy, Debug)]
+#[derive(Clone, Copy)]
 pub(crate) struct Segment {
     pub(crate) number: u32,
     pub(crate) per_file: u32,

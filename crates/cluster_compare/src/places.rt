@@ -19,14 +19,14 @@ pub(crate) struct Clusters<'a> {
 }
 
 /// A file that a walk told of: its path in the tree, and its size in bytes.
-#[derive(Debug, Drop)]
+#[derive(Drop)]
 pub(crate) struct FileAt {
     pub(crate) path: Path,
     pub(crate) size: u64,
 }
 
 /// The files at one path in both clusters.
-#[derive(Debug, Drop)]
+#[derive(Drop)]
 pub(crate) struct Files {
     pub(crate) first: FileAt,
     pub(crate) second: FileAt,

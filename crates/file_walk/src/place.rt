@@ -12,7 +12,7 @@ use std::alloc::Global;
 pub(crate) const MAX_PARTS: usize = 64;
 
 /// A path, from the root on and in the tree.
-#[derive(Debug, Drop)]
+#[derive(Drop)]
 pub(crate) struct Place {
     /// From the root on.
     pub(crate) own: Path,

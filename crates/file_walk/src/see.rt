@@ -19,7 +19,7 @@ use std::alloc::Global;
 const BLOCK: u64 = 8192;
 
 /// What a path turns out to be, where a cluster may have it there.
-#[derive(Debug, Drop)]
+#[derive(Drop)]
 pub(crate) enum Seen {
     /// A file of so many bytes.
     File(u64),

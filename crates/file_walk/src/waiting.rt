@@ -13,7 +13,7 @@ use std::alloc::Global;
 use std::collections::BTreeMap;
 
 /// A path below a root that a listing has named.
-#[derive(Debug, Drop)]
+#[derive(Drop)]
 pub(crate) enum Waiting {
     /// One that can be looked at.
     At(Place),

@@ -5,7 +5,7 @@ use std::rt::Files;
 use std::{fs, io};
 
 /// The numbers by which the system knows a file. No other file has them while it is open.
-#[derive(Clone, Copy, Debug, PartialEq, Eq)]
+#[derive(Clone, Copy, PartialEq, Eq)]
 pub(crate) struct Entry {
     device: u64,
     number: u64,

@@ -19,7 +19,7 @@ const FILE_MODE: u32 = 0o600;
 const MAX_OFFSET: u64 = 0x7FFF_FFFF_FFFF_FFFF;
 
 /// What a file is opened for.
-#[derive(Clone, Copy, Debug, PartialEq, Eq)]
+#[derive(Clone, Copy, PartialEq, Eq)]
 pub(crate) enum Access {
     Read,
     Write,

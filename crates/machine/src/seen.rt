@@ -9,7 +9,7 @@ use std::rt::Files;
 use std::{fs, io};
 
 /// What stands at a path of the machine.
-#[derive(Clone, Copy, Debug, PartialEq, Eq)]
+#[derive(Clone, Copy, PartialEq, Eq)]
 pub(crate) enum Seen {
     Absent,
     /// A file of this many bytes.

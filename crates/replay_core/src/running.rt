@@ -29,14 +29,14 @@ use wal_base::Lsn;
 use wal_records::{Record, RecordCursor, Step};
 
 /// How many records were replayed so far, and where the last of them ends.
-#[derive(Clone, Copy, Debug)]
+#[derive(Clone, Copy)]
 pub(crate) struct Count {
     pub(crate) records: u64,
     pub(crate) end: Lsn,
 }
 
 /// How the reading of a log goes on.
-#[derive(Clone, Copy, Debug)]
+#[derive(Clone, Copy)]
 pub(crate) enum Turn {
     /// With the next record.
     More,

@@ -21,7 +21,7 @@ use wal_base::Lsn;
 use wal_records::{Record, RecordCursor, Step};
 
 /// What was seen of a log so far.
-#[derive(Clone, Copy, Debug)]
+#[derive(Clone, Copy)]
 pub(crate) struct Seen {
     /// Where its last record ends.
     pub(crate) end: Lsn,
@@ -30,7 +30,7 @@ pub(crate) struct Seen {
 }
 
 /// How the reading of a log goes on.
-#[derive(Clone, Copy, Debug)]
+#[derive(Clone, Copy)]
 pub(crate) enum Turn {
     /// With the next record.
     More,

@@ -19,7 +19,7 @@ use std::alloc::Global;
 use std::collections::VecDeque;
 
 /// Which names of a folder go.
-#[derive(Clone, Copy, Debug)]
+#[derive(Clone, Copy)]
 pub(crate) enum Area {
     /// In `pg_wal`, the files of segments.
     Segments,

@@ -21,7 +21,7 @@ pub(crate) fn place(alloc: Global, root: &Path, path: &Path) -> Result<Path, Out
 }
 
 /// Where a path lies on either side.
-#[derive(Debug, Drop)]
+#[derive(Drop)]
 pub(crate) struct Places {
     /// In the source.
     pub(crate) from: Path,

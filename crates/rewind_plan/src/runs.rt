@@ -11,7 +11,7 @@ use std::collections::VecDeque;
 use touched_blocks::Touched;
 
 /// Blocks that stand side by side.
-#[derive(Clone, Copy, Debug)]
+#[derive(Clone, Copy)]
 pub(crate) struct Run {
     /// The first of them.
     pub(crate) first: u64,
@@ -20,7 +20,7 @@ pub(crate) struct Run {
 }
 
 /// A file of a relation: its relation, its segment, and how many blocks a segment has at most.
-#[derive(Clone, Copy, Debug)]
+#[derive(Clone, Copy)]
 pub(crate) struct Segment {
     pub(crate) rel: RelName,
     pub(crate) number: u32,
