@@ -22,9 +22,9 @@ systems_differ t s = if t.sysid == s.sysid then None else Some (fault.SystemsDif
 unfoldable pub no_hints : PathValue → Control → Option RewindFault
 no_hints target t = if not (t.walLogHints == 0) || (t.checksumVersion == 1) then None else Some (fault.NoHints target)
 
--- a cluster wasn't shut down: its state isn't 1
+-- a cluster was shut down neither in production (1) nor in recovery (2)
 unfoldable pub not_clean : PathValue → Control → Option RewindFault
-not_clean root c = if c.state == 1 then None else Some (fault.NotClean root c.state)
+not_clean root c = if (c.state == 1) || (c.state == 2) then None else Some (fault.NotClean root c.state)
 
 -- what the target's control file t and the source's s must meet, in order
 abbrev pub pair_points : PathValue → PathValue → Control → Control → List (Option RewindFault)

@@ -89,7 +89,7 @@ fn check_clean(alloc: Global, root: &Path, c: &Control) -> Result<(), RewindFaul
     ensures changed { (p : PathValue) → result ≢ Err (RewindFault.Cluster (cluster.Changed p)) }
     ensures never_writes { result ≢ Err RewindFault.WriteFault }
 {
-    if c.state != 1 {
+    if c.state != 1 && c.state != 2 {
         return Err(RewindFault::NotClean(root.copy(alloc)?, c.state));
     }
     Ok(())
