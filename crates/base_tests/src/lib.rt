@@ -13,6 +13,8 @@ mod control_files;
 #[cfg(test)]
 mod fakes;
 #[cfg(test)]
+mod gates;
+#[cfg(test)]
 mod histories;
 #[cfg(test)]
 mod layouts;
