@@ -1,17 +1,17 @@
 -- Steps, one after another.
-use Rattle.std.proofs.Common.{◌≡◌, ℕ, Bool, true, false, ◌||◌, IsTrue, None, List, [], ◌∷◌, ◌++◌, Result, Ok, Err, refl, sym, ◌∙◌, subst, codes}
+use Rattle.std.proofs.Common.{◌≡◌, ℕ, Bool, true, false, ◌||◌, IsTrue, None, List, [], ◌∷◌, ◌++◌, Result, Ok, Err, refl, ap, sym, ◌∙◌, subst, append_assoc}
 use Rattle.std.proofs.lemmas.List.Folds.{list_any-append}
 use Rattle.std.specs.List.{list_any}
 use Rattle.cluster_tree.specs.PathValue.{PathValue}
 use Rattle.cluster_tree.specs.Contents.{Contents, entry_at}
-use Rattle.cluster_tree.specs.Change.{Change, first_refusal, is_on}
+use Rattle.cluster_tree.specs.Change.{Change, all_changed, first_refusal, is_on}
 use Rattle.cluster_tree.specs.declared.tree.Tree.{Ghosts}
 use Rattle.marked_runs.specs.Performed.{Performs}
 use Rattle.marked_runs.specs.declared.faults.PerformFault.{PerformFault}
 use Rattle.marked_runs.specs.Carried.{Carries}
-use Rattle.marked_runs.specs.Runs.{begun, ended, writes_at}
+use Rattle.marked_runs.specs.Runs.{ended, writes_at}
 use Rattle.marked_runs.proofs.CarriedLemmas.{both_unrefused, performs-done, performs-front, performs-nothing, performs-then}
-use Rattle.rewind_writes.specs.Plan.{IsFound, body_changes, closing_changes, plan_changes}
+use Rattle.rewind_writes.specs.Plan.{IsFound, body_changes, closing_changes, mark_laid, plan_changes}
 use Rattle.rewind_writes.specs.Steps.{FindAll, Finds, IsRead, changes_of, opened, part_of, steps_changes}
 use Rattle.rewind_writes.specs.Taken.{AllAreAsFound, IsAsFound, Takes, TakesAll, TakesBody, TakesMarked}
 use Rattle.rewind_writes.specs.declared.plan.FileBytes.{FileBytes}
@@ -118,6 +118,10 @@ whole-broken tree c from to size old new e one found as_found = performs-front t
 
 -- ---- a plan
 
+-- equal changes
+pub performs-same : {F : Type 0} (tree : Ghosts F) (xs ys : List Change) (a b : F) (r : Result (Unit {0}) PerformFault) → xs ≡ ys → Performs tree xs a b r → Performs tree ys a b r
+performs-same tree xs ys a b r is one = subst (λ l. Performs tree l a b r) is one
+
 pub body-taken : {F : Type 0} (tree : Ghosts F) (c : Contents) (steps : List Step) (label control : FileBytes) (old mid new : F) (u : Unit {0}) (r : Result (Unit {0}) PerformFault) → TakesAll tree c steps old mid (Ok u) → Performs tree (closing_changes label control) mid new r → TakesBody tree c steps label control old new r
 body-taken tree c steps label control old mid new u r one other found as_found =
     performs-then tree (steps_changes c steps) (closing_changes label control) old mid new u r (one (find-both c (steps_changes c steps) (closing_changes label control) steps found).0 as_found) other
@@ -134,25 +138,41 @@ pub marked-broken : {F : Type 0} (tree : Ghosts F) (c : Contents) (plan : Plan) 
 marked-broken tree c plan old new e one found as_found =
     performs-front tree (body_changes c plan) (ended plan.mark) old new e (one (find-both c (body_changes c plan) (ended plan.mark) plan.steps.items found).0 as_found)
 
--- what the steps read stays as it was while the mark is made
-pub found-then : {F : Type 0} (tree : Ghosts F) (plan : Plan) (old mid : F) (u : Unit {0}) → Carries tree (begun plan.mark (codes "pg_rewind 1\n")) old mid (Ok u) → IsTrue tree.tells → IsFound (tree.contents old) plan
-    → first_refusal (tree.contents old) (plan_changes (tree.contents old) plan) ≡ None
+-- the mark is laid, and then the rest
+pub in-parts : (c : Contents) (text : List ℕ) (plan : Plan) → plan_changes c text plan ≡ mark_laid c text plan ++ (body_changes c plan ++ ended plan.mark)
+in-parts c text plan = append_assoc (mark_laid c text plan) (body_changes c plan) (ended plan.mark)
+
+-- nothing refuses either
+pub parts-unrefused : (c : Contents) (text : List ℕ) (plan : Plan) → first_refusal c (plan_changes c text plan) ≡ None
+    → (first_refusal c (mark_laid c text plan) ≡ None) × (first_refusal (all_changed c (mark_laid c text plan)) (body_changes c plan ++ ended plan.mark) ≡ None)
+parts-unrefused c text plan none =
+    both_unrefused c (mark_laid c text plan) (body_changes c plan ++ ended plan.mark) (ap (first_refusal c) (sym (in-parts c text plan)) ∙ none)
+
+-- what the steps read stays as it was while the mark is laid
+pub found-then : {F : Type 0} (tree : Ghosts F) (text : List ℕ) (plan : Plan) (old mid : F) (u : Unit {0}) → Carries tree (mark_laid (tree.contents old) text plan) old mid (Ok u) → IsTrue tree.tells → IsFound (tree.contents old) text plan
+    → first_refusal (tree.contents old) (plan_changes (tree.contents old) text plan) ≡ None
     → FindAll (tree.contents old) (body_changes (tree.contents old) plan ++ ended plan.mark) plan.steps.items × AllAreAsFound (tree.contents old) (tree.contents mid) plan.steps.items
-found-then tree plan old mid u one told found none =
+found-then tree text plan old mid u one told found none =
     let c = tree.contents old in
-    let first = begun plan.mark (codes "pg_rewind 1\n") in
+    let first = mark_laid c text plan in
     let body = body_changes c plan ++ ended plan.mark in
-    let own = find-both c first body plan.steps.items found in
-    let ran = one told (both_unrefused c first body none).0 in
+    let own = find-both c first body plan.steps.items (subst (λ l. FindAll c l plan.steps.items) (in-parts c text plan) found) in
+    let ran = one told (parts-unrefused c text plan none).0 in
     (own.1, stay-found c c (tree.contents mid) first plan.steps.items ran.runs.elsewhere own.0 (all-found c plan.steps.items))
 
-pub plan-taken : {F : Type 0} (tree : Ghosts F) (plan : Plan) (old mid new : F) (u : Unit {0}) (r : Result (Unit {0}) PerformFault) → Carries tree (begun plan.mark (codes "pg_rewind 1\n")) old mid (Ok u) → TakesMarked tree (tree.contents old) plan mid new r
-    → IsFound (tree.contents old) plan → Performs tree (plan_changes (tree.contents old) plan) old new r
-plan-taken tree plan old mid new u r one other found told none =
-    let first = begun plan.mark (codes "pg_rewind 1\n") in
-    let there = found-then tree plan old mid u one told found none in
-    performs-then tree first (body_changes (tree.contents old) plan ++ ended plan.mark) old mid new u r (performs-done tree first old mid u one) (other there.0 there.1) told none
+pub plan-taken : {F : Type 0} (tree : Ghosts F) (text : List ℕ) (plan : Plan) (old mid new : F) (u : Unit {0}) (r : Result (Unit {0}) PerformFault) → Carries tree (mark_laid (tree.contents old) text plan) old mid (Ok u) → TakesMarked tree (tree.contents old) plan mid new r
+    → IsFound (tree.contents old) text plan → Performs tree (plan_changes (tree.contents old) text plan) old new r
+plan-taken tree text plan old mid new u r one other found told none =
+    let c = tree.contents old in
+    let first = mark_laid c text plan in
+    let rest = body_changes c plan ++ ended plan.mark in
+    let there = found-then tree text plan old mid u one told found none in
+    performs-same tree (first ++ rest) (plan_changes c text plan) old new r (sym (in-parts c text plan))
+    (performs-then tree first rest old mid new u r (performs-done tree first old mid u one) (other there.0 there.1)) told none
 
--- equal changes
-pub performs-same : {F : Type 0} (tree : Ghosts F) (xs ys : List Change) (a b : F) (r : Result (Unit {0}) PerformFault) → xs ≡ ys → Performs tree xs a b r → Performs tree ys a b r
-performs-same tree xs ys a b r is one = subst (λ l. Performs tree l a b r) is one
+pub plan-broken : {F : Type 0} (tree : Ghosts F) (text : List ℕ) (plan : Plan) (old new : F) (e : PerformFault) → Performs tree (mark_laid (tree.contents old) text plan) old new (Err e) → Performs tree (plan_changes (tree.contents old) text plan) old new (Err e)
+plan-broken tree text plan old new e one =
+    let c = tree.contents old in
+    let first = mark_laid c text plan in
+    let rest = body_changes c plan ++ ended plan.mark in
+    performs-same tree (first ++ rest) (plan_changes c text plan) old new (Err e) (sym (in-parts c text plan)) (performs-front tree first rest old new e one)

@@ -1,15 +1,16 @@
 -- What steps do to a tree that holds what they read. Own: "The plan of a rewind".
-use Rattle.std.specs.Prelude.{◌≡◌, false, IsTrue, List, [], ◌∷◌, ◌++◌, None, OnOk, Result}
+use Rattle.std.specs.Prelude.{◌≡◌, ℕ, false, IsTrue, List, [], ◌∷◌, ◌++◌, None, OnOk, Result}
 use Rattle.std.specs.List.{list_any}
 use Rattle.cluster_tree.specs.Change.{all_changed, first_refusal, is_on}
 use Rattle.cluster_tree.specs.Contents.{Contents, entry_at}
 use Rattle.cluster_tree.specs.Frame.{moment_of}
 use Rattle.cluster_tree.specs.Stops.{LeavesOnly}
 use Rattle.cluster_tree.specs.declared.tree.Tree.{Ghosts}
-use Rattle.marked_runs.specs.Moments.{IsEnded, StandsMarked, StandsSynced}
+use Rattle.marked_runs.specs.Moments.{StandsSynced}
 use Rattle.marked_runs.specs.Performed.{Performs}
 use Rattle.marked_runs.specs.Runs.{ended}
 use Rattle.marked_runs.specs.declared.faults.PerformFault.{PerformFault}
+use Rattle.gated_marks.specs.Left.{IsUnderToEnd, with_mark}
 use Rattle.rewind_writes.specs.Plan.{body_changes, closing_changes}
 use Rattle.rewind_writes.specs.Steps.{FindAll, Finds, changes_of, steps_changes}
 use Rattle.rewind_writes.specs.declared.plan.FileBytes.{FileBytes}
@@ -50,13 +51,14 @@ TakesMarked tree c plan old new result =
     FindAll c (body_changes c plan ++ ended plan.mark) plan.steps.items → AllAreAsFound c (tree.contents old) plan.steps.items
     → Performs tree (body_changes c plan ++ ended plan.mark) old new result
 
--- and where that mark stands and the changes under it are off it, a stop at any moment of them leaves it, or all that was to be
+-- and where that mark stands synced and the changes under it are off it, a stop at any moment of them leaves what is under it, or all
+-- that was to be
 abbrev pub EndsMarked : {F : Type 0} → Ghosts F → Contents → Plan → F → F → Type 0
 EndsMarked tree c plan old new =
     IsTrue tree.tells → FindAll c (body_changes c plan ++ ended plan.mark) plan.steps.items → AllAreAsFound c (tree.contents old) plan.steps.items
     → first_refusal (tree.contents old) (body_changes c plan ++ ended plan.mark) ≡ None → list_any (is_on plan.mark) (body_changes c plan) ≡ false
-    → StandsMarked plan.mark (moment_of tree old)
-    → LeavesOnly (IsEnded plan.mark (all_changed (tree.contents old) (body_changes c plan ++ ended plan.mark))) (tree.stops old) (tree.stops new)
+    → (before : Contents) (bytes : List ℕ) → StandsSynced (with_mark before plan.mark bytes) (moment_of tree old)
+    → LeavesOnly (IsUnderToEnd before plan.mark bytes (body_changes c plan) (all_changed (with_mark before plan.mark bytes) (body_changes c plan ++ ended plan.mark))) (tree.stops old) (tree.stops new)
 
 -- and once all are done, whatever they are on, a stop leaves what stands
 abbrev pub SyncsMarked : {F : Type 0} → Ghosts F → Contents → Plan → F → F → Result (Unit {0}) PerformFault → Type 0

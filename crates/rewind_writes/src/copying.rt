@@ -62,7 +62,7 @@ fn copy_piece<F: Tree>(
 /// Copies so many bytes of a file from the offset `at` on to the same place of another, by pieces of
 /// the buffer's length, which are one range once joined. Answers `ReadFault` where a read failed,
 /// `WriteFault` where a changing call did, and `Contradicted` where the tree refuses one.
-pub(crate) fn copy_range<F: Tree>(
+pub fn copy_range<F: Tree>(
     tree: &mut F,
     from: &Path,
     to: &Path,

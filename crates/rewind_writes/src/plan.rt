@@ -7,17 +7,20 @@ ghost use Rattle.cluster_tree.specs.Change.{MakesFile, Writes, all_changed, firs
 ghost use Rattle.cluster_tree.specs.Contents.{Contents};
 ghost use Rattle.cluster_tree.specs.Frame.{Came, moment_of};
 ghost use Rattle.cluster_tree.specs.Stops.{LeavesOnly};
-ghost use Rattle.marked_runs.specs.Moments.{IsEnded, IsSafe, StandsMarked, StandsSynced};
+ghost use Rattle.cluster_tree.specs.Tree.{bytes_at};
+ghost use Rattle.gated_marks.specs.Gates.{IsComplete};
+ghost use Rattle.marked_runs.specs.Moments.{IsSafe, StandsSynced};
 ghost use Rattle.marked_runs.specs.Performed.{Performs};
 ghost use Rattle.marked_runs.specs.Runs.{ended};
-ghost use Rattle.rewind_writes.specs.Plan.{IsFound, body_changes, closing_changes, plan_changes};
+ghost use Rattle.rewind_writes.specs.Plan.{IsFound, IsResumable, body_changes, closing_changes, mark_gate, mark_head, plan_changes};
 ghost use Rattle.rewind_writes.specs.Steps.{AllAreFit};
 ghost use Rattle.rewind_writes.specs.Taken.{EndsMarked, SyncsMarked, TakesBody, TakesMarked};
 
 use crate::Step;
 use crate::stepping::take_all;
 use cluster_tree::{Path, Tree};
-use marked_runs::{PerformFault, about, begin, finish, overwrite, write_new};
+use gated_marks::begin_gated;
+use marked_runs::{PerformFault, about, finish, overwrite, write_new};
 use std::collections::VecDeque;
 
 /// A file, and bytes that are written from its start on.
@@ -94,8 +97,6 @@ fn put_closing<F: Tree>(
 // Ends the mark.
 fn unmark<F: Tree>(tree: &mut F, mark: Path) -> Result<(), PerformFault>
     ensures performs { Performs F.Tree (ended mark) tree.old tree.new result }
-    ensures stops { IsTrue F.tells → StandsMarked mark (moment_of F.Tree tree.old) → LeavesOnly
-        (IsEnded mark (remove (F.contents tree.old) mark)) (F.stops tree.old) (F.stops tree.new) }
     ensures synced { IsTrue F.tells → first_refusal (F.contents tree.old) (ended mark) ≡ None →
         OnOk result (StandsSynced (remove (F.contents tree.old) mark) (moment_of F.Tree tree.new)) }
     ensures frame { Came F.Tree tree.old tree.new }
@@ -155,27 +156,36 @@ fn perform_marked<F: Tree>(tree: &mut F, plan: Plan) -> Result<(), PerformFault>
     }
 }
 
-/// Carries out a rewind that was planned. Its mark stands from before the first other change until
-/// after the last sync; it takes no memory, and writes pieces of at most 65536 bytes.
+/// Carries out a rewind that was planned. Its mark, which holds this text, stands from before the
+/// first other change until after the last sync; it takes no memory, and writes pieces of at most
+/// 65536 bytes, but for the text.
 ///
 /// Answers `ReadFault` only where a read failed and `WriteFault` only where a changing call did, which
 /// the tree has counted, and `Changed` never where the tree tells, holds what the steps read, and would
 /// refuse none of the changes in its turn: then these changes ran, all of them where it is done, else
 /// the first ones, of the last perhaps a part. Where none of them but those of the mark is on it, a stop
-/// at any moment leaves what one could have left at the start, the mark, or all that was to be. Once it
-/// is done, a stop leaves what stands.
-pub fn perform<F: Tree>(tree: &mut F, plan: Plan) -> Result<(), PerformFault>
+/// at any moment leaves what one could have left at the start, the mark, or all that was to be; and
+/// where it begins on synced contents without a complete mark, what is `IsResumable`: a mark that reads
+/// as complete then holds just this text, and all else is an image of the changes under it. Once it is
+/// done, a stop leaves what stands.
+pub fn perform<F: Tree>(tree: &mut F, plan: Plan, text: &[u8]) -> Result<(), PerformFault>
     requires fit { AllAreFit plan.steps.items }
-    ensures performs { IsFound (F.contents tree.old) plan →
-        Performs F.Tree (plan_changes (F.contents tree.old) plan) tree.old tree.new result }
-    ensures stops { IsTrue F.tells → IsFound (F.contents tree.old) plan →
-        first_refusal (F.contents tree.old) (plan_changes (F.contents tree.old) plan) ≡ None →
+    ensures performs { IsFound (F.contents tree.old) text.now plan →
+        Performs F.Tree (plan_changes (F.contents tree.old) text.now plan) tree.old tree.new result }
+    ensures stops { IsTrue F.tells → IsFound (F.contents tree.old) text.now plan →
+        first_refusal (F.contents tree.old) (plan_changes (F.contents tree.old) text.now plan) ≡ None →
         list_any (is_on plan.mark) (body_changes (F.contents tree.old) plan) ≡ false → LeavesOnly
         (IsSafe plan.mark (moment_of F.Tree tree.old)
-        (all_changed (F.contents tree.old) (plan_changes (F.contents tree.old) plan)))
+        (all_changed (F.contents tree.old) (plan_changes (F.contents tree.old) text.now plan)))
         (F.stops tree.old) (F.stops tree.new) }
-    ensures synced { IsTrue F.tells → IsFound (F.contents tree.old) plan →
-        first_refusal (F.contents tree.old) (plan_changes (F.contents tree.old) plan) ≡ None →
+    ensures resumable { IsTrue F.tells → IsFound (F.contents tree.old) text.now plan →
+        first_refusal (F.contents tree.old) (plan_changes (F.contents tree.old) text.now plan) ≡ None →
+        list_any (is_on plan.mark) (body_changes (F.contents tree.old) plan) ≡ false →
+        StandsSynced (F.contents tree.old) (moment_of F.Tree tree.old) →
+        (IsComplete mark_head mark_gate (bytes_at (F.contents tree.old) plan.mark) → ⊥) → LeavesOnly
+        (IsResumable (F.contents tree.old) text.now plan) (F.stops tree.old) (F.stops tree.new) }
+    ensures synced { IsTrue F.tells → IsFound (F.contents tree.old) text.now plan →
+        first_refusal (F.contents tree.old) (plan_changes (F.contents tree.old) text.now plan) ≡ None →
         OnOk result (StandsSynced (F.contents tree.new) (moment_of F.Tree tree.new)) }
     ensures frame { Came F.Tree tree.old tree.new }
     ensures read_fault { IsErrOf result PerformFault.ReadFault →
@@ -183,7 +193,7 @@ pub fn perform<F: Tree>(tree: &mut F, plan: Plan) -> Result<(), PerformFault>
     ensures write_fault { IsErrOf result PerformFault.WriteFault →
         Rose (F.failed_changes tree.old) (F.failed_changes tree.new) }
 {
-    match begin(tree, &plan.mark, b"pg_rewind 1\n") {
+    match begin_gated(tree, &plan.mark, b"pg_rewind 2\n-\n", 12, text) {
         Ok(()) => perform_marked(tree, plan),
         Err(fault) => Err(about(fault, plan.mark)),
     }

@@ -9,7 +9,7 @@ pub returns-in-Err-clause-takes : goal.returns-in-Err-clause-takes
 returns-in-Err-clause-takes g c = λ d. marked-broken g.F.Tree d c.args.plan _ _ c.in-Err.fault (c.in-Err.ensures.takes d)
 
 pub returns-in-Ok-clause-stops : goal.returns-in-Ok-clause-stops
-returns-in-Ok-clause-stops g c = λ d. ends-marked g.F.Tree d c.args.plan _ _ _ _ (c.in-Ok.ensures.takes d) c.in-Ok.ensures.frame c.unmark.ensures.frame c.unmark.ensures.stops
+returns-in-Ok-clause-stops g c = λ d. ends-marked g.F.Tree d c.args.plan _ _ _ _ _ (c.in-Ok.ensures.takes d) c.in-Ok.ensures.frame c.unmark.ensures.frame c.unmark.ensures.performs
 
 pub returns-in-Err-clause-stops : goal.returns-in-Err-clause-stops
 returns-in-Err-clause-stops g c = λ d. ends-broken g.F.Tree d c.args.plan _ _ c.in-Err.fault (c.in-Err.ensures.takes d) c.in-Err.ensures.frame
