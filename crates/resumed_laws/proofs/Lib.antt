@@ -1,0 +1,15 @@
+pub mod ByteLemmas
+pub mod May
+pub mod MayLemmas
+pub mod KeptLemmas
+pub mod GroupLemmas
+pub mod StopLemmas
+pub mod TurnLemmas
+pub mod RefusalLemmas
+pub mod StepLemmas
+pub mod ReadLemmas
+pub mod ResumeLemmas
+pub mod RunLemmas
+pub mod EndLemmas
+pub mod OnLiterals
+pub mod SyncLemmas
