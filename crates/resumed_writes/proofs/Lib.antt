@@ -1,0 +1,5 @@
+pub mod TriedLemmas
+pub mod AgainLemmas
+pub mod StopLemmas
+pub mod MarkLemmas
+mod OnLiterals
