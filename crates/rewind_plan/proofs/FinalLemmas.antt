@@ -1,5 +1,5 @@
 -- A plan is never refused, finds what it reads, and leaves the rewound tree.
-use Rattle.std.proofs.Common.{◌≡◌, ◌≢◌, ℕ, ◌+◌, ◌==◌, Bool, true, false, ◌||◌, ◌&&◌, List, [], ◌∷◌, ◌++◌, codes, length, Option, None, Some, is_some, refl, sym, ap, ap₂, ◌∙◌, append_assoc, true≢false, arith, rules}
+use Rattle.std.proofs.Common.{◌≡◌, ◌≢◌, ℕ, ◌+◌, ◌==◌, Bool, true, false, cond, ◌||◌, ◌&&◌, List, [], ◌∷◌, ◌++◌, codes, length, Option, None, Some, is_some, refl, sym, ap, ap₂, ◌∙◌, append_assoc, true≢false, arith, rules}
 use Rattle.std.specs.Prelude.{if◌then◌else◌, bytes_eq}
 use Rattle.std.proofs.lemmas.List.{append-nil, drop_all}
 use Rattle.std.proofs.lemmas.Slice.Eq.{bytes_eq-Decides}
@@ -7,11 +7,12 @@ use Rattle.std.specs.List.{list_any}
 use Rattle.layout.specs.Splice.{splice}
 use Rattle.cluster_tree.specs.PathValue.{PathValue, below, path_of}
 use Rattle.cluster_tree.specs.PathOrder.{path_eq}
-use Rattle.cluster_tree.specs.Contents.{Contents, Entry, FolderEntry, FileEntry, LinkEntry, entry_at, is_folder, or_root}
+use Rattle.cluster_tree.specs.Contents.{Contents, Entry, FolderEntry, FileEntry, LinkEntry, entry_at, is_file, is_folder, or_root}
 use Rattle.cluster_tree.specs.Tree.{bytes_in}
-use Rattle.cluster_tree.specs.Change.{Change, MakesFile, Writes, all_changed, first_refusal}
-use Rattle.marked_runs.specs.Runs.{begun, ended}
-use Rattle.rewind_writes.specs.Plan.{closing_changes, plan_changes}
+use Rattle.cluster_tree.specs.Change.{Change, Cuts, MakesFile, Syncs, Writes, all_changed, first_refusal}
+use Rattle.marked_runs.specs.Runs.{ended}
+use Rattle.gated_marks.specs.Changes.{begun_gated, gate_opened, text_laid}
+use Rattle.rewind_writes.specs.Plan.{closing_changes, mark_gate, mark_head, plan_changes}
 use Rattle.rewind_writes.specs.Steps.{steps_changes}
 use Rattle.rewind_writes.specs.declared.plan.Plan.{Plan}
 use Rattle.rewind_plan.proofs.JobLemmas.{changes-both, jobs-leave, jobs-unrefused}
@@ -38,7 +39,7 @@ use Rattle.rewind_plan.specs.Sides.{IsPaired, Sides, control_parts, label_parts,
 use Rattle.rewind_plan.proofs.FitLemmas.{at_parts, doing_of, here_items}
 use Rattle.rewind_plan.proofs.ItemLemmas.{all_jobs, left_at, leaves_of}
 use Rattle.rewind_plan.proofs.PairLemmas.{items_of, steps-are}
-use Rattle.rewind_plan.proofs.PlanFit.{control_is, control_job, control_off_label, control_off_mark, controlled, end_job, label_job, label_off_mark, labelled, left_by as item_left, left_off, none_root, plan-fits, plan-leaves, plan_jobs, put_off, put_on, rewound, root_is}
+use Rattle.rewind_plan.proofs.PlanFit.{control_is, control_job, control_off_label, control_off_mark, controlled, end_job, label_job, laid_new, label_off_mark, labelled, left_by as item_left, left_off, none_root, plan-fits, plan-leaves, plan_jobs, put_off, put_on, rewound, root_is}
 use Rattle.rewind_plan.specs.PlanOf.{IsPlanOf, rewinding}
 use Rattle.rewind_plan.proofs.RewoundLemmas.{pair-left}
 use Rattle.rewind_plan.proofs.SideLemmas.{below-same}
@@ -219,33 +220,38 @@ module _ (c : Contents) (w : Between) (all : List Pair) (sides : Sides c w all) 
 
 -- ---- the changes of a plan are those of its jobs
 
-module _ (c : Contents) (w : Between) (all : List Pair) (new : Control) (label : Label) (plan : Plan) (sides : Sides c w all) (of : IsPlanOf w all new label plan) where
-  abbrev pub text : List ℕ
-  text = codes "pg_rewind 1\n"
-
-  abbrev pub jobs : List Job
-  jobs = plan_jobs c w all sides text (label_text label) (control_bytes new)
-
+module _ (w : Between) (all : List Pair) (new : Control) (label : Label) (plan : Plan) (of : IsPlanOf w all new label plan) where
   pub closing_is : closing_changes plan.label plan.control ≡ MakesFile (below w.target label_parts) ∷ Writes (below w.target label_parts) 0 (label_text label) ∷ Writes (below w.target control_parts) 0 (control_bytes new) ∷ []
   closing_is =
       ap₂ (λ p b. MakesFile p ∷ Writes p 0 b ∷ Writes plan.control.path 0 plan.control.bytes.items ∷ []) of.label_at of.label_says
       ∙ ap₂ (λ p b. MakesFile (below w.target label_parts) ∷ Writes (below w.target label_parts) 0 (label_text label) ∷ Writes p 0 b ∷ []) of.control_at of.control_says
 
+module _ (c : Contents) (text : List ℕ) (w : Between) (all : List Pair) (new : Control) (label : Label) (plan : Plan) (sides : Sides c w all) (of : IsPlanOf w all new label plan) where
+  abbrev pub jobs : List Job
+  jobs = plan_jobs c w all sides text (label_text label) (control_bytes new)
+
   regroup : (a b d e : List Change) → a ++ (b ++ d) ++ e ≡ a ++ (b ++ (d ++ e))
   regroup a b d e = append_assoc a (b ++ d) e ∙ ap (λ l. a ++ l) (append_assoc b d e)
 
-  pub changes-are : plan_changes c plan ≡ changes_in jobs
-  changes-are =
-      ap₂ (λ m s. begun m text ++ (steps_changes c s ++ closing_changes plan.label plan.control) ++ ended m) of.mark of.steps
-      ∙ ap (λ l. begun (below w.target mark_parts) text ++ (steps_changes c (steps_of w all) ++ l) ++ ended (below w.target mark_parts)) closing_is
-      ∙ regroup (begun (below w.target mark_parts) text) (steps_changes c (steps_of w all)) (MakesFile (below w.target label_parts) ∷ Writes (below w.target label_parts) 0 (label_text label) ∷ Writes (below w.target control_parts) 0 (control_bytes new) ∷ []) (ended (below w.target mark_parts))
-      ∙ ap (λ l. begun (below w.target mark_parts) text ++ (l ++ (MakesFile (below w.target label_parts) ∷ Writes (below w.target label_parts) 0 (label_text label) ∷ Writes (below w.target control_parts) 0 (control_bytes new) ∷ ended (below w.target mark_parts)))) (sym (steps-are c w all))
-      ∙ ap (λ l. begun (below w.target mark_parts) text ++ l) (sym (changes-both (all_jobs (items_of c w all)) (label_job (below w.target label_parts) (label_text label) ∷ control_job (below w.target control_parts) (control_bytes new) ∷ end_job (below w.target mark_parts) ∷ [])))
+  -- nothing stands at the mark, so it is made
+  new_mark : begun_gated c (below w.target mark_parts) mark_head mark_gate text ≡ laid_new (below w.target mark_parts) text
+  new_mark =
+      let m = below w.target mark_parts in
+      ap (λ o. (cond (is_file o) (Cuts m 0 ∷ Syncs ∷ []) (MakesFile m ∷ []) ++ Writes m 0 mark_head ∷ Syncs ∷ []) ++ text_laid m (length mark_head) text ++ gate_opened m mark_gate) (sides.marks_target mark_parts refl)
 
-  pub plan-unrefused : first_refusal c (plan_changes c plan) ≡ None
+  pub changes-are : plan_changes c text plan ≡ changes_in jobs
+  changes-are =
+      ap₂ (λ m s. begun_gated c m mark_head mark_gate text ++ (steps_changes c s ++ closing_changes plan.label plan.control) ++ ended m) of.mark of.steps
+      ∙ ap (λ l. l ++ (steps_changes c (steps_of w all) ++ closing_changes plan.label plan.control) ++ ended (below w.target mark_parts)) new_mark
+      ∙ ap (λ l. laid_new (below w.target mark_parts) text ++ (steps_changes c (steps_of w all) ++ l) ++ ended (below w.target mark_parts)) (closing_is w all new label plan of)
+      ∙ regroup (laid_new (below w.target mark_parts) text) (steps_changes c (steps_of w all)) (MakesFile (below w.target label_parts) ∷ Writes (below w.target label_parts) 0 (label_text label) ∷ Writes (below w.target control_parts) 0 (control_bytes new) ∷ []) (ended (below w.target mark_parts))
+      ∙ ap (λ l. laid_new (below w.target mark_parts) text ++ (l ++ (MakesFile (below w.target label_parts) ∷ Writes (below w.target label_parts) 0 (label_text label) ∷ Writes (below w.target control_parts) 0 (control_bytes new) ∷ ended (below w.target mark_parts)))) (sym (steps-are c w all))
+      ∙ ap (λ l. laid_new (below w.target mark_parts) text ++ l) (sym (changes-both (all_jobs (items_of c w all)) (label_job (below w.target label_parts) (label_text label) ∷ control_job (below w.target control_parts) (control_bytes new) ∷ end_job (below w.target mark_parts) ∷ [])))
+
+  pub plan-unrefused : first_refusal c (plan_changes c text plan) ≡ None
   plan-unrefused = ap (first_refusal c) changes-are ∙ jobs-unrefused c (entry_at c) jobs (λ q. refl) (plan-fits c w all sides text (label_text label) (control_bytes new))
 
-  pub plan-leaves-all : (parts : List (List ℕ)) → entry_at (all_changed c (plan_changes c plan)) (below w.target parts) ≡ rewound_tree (rewinding c w new label) parts
+  pub plan-leaves-all : (parts : List (List ℕ)) → entry_at (all_changed c (plan_changes c text plan)) (below w.target parts) ≡ rewound_tree (rewinding c w new label) parts
   plan-leaves-all parts =
       ap (λ l. entry_at (all_changed c l) (below w.target parts)) changes-are
       ∙ jobs-leave c (entry_at c) jobs (λ q. refl) (plan-fits c w all sides text (label_text label) (control_bytes new)) (below w.target parts)

@@ -136,9 +136,9 @@ module _ (c : Contents) (w : Between) (changes : List Change) (off : (parts : Li
       finds_both c changes (folder_steps w xs) (all_file_steps w xs ++ removal_steps w xs) (all_folders_found xs)
       (finds_both c changes (all_file_steps w xs) (removal_steps w xs) (all_files_found xs paired) (all_removals_found xs))
 
-pub plan-found : (c : Contents) (w : Between) (all : List Pair) (new : Control) (label : Label) (plan : Plan) → Sides c w all → IsPlanOf w all new label plan → IsFound c plan
-plan-found c w all new label plan sides of =
-    subst (FindAll c (plan_changes c plan)) (sym of.steps)
-    (all_found c w (plan_changes c plan)
-    (λ parts. off-plan c w all new label plan sides of (below w.source parts) (λ ys. apart-below w.target w.source parts ys sides.apart))
+pub plan-found : (c : Contents) (text : List ℕ) (w : Between) (all : List Pair) (new : Control) (label : Label) (plan : Plan) → Sides c w all → IsPlanOf w all new label plan → IsFound c text plan
+plan-found c text w all new label plan sides of =
+    subst (FindAll c (plan_changes c text plan)) (sym of.steps)
+    (all_found c w (plan_changes c text plan)
+    (λ parts. off-plan c text w all new label plan sides of (below w.source parts) (λ ys. apart-below w.target w.source parts ys sides.apart))
     all sides.paired)

@@ -18,7 +18,7 @@ use Rattle.rewind_writes.specs.declared.plan.Plan.{Plan}
 use Rattle.rewind_plan.specs.PlanOf.{IsPlanOf}
 use Rattle.rewind_plan.specs.Planned.{Between, action_of, in_target, steps_of}
 use Rattle.rewind_plan.specs.Sides.{AllPaired, IsPaired, Sides, control_parts, label_parts, mark_parts}
-use Rattle.rewind_plan.proofs.FinalLemmas.{changes-are, closing_is, jobs, text}
+use Rattle.rewind_plan.proofs.FinalLemmas.{changes-are, closing_is, jobs}
 use Rattle.rewind_plan.proofs.ItemLemmas.{all_jobs, items-fit}
 use Rattle.rewind_plan.proofs.Items.{Clears, Doing, Fills, Leaves, Makes, file_of, files, folder_of, folders, removal_of, removals}
 use Rattle.rewind_plan.proofs.JobLemmas.{owns-off}
@@ -90,22 +90,23 @@ module _ (c : Contents) (w : Between) (P : PathValue → Type 0) (each : (x : Pa
 
 -- ---- of a plan
 
-module _ (c : Contents) (w : Between) (all : List Pair) (new : Control) (label : Label) (plan : Plan) (sides : Sides c w all) (of : IsPlanOf w all new label plan) where
+module _ (c : Contents) (text : List ℕ) (w : Between) (all : List Pair) (new : Control) (label : Label) (plan : Plan) (sides : Sides c w all) (of : IsPlanOf w all new label plan) where
   -- all that it changes lies below the target's root
-  pub off-plan : (q : PathValue) → ((parts : List (List ℕ)) → q ≢ below w.target parts) → list_any (is_on q) (plan_changes c plan) ≡ false
+  pub off-plan : (q : PathValue) → ((parts : List (List ℕ)) → q ≢ below w.target parts) → list_any (is_on q) (plan_changes c text plan) ≡ false
   off-plan q off =
-      ap (list_any (is_on q)) (changes-are c w all new label plan sides of)
-      ∙ off_jobs q (entry_at c) (jobs c w all new label plan sides of)
-      (plan-fits c w all sides (text c w all new label plan sides of) (label_text label) (control_bytes new)) (
+      ap (list_any (is_on q)) (changes-are c text w all new label plan sides of)
+      ∙ off_jobs q (entry_at c) (jobs c text w all new label plan sides of)
+      (plan-fits c w all sides text (label_text label) (control_bytes new)) (
         off mark_parts,
         at_both (λ p. q ≢ p) (all_jobs (items_of c w all)) (label_job (below w.target label_parts) (label_text label) ∷ control_job (below w.target control_parts) (control_bytes new) ∷ end_job (below w.target mark_parts) ∷ [])
             (items_at c w (λ p. q ≢ p) (λ x paired. off x.path.parts) all sides.paired) (off label_parts, (off control_parts, (off mark_parts, tt))),
       )
 
-  pub plan-below : (q : PathValue) → (Holds w.target q → ⊥) → list_any (is_on q) (plan_changes c plan) ≡ false
+  pub plan-below : (q : PathValue) → (Holds w.target q → ⊥) → list_any (is_on q) (plan_changes c text plan) ≡ false
   plan-below q out = off-plan q (λ parts is. out (subst (Holds w.target) (sym is) (holds-below w.target parts)))
 
-  -- and none of what it changes under its mark is the mark
+-- and none of what it changes under its mark is the mark
+module _ (c : Contents) (w : Between) (all : List Pair) (new : Control) (label : Label) (plan : Plan) (sides : Sides c w all) (of : IsPlanOf w all new label plan) where
   abbrev m : PathValue
   m = below w.target mark_parts
 
@@ -117,7 +118,7 @@ module _ (c : Contents) (w : Between) (all : List Pair) (new : Control) (label :
 
   closing_off : list_any (is_on m) (closing_changes plan.label plan.control) ≡ false
   closing_off =
-      ap (list_any (is_on m)) (closing_is c w all new label plan sides of)
+      ap (list_any (is_on m)) (closing_is w all new label plan of)
       ∙ ap₂ (λ a b. a || (a || (b || false))) (path_eq-other m (below w.target label_parts) (λ e. label_off_mark c w all sides (sym e))) (path_eq-other m (below w.target control_parts) (λ e. control_off_mark c w all sides (sym e)))
 
   pub plan-unmarked : list_any (is_on plan.mark) (body_changes c plan) ≡ false

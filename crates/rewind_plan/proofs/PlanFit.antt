@@ -1,12 +1,12 @@
 -- The mark, the steps, the label, the control file, the mark's end: none is refused in its turn, and what they leave.
 use Rattle.std.proofs.Common.{◌≡◌, ◌≢◌, ℕ, ◌==◌, Bool, true, false, ◌||◌, ◌&&◌, cond, List, [], ◌∷◌, ◌++◌, codes, length, Option, None, Some, is_some, refl, sym, ap, ◌∙◌, subst, true≢false, arith, rules}
 use Rattle.std.proofs.lemmas.List.{append-nil}
-use Rattle.std.specs.List.{list_any}
+use Rattle.std.specs.List.{list_all, list_any}
 use Rattle.layout.specs.Splice.{splice}
 use Rattle.cluster_tree.specs.PathValue.{PathValue, below, path_of}
 use Rattle.cluster_tree.specs.PathOrder.{path_eq}
 use Rattle.cluster_tree.specs.Contents.{Contents, Entry, FolderEntry, FileEntry, LinkEntry, entry_at, is_folder, or_root, parent}
-use Rattle.cluster_tree.specs.Change.{MakesFile, Writes}
+use Rattle.cluster_tree.specs.Change.{Change, MakesFile, Syncs, Writes}
 use Rattle.cluster_tree.specs.Folders.{lies_in}
 use Rattle.cluster_tree.specs.Tree.{refusal_in}
 use Rattle.cluster_tree.proofs.OrderLemmas.{path_eq-other, path_eq-own, path_eq-same, same_path}
@@ -17,12 +17,16 @@ use Rattle.relation_files.specs.Reading.{file_named}
 use Rattle.file_walk.specs.Relations.{relation_of}
 use Rattle.file_walk.specs.declared.entry.EntryKind.{EntryKind}
 use Rattle.file_walk.specs.declared.pair.Pair.{Pair}
-use Rattle.marked_runs.specs.Runs.{begun, ended}
+use Rattle.cluster_tree.proofs.ContentsLemmas.{spliced-into_none}
+use Rattle.marked_runs.specs.Runs.{ended}
+use Rattle.gated_marks.specs.Changes.{gate_opened, text_laid}
+use Rattle.gated_marks.specs.Gates.{plus}
+use Rattle.rewind_writes.specs.Plan.{mark_gate, mark_head}
 use Rattle.rewind_writes.specs.Steps.{steps_changes}
-use Rattle.rewind_plan.proofs.Jobs.{AllFit, Job, JobFits, JobsFit, Standing, after_job, after_jobs, made_of}
+use Rattle.rewind_plan.proofs.Jobs.{AllFit, Job, JobFits, JobsFit, Standing, after_job, after_jobs, is_own, made_of}
 use Rattle.rewind_plan.specs.Planned.{Between, in_source, in_target, touched_steps}
 use Rattle.rewind_plan.specs.Sides.{AllPaired, IsPaired, Sides, control_parts, label_parts, mark_parts}
-use Rattle.rewind_plan.proofs.FileLemmas.{within}
+use Rattle.rewind_plan.proofs.FileLemmas.{splice-longer, within}
 use Rattle.rewind_plan.proofs.FitLemmas.{at_parts, doing_of, excluded-absent, excluded-goes, here_items, kept-stays}
 use Rattle.rewind_plan.proofs.Items.{Item, here}
 use Rattle.rewind_plan.proofs.FolderItems.{after-same, jobs-same}
@@ -68,8 +72,34 @@ and_none : (a b : Bool) → b ≡ false → (a && b) ≡ false
 and_none true b h = h
 and_none false b h = refl
 
+-- a new mark that holds a text
+abbrev pub laid_new : PathValue → List ℕ → List Change
+laid_new m text = MakesFile m ∷ Writes m 0 mark_head ∷ Syncs ∷ (text_laid m (length mark_head) text ++ gate_opened m mark_gate)
+
+laid_own : (m : PathValue) (text : List ℕ) → list_all (is_own m) (laid_new m text) ≡ true
+laid_own m [] = ap (λ b. b && (b && (b && true))) (path_eq-own m)
+laid_own m (x ∷ text) = ap (λ b. b && (b && (b && (b && true)))) (path_eq-own m)
+
+-- the bytes that it then holds
+abbrev laid_bytes : List ℕ → List ℕ
+laid_bytes [] = splice (splice [] 0 mark_head) mark_gate (plus ∷ [])
+laid_bytes (x ∷ text) = splice (splice (splice [] 0 mark_head) (length mark_head) (x ∷ text)) mark_gate (plus ∷ [])
+
+laid_made : (m : PathValue) (text : List ℕ) (o : Option Entry) → made_of o (laid_new m text) ≡ Some (FileEntry (laid_bytes text))
+laid_made m [] o = refl
+laid_made m (x ∷ text) o = refl
+
+head_long : length (splice [] 0 mark_head) ≡ 14
+head_long = ap length (spliced-into_none mark_head)
+
+laid_fits : (stands : Standing) (m : PathValue) (text : List ℕ) → refusal_in (stands (parent m)) ≡ None → AllFit stands m None (laid_new m text)
+laid_fits stands m [] up = ((refl, up), (within [] 0 (omega arith), (tt, (tt, (within (splice [] 0 mark_head) mark_gate (omega (arith, head_long)), (tt, tt))))))
+laid_fits stands m (x ∷ text) up =
+    let long = splice-longer (splice [] 0 mark_head) (length mark_head) (x ∷ text) (omega (arith, head_long)) in
+    ((refl, up), (within [] 0 (omega arith), (tt, (within (splice [] 0 mark_head) (length mark_head) (omega (arith, head_long)), (tt, (within (splice (splice [] 0 mark_head) (length mark_head) (x ∷ text)) mark_gate (omega (arith, head_long, long)), (tt, tt)))))))
+
 abbrev pub begin_job : PathValue → List ℕ → Job
-begin_job m text = record { path = m; changes = begun m text }
+begin_job m text = record { path = m; changes = laid_new m text }
 
 abbrev pub label_job : PathValue → List ℕ → Job
 label_job l bytes = record { path = l; changes = MakesFile l ∷ Writes l 0 bytes ∷ [] }
@@ -276,8 +306,8 @@ module _ (c : Contents) (w : Between) (all : List Pair) (sides : Sides c w all) 
     begin_fits : JobFits (entry_at c) (begin_job mark text)
     begin_fits = record {
       deep = deep_mark;
-      own = owns_two mark;
-      fits = subst (λ o. AllFit (entry_at c) mark o (begun mark text)) (sym (sides.marks_target mark_parts refl)) ((refl, mark_up), (within [] 0 (omega arith), (tt, tt)));
+      own = laid_own mark text;
+      fits = subst (λ o. AllFit (entry_at c) mark o (laid_new mark text)) (sym (sides.marks_target mark_parts refl)) (laid_fits (entry_at c) mark text mark_up);
     }
 
     items_fit : ItemsFit marked items
@@ -313,12 +343,13 @@ module _ (c : Contents) (w : Between) (all : List Pair) (sides : Sides c w all) 
         one_part : (x : List ℕ) (xs : List (List ℕ)) → length (x ∷ xs) == 0 ≡ false
         one_part x xs = grind (arith, rules)
 
-    mark_stands : controlled mark ≡ Some (FileEntry (splice [] 0 text))
+    mark_stands : controlled mark ≡ Some (FileEntry (laid_bytes text))
     mark_stands =
         put_off labelled (control_job control control_bytes) mark (λ e. control_off_mark (sym e))
         ∙ put_off rewound (label_job label label_bytes) mark (λ e. label_off_mark (sym e))
         ∙ left-alone marked items mark none_mark
         ∙ put_on (entry_at c) (begin_job mark text)
+        ∙ laid_made mark text (entry_at c mark)
 
     inside_none : (q : PathValue) → lies_in mark q ≡ true → controlled q ≡ None
     inside_none q child =

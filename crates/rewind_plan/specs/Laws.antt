@@ -19,21 +19,21 @@ use Rattle.rewind_plan.specs.PlanOf.{IsPlanOf, rewinding}
 use Rattle.rewind_plan.specs.Sides.{Sides}
 use Rattle.rewind_plan.specs.Walks.{IsWalked}
 
--- none of a plan's changes is refused in its turn
+-- none of a plan's changes is refused in its turn, whatever text its mark holds
 abbrev pub PlansAreNotRefused : Type 0
-PlansAreNotRefused = (c : Contents) (w : Between) (pairs : List Pair) (control : Control) (label : Label) (plan : Plan) →
-    Sides c w pairs → IsPlanOf w pairs control label plan → first_refusal c (plan_changes c plan) ≡ None
+PlansAreNotRefused = (c : Contents) (text : List ℕ) (w : Between) (pairs : List Pair) (control : Control) (label : Label) (plan : Plan) →
+    Sides c w pairs → IsPlanOf w pairs control label plan → first_refusal c (plan_changes c text plan) ≡ None
 
 -- and when they are done, the tree below the target's root is the rewound one, path by path
 abbrev pub PlansLeaveTheRewoundTree : Type 0
-PlansLeaveTheRewoundTree = (c : Contents) (w : Between) (pairs : List Pair) (control : Control) (label : Label) (plan : Plan) →
+PlansLeaveTheRewoundTree = (c : Contents) (text : List ℕ) (w : Between) (pairs : List Pair) (control : Control) (label : Label) (plan : Plan) →
     Sides c w pairs → IsPlanOf w pairs control label plan →
-    (parts : List (List ℕ)) → entry_at (all_changed c (plan_changes c plan)) (below w.target parts) ≡ rewound (rewinding c w control label) parts
+    (parts : List (List ℕ)) → entry_at (all_changed c (plan_changes c text plan)) (below w.target parts) ≡ rewound (rewinding c w control label) parts
 
 -- what its steps read is there, and none of its changes is on it
 abbrev pub PlansFindWhatTheyRead : Type 0
-PlansFindWhatTheyRead = (c : Contents) (w : Between) (pairs : List Pair) (control : Control) (label : Label) (plan : Plan) →
-    Sides c w pairs → IsPlanOf w pairs control label plan → IsFound c plan
+PlansFindWhatTheyRead = (c : Contents) (text : List ℕ) (w : Between) (pairs : List Pair) (control : Control) (label : Label) (plan : Plan) →
+    Sides c w pairs → IsPlanOf w pairs control label plan → IsFound c text plan
 
 -- no change under its mark is on it
 abbrev pub PlansLeaveTheMark : Type 0
