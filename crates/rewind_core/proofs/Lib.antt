@@ -1,4 +1,5 @@
 pub mod FaultLemmas
+pub mod SumLemmas
 pub mod ControlLemmas
 pub mod CheckLemmas
 pub mod PlanLemmas

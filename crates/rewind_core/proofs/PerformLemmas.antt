@@ -1,16 +1,26 @@
 -- What a plan's changes leave where they ran.
-use Rattle.std.proofs.Common.{◌≡◌, ◌≢◌, ◌⊎◌, inl, inr, Bool, false, List, None, Result, Ok, Err, IfErr, IfOk, OnOk, refl, ap, sym, subst, ◌∙◌}
+use Rattle.std.proofs.Common.{◌≡◌, ◌≢◌, ◌⊎◌, inl, inr, ℕ, Bool, false, List, [], length, None, IsTrue, Result, Ok, Err, IfErr, IfOk, OnOk, refl, ap, sym, subst, ◌∙◌, arith}
 use Rattle.std.specs.List.{list_any}
 use Rattle.cluster_tree.specs.Change.{all_changed, first_refusal, is_on}
 use Rattle.cluster_tree.specs.Contents.{Contents, entry_at}
 use Rattle.cluster_tree.specs.PathValue.{PathValue, below}
+use Rattle.cluster_tree.specs.Frame.{moment_of}
+use Rattle.cluster_tree.specs.Stops.{LeavesOnly}
 use Rattle.cluster_tree.specs.declared.tree.ChangeCall.{ChangeCall}
+use Rattle.cluster_tree.specs.declared.tree.Tree.{Ghosts}
 use Rattle.cluster_tree.proofs.ChangeLemmas.{changed-elsewhere}
+use Rattle.cluster_tree.specs.Tree.{bytes_at, bytes_in}
+use Rattle.gated_marks.specs.Gates.{IsComplete}
+use Rattle.gated_marks.proofs.ByteLemmas.{short-incomplete}
+use Rattle.marked_runs.specs.Moments.{IsSafe, StandsSynced}
+use Rattle.marked_runs.specs.Performed.{Performs}
 use Rattle.marked_runs.specs.Runs.{Runs, is_done}
 use Rattle.marked_runs.specs.declared.faults.PerformFault.{PerformFault}
 use Rattle.marked_runs.specs.declared.faults.PerformFault.TheVariants as perform
-use Rattle.rewind_writes.specs.Plan.{IsFound, body_changes, plan_changes}
+use Rattle.rewind_writes.specs.Plan.{IsFound, IsResumable, body_changes, mark_gate, mark_head, plan_changes}
+use Rattle.rewind_writes.specs.declared.plan.Plan.{Plan as Writes}
 use Rattle.rewind_plan.proofs.FinalLemmas.{plan-leaves-all, plan-unrefused}
+use Rattle.rewind_plan.specs.Sides.{mark_parts}
 use Rattle.clusters.specs.declared.fault.ClusterFault.TheVariants as cluster
 use Rattle.rewind_plan.proofs.FoundLemmas.{plan-found}
 use Rattle.rewind_plan.proofs.OffLemmas.{plan-below, plan-unmarked}
@@ -25,26 +35,33 @@ use Rattle.rewind_core.specs.declared.outcome.Planned.TheVariants as planned
 use Rattle.rewind_core.specs.declared.outcome.RewindDone.{RewindDone}
 use Rattle.rewind_core.specs.declared.outcome.RewindDone.TheVariants as done
 
-module _ (c : Contents) (n : Needing) (plan : Plan) (is : IsPlanFor c n plan) where
-  pub found : IsFound c plan.writes
-  found = plan-found c n.aim.between n.pairs n.aim.control n.aim.label plan.writes is.sides is.writes
+bare_short : (bytes : List ℕ) → bytes ≡ [] → IsComplete mark_head mark_gate bytes → ⊥
+bare_short bytes none = short-incomplete mark_head mark_gate bytes (omega (arith, ap length none))
 
-  pub unrefused : first_refusal c (plan_changes c plan.writes) ≡ None
-  unrefused = plan-unrefused c n.aim.between n.pairs n.aim.control n.aim.label plan.writes is.sides is.writes
+module _ (c : Contents) (n : Needing) (plan : Plan) (is : IsPlanFor c n plan) where
+  pub found : IsFound c plan.text plan.writes
+  found = plan-found c plan.text n.aim.between n.pairs n.aim.control n.aim.label plan.writes is.sides is.writes
+
+  pub unrefused : first_refusal c (plan_changes c plan.text plan.writes) ≡ None
+  unrefused = plan-unrefused c plan.text n.aim.between n.pairs n.aim.control n.aim.label plan.writes is.sides is.writes
 
   pub unmarked : list_any (is_on plan.writes.mark) (body_changes c plan.writes) ≡ false
   unmarked = plan-unmarked c n.aim.between n.pairs n.aim.control n.aim.label plan.writes is.sides is.writes
 
-  pub left-by : (c' : Contents) → c' ≡ all_changed c (plan_changes c plan.writes) → IsRewound c n c'
+  -- no mark stands before it
+  pub unbegun : IsComplete mark_head mark_gate (bytes_at c plan.writes.mark) → ⊥
+  unbegun = bare_short (bytes_at c plan.writes.mark) (ap (bytes_at c) is.writes.mark ∙ ap bytes_in (is.sides.marks_target mark_parts refl))
+
+  pub left-by : (c' : Contents) → c' ≡ all_changed c (plan_changes c plan.text plan.writes) → IsRewound c n c'
   left-by c' after = record {
     sides = is.sides;
     inside = λ parts. ap (λ c. entry_at c (below n.aim.between.target parts)) after
-        ∙ plan-leaves-all c n.aim.between n.pairs n.aim.control n.aim.label plan.writes is.sides is.writes parts;
+        ∙ plan-leaves-all c plan.text n.aim.between n.pairs n.aim.control n.aim.label plan.writes is.sides is.writes parts;
     elsewhere = λ path out. ap (λ c. entry_at c path) after
-        ∙ changed-elsewhere c (plan_changes c plan.writes) path (plan-below c n.aim.between n.pairs n.aim.control n.aim.label plan.writes is.sides is.writes path out);
+        ∙ changed-elsewhere c (plan_changes c plan.text plan.writes) path (plan-below c plan.text n.aim.between n.pairs n.aim.control n.aim.label plan.writes is.sides is.writes path out);
   }
 
-  pub rewound-by : {k l : List ChangeCall} {c' : Contents} (r : Result (Unit {0}) PerformFault) → Runs (plan_changes c plan.writes) k l c c' (is_done r) → OnOk r (IsRewound c n c')
+  pub rewound-by : {k l : List ChangeCall} {c' : Contents} (r : Result (Unit {0}) PerformFault) → Runs (plan_changes c plan.text plan.writes) k l c c' (is_done r) → OnOk r (IsRewound c n c')
   rewound-by (Ok u) runs = left-by _ (runs.after refl)
   rewound-by (Err e) runs = tt
 
@@ -93,10 +110,34 @@ module _ (c c1 c' : Contents) (meant : Result Meant RewindFault) (n : Needing) (
       → (IsPlanFor c1 n plan → (p : PathValue) → r ≢ Err (fault.Cluster (cluster.Changed p))) → IfErr r (IsCause meant)
   cause-at r only never = cause-by c meant n plan is found r only (never there)
 
-  pub went-at : (k k1 k' : List ChangeCall) (ok : Bool) → k1 ≡ k → (IsPlanFor c1 n plan → Runs (plan_changes c1 plan.writes) k1 k' c1 c' ok)
+  pub went-at : (k k1 k' : List ChangeCall) (ok : Bool) → k1 ≡ k → (IsPlanFor c1 n plan → Runs (plan_changes c1 plan.text plan.writes) k1 k' c1 c' ok)
       → Went meant (record { contents = c; calls = k }) (record { contents = c'; calls = k' }) ok
   went-at k k1 k' ok uncalled runs =
-      inr (n, plan, found, is, subst (λ x. Runs (plan_changes x plan.writes) k k' x c' ok) same (subst (λ l. Runs (plan_changes c1 plan.writes) l k' c1 c' ok) uncalled (runs there)))
+      inr (n, plan, found, is, subst (λ x. Runs (plan_changes x plan.text plan.writes) k k' x c' ok) same (subst (λ l. Runs (plan_changes c1 plan.text plan.writes) l k' c1 c' ok) uncalled (runs there)))
 
   pub never-at : {P : PathValue → Type 0} → (IsPlanFor c1 n plan → (p : PathValue) → P p) → (p : PathValue) → P p
   never-at never = never there
+
+-- ---- the text that is handed on
+
+module _ {F : Type 0} (tree : Ghosts F) (writes : Writes) (text own : List ℕ) (old new : F) (r : Result (Unit {0}) PerformFault) (same : text ≡ own) where
+  pub performs-own : (IsFound (tree.contents old) text writes → Performs tree (plan_changes (tree.contents old) text writes) old new r) → IsFound (tree.contents old) own writes → Performs tree (plan_changes (tree.contents old) own writes) old new r
+  performs-own = subst (λ t. IsFound (tree.contents old) t writes → Performs tree (plan_changes (tree.contents old) t writes) old new r) same
+
+  pub stops-own : (IsTrue tree.tells → IsFound (tree.contents old) text writes → first_refusal (tree.contents old) (plan_changes (tree.contents old) text writes) ≡ None → list_any (is_on writes.mark) (body_changes (tree.contents old) writes) ≡ false
+      → LeavesOnly (IsSafe writes.mark (moment_of tree old) (all_changed (tree.contents old) (plan_changes (tree.contents old) text writes))) (tree.stops old) (tree.stops new))
+      → IsTrue tree.tells → IsFound (tree.contents old) own writes → first_refusal (tree.contents old) (plan_changes (tree.contents old) own writes) ≡ None → list_any (is_on writes.mark) (body_changes (tree.contents old) writes) ≡ false
+      → LeavesOnly (IsSafe writes.mark (moment_of tree old) (all_changed (tree.contents old) (plan_changes (tree.contents old) own writes))) (tree.stops old) (tree.stops new)
+  stops-own = subst (λ t. IsTrue tree.tells → IsFound (tree.contents old) t writes → first_refusal (tree.contents old) (plan_changes (tree.contents old) t writes) ≡ None → list_any (is_on writes.mark) (body_changes (tree.contents old) writes) ≡ false
+      → LeavesOnly (IsSafe writes.mark (moment_of tree old) (all_changed (tree.contents old) (plan_changes (tree.contents old) t writes))) (tree.stops old) (tree.stops new)) same
+
+  pub synced-own : (IsTrue tree.tells → IsFound (tree.contents old) text writes → first_refusal (tree.contents old) (plan_changes (tree.contents old) text writes) ≡ None → OnOk r (StandsSynced (tree.contents new) (moment_of tree new)))
+      → IsTrue tree.tells → IsFound (tree.contents old) own writes → first_refusal (tree.contents old) (plan_changes (tree.contents old) own writes) ≡ None → OnOk r (StandsSynced (tree.contents new) (moment_of tree new))
+  synced-own = subst (λ t. IsTrue tree.tells → IsFound (tree.contents old) t writes → first_refusal (tree.contents old) (plan_changes (tree.contents old) t writes) ≡ None → OnOk r (StandsSynced (tree.contents new) (moment_of tree new))) same
+
+  pub resumable-own : (IsTrue tree.tells → IsFound (tree.contents old) text writes → first_refusal (tree.contents old) (plan_changes (tree.contents old) text writes) ≡ None → list_any (is_on writes.mark) (body_changes (tree.contents old) writes) ≡ false
+      → StandsSynced (tree.contents old) (moment_of tree old) → (IsComplete mark_head mark_gate (bytes_at (tree.contents old) writes.mark) → ⊥) → LeavesOnly (IsResumable (tree.contents old) text writes) (tree.stops old) (tree.stops new))
+      → IsTrue tree.tells → IsFound (tree.contents old) own writes → first_refusal (tree.contents old) (plan_changes (tree.contents old) own writes) ≡ None → list_any (is_on writes.mark) (body_changes (tree.contents old) writes) ≡ false
+      → StandsSynced (tree.contents old) (moment_of tree old) → (IsComplete mark_head mark_gate (bytes_at (tree.contents old) writes.mark) → ⊥) → LeavesOnly (IsResumable (tree.contents old) own writes) (tree.stops old) (tree.stops new)
+  resumable-own = subst (λ t. IsTrue tree.tells → IsFound (tree.contents old) t writes → first_refusal (tree.contents old) (plan_changes (tree.contents old) t writes) ≡ None → list_any (is_on writes.mark) (body_changes (tree.contents old) writes) ≡ false
+      → StandsSynced (tree.contents old) (moment_of tree old) → (IsComplete mark_head mark_gate (bytes_at (tree.contents old) writes.mark) → ⊥) → LeavesOnly (IsResumable (tree.contents old) t writes) (tree.stops old) (tree.stops new)) same

@@ -1,5 +1,5 @@
 -- What is meant, stage by stage.
-use Rattle.std.proofs.Common.{◌≡◌, ◌⊎◌, inl, inr, List, [], ◌∷◌, Option, None, Some, Result, Ok, Err, option_map, IfErr, IfOk, refl, ap, sym, subst, ◌∙◌}
+use Rattle.std.proofs.Common.{◌≡◌, ◌⊎◌, ℕ, inl, inr, List, [], ◌∷◌, Option, None, Some, Result, Ok, Err, option_map, IfErr, IfOk, refl, ap, sym, subst, ◌∙◌}
 use Rattle.cluster_tree.specs.Apart.{AreApart}
 use Rattle.cluster_tree.specs.Causes.{first_of, given, unless}
 use Rattle.cluster_tree.specs.Contents.{Contents, IsTree}
@@ -9,6 +9,7 @@ use Rattle.file_walk.specs.Walk.{walk_of}
 use Rattle.file_walk.specs.declared.entry.Entry.{Entry}
 use Rattle.file_walk.specs.declared.fault.WalkFault.{WalkFault}
 use Rattle.file_walk.specs.declared.pair.Pair.{Pair}
+use Rattle.plan_text.specs.Text.{plan_text}
 use Rattle.rewind_plan.proofs.WalksFit.{walks-fit}
 use Rattle.rewind_plan.specs.Checks.{first_difference}
 use Rattle.rewind_plan.specs.PlanOf.{IsPlanOf}
@@ -22,6 +23,7 @@ use Rattle.rewind_core.specs.Faults.{seen}
 use Rattle.rewind_core.specs.Fits.{IsPlanBetween, IsPlanFor, PlansNeeded}
 use Rattle.rewind_core.specs.Planned.{Aim, Needing, Needs, from_pairs, from_walks, pairs_refusal}
 use Rattle.rewind_core.specs.Rooted.{IsRooted}
+use Rattle.rewind_core.specs.Text.{saying, sum_at}
 use Rattle.rewind_core.specs.declared.outcome.Plan.{Plan}
 
 -- a plan of these pairs is one between its roots
@@ -85,13 +87,14 @@ module _ (c : Contents) (aim : Aim) where
 
       -- or the plan is made
       pub planned-for : (plan : Plan) → IsTree c → AreApart w.target w.source → IsRooted c w.target → IsRooted c w.source → HasParts c w.target → HasParts c w.source
-          → pairs_refusal w (pairs_of ts ss) ≡ None → plan.told ≡ aim.told → IsPlanOf w (pairs_of ts ss) aim.control aim.label plan.writes
+          → pairs_refusal w (pairs_of ts ss) ≡ None → plan.told ≡ aim.told → plan.text ≡ plan_text w.target (saying (sum_at c w.source) plan) → IsPlanOf w (pairs_of ts ss) aim.control aim.label plan.writes
           → (n : Needing) × (from_walks c aim ≡ Ok (Needs n)) × IsPlanFor c n plan
-      planned-for plan tree apart target source target_parts source_parts none is writes = (
+      planned-for plan tree apart target source target_parts source_parts none is text writes = (
         record { aim = aim; pairs = pairs_of ts ss },
         walked-on ∙ ap (λ r. unless r (Ok (Needs (record { aim = aim; pairs = pairs_of ts ss })))) none,
         record {
           told = is;
+          text = text;
           writes = writes;
           sides = walks-fit c w target.1 source.1 ts ss
               (record { finished = target.0; read = target.2; parts = target_parts; walk = ok-walk _ ts told })
@@ -102,10 +105,11 @@ module _ (c : Contents) (aim : Aim) where
 
       pub walked-plans : (pairs : List Pair) → pairs ≡ pairs_of ts ss → IsTree c → AreApart w.target w.source → IsRooted c w.target → IsRooted c w.source
           → HasParts c w.target → HasParts c' w.source → (r : Result Plan RewindFault) → IfErr r (λ e. IsFree e ⊎ (pairs_refusal w pairs ≡ Some e))
-          → IfOk r (λ plan. pairs_refusal w pairs ≡ None) → IfOk r (λ plan. plan.told ≡ aim.told) → IfOk r (λ plan. IsPlanOf w pairs aim.control aim.label plan.writes)
-          → PlansNeeded c (from_walks c aim) r
-      walked-plans pairs is tree apart t s tp sp (Ok plan) refused none told made =
+          → IfOk r (λ plan. pairs_refusal w pairs ≡ None) → IfOk r (λ plan. plan.told ≡ aim.told) → (sum : ℕ) → sum ≡ sum_at c w.source → IfOk r (λ plan. plan.text ≡ plan_text w.target (saying sum plan))
+          → IfOk r (λ plan. IsPlanOf w pairs aim.control aim.label plan.writes) → PlansNeeded c (from_walks c aim) r
+      walked-plans pairs is tree apart t s tp sp (Ok plan) refused none told sum summed text made =
           planned-for plan tree apart t s tp (subst (λ x. HasParts x w.source) same sp) (subst (λ l. pairs_refusal w l ≡ None) is none) told
+          (text ∙ ap (λ n. plan_text w.target (saying n plan)) summed)
           (subst (λ l. IsPlanOf w l aim.control aim.label plan.writes) is made)
-      walked-plans pairs is tree apart t s tp sp (Err e) refused none told made =
+      walked-plans pairs is tree apart t s tp sp (Err e) refused none told sum summed text made =
           pairs-refused e (subst (λ l. IsFree e ⊎ (pairs_refusal w l ≡ Some e)) is refused)

@@ -38,9 +38,9 @@ reads-on tree P a b d reads left =
 
 -- a plan that is carried out leaves its mark, or the rewound tree
 pub performs-left : (first : Moment) (s : Stops) (n : Needing) (plan : Plan) → IsPlanFor first.state.contents n plan
-    → LeavesOnly (IsSafe plan.writes.mark first (all_changed first.state.contents (plan_changes first.state.contents plan.writes))) first.stops s → LeavesOnly (IsLeftBy n first) first.stops s
+    → LeavesOnly (IsSafe plan.writes.mark first (all_changed first.state.contents (plan_changes first.state.contents plan.text plan.writes))) first.stops s → LeavesOnly (IsLeftBy n first) first.stops s
 performs-left first s n plan is left =
-    leaves_weaker (IsSafe plan.writes.mark first (all_changed first.state.contents (plan_changes first.state.contents plan.writes))) (IsLeftBy n first) first.stops s
+    leaves_weaker (IsSafe plan.writes.mark first (all_changed first.state.contents (plan_changes first.state.contents plan.text plan.writes))) (IsLeftBy n first) first.stops s
     (λ c. ⊎_elim (λ untouched. inl untouched) (λ other. inr (⊎_elim (λ marked. inl (subst (λ p. IsMarked p c) is.writes.mark marked)) (λ done. inr (left-by first.state.contents n plan is c done)) other))) left
 
 -- of a plan between two roots the mark is at the target's

@@ -8,6 +8,7 @@ use Rattle.control_file.specs.declared.control.Control.{Control}
 use Rattle.file_walk.specs.declared.pair.Pair.{Pair}
 use Rattle.marked_runs.specs.Runs.{Runs}
 use Rattle.rewound_tree.specs.Rewound.{rewound}
+use Rattle.plan_text.specs.Text.{plan_text}
 use Rattle.rewind_writes.specs.Plan.{plan_changes}
 use Rattle.rewind_writes.specs.Steps.{AllAreFit}
 use Rattle.rewind_plan.specs.PlanOf.{IsPlanOf, rewinding}
@@ -17,15 +18,17 @@ use Rattle.rewind_survey.specs.Faults.{IsFree}
 use Rattle.rewind_survey.specs.declared.fault.RewindFault.{RewindFault}
 use Rattle.rewind_survey.specs.declared.fault.RewindFault.TheVariants as fault
 use Rattle.rewind_core.specs.Planned.{AtFork, Meant, Needing, Needs, OneTimeline}
+use Rattle.rewind_core.specs.Text.{saying, sum_at}
 use Rattle.rewind_core.specs.declared.outcome.Plan.{Plan}
 use Rattle.rewind_core.specs.declared.outcome.Planned.{Planned}
 use Rattle.rewind_core.specs.declared.outcome.Planned.TheVariants as planned
 use Rattle.rewind_core.specs.declared.outcome.RewindDone.{RewindDone}
 use Rattle.rewind_core.specs.declared.outcome.RewindDone.TheVariants as done
 
--- a plan of just what is needed, made for two clusters that hold it
+-- a plan of just what is needed, made for two clusters that hold it, with its text
 pub record IsPlanFor (c : Contents) (n : Needing) (plan : Plan) : Type 0 where
   pub told : plan.told ≡ n.aim.told
+  pub text : plan.text ≡ plan_text n.aim.between.target (saying (sum_at c n.aim.between.source) plan)
   pub writes : IsPlanOf n.aim.between n.pairs n.aim.control n.aim.label plan.writes
   pub sides : Sides c n.aim.between n.pairs
 
@@ -94,4 +97,4 @@ IsCause meant e = IsFree e ⊎ (e ≡ fault.WriteFault) ⊎ (meant ≡ Err e)
 -- no changing call was made, or those of a plan of just what is needed were begun in turn
 abbrev pub Went : Result Meant RewindFault → (old new : State) → Bool → Type 0
 Went meant old new done = (new ≡ old) ⊎ ((n : Needing) × (plan : Plan) × (meant ≡ Ok (Needs n)) × IsPlanFor old.contents n plan
-    × Runs (plan_changes old.contents plan.writes) old.calls new.calls old.contents new.contents done)
+    × Runs (plan_changes old.contents plan.text plan.writes) old.calls new.calls old.contents new.contents done)

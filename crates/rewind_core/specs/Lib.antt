@@ -1,4 +1,5 @@
 pub mod Faults
+pub mod Text
 pub mod Planned
 pub mod Rooted
 pub mod Fits

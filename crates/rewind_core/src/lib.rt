@@ -8,6 +8,7 @@ mod pairs;
 mod performing;
 mod planning;
 mod rewinding;
+mod sums;
 mod walks;
 
 pub use laws::marks_are_refused;
@@ -17,3 +18,4 @@ pub use performing::perform;
 pub use planning::plan;
 pub use rewind_survey::{Divergence, RewindFault, Told};
 pub use rewinding::rewind;
+pub use sums::sum_at;

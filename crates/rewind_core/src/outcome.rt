@@ -3,12 +3,14 @@ ghost use Rattle.std.specs.Prelude.{◌≡◌};
 
 use rewind_survey::{Divergence, Told};
 use rewind_writes::Plan as Writes;
+use wal_base::Text;
 
 /// A rewind that is needed, made ready: it holds all memory that its changes need.
 #[derive(Drop)]
 pub struct Plan {
     pub(crate) told: Told,
     pub(crate) writes: Writes,
+    pub(crate) text: Text,
 }
 
 impl Plan {

@@ -3,7 +3,7 @@ ghost use Rattle.std.specs.Prelude.{◌≡◌, ◌≢◌, IfOk, Err};
 ghost use Rattle.cluster_tree.specs.Causes.{Passes};
 ghost use Rattle.cluster_tree.specs.PathValue.{PathValue};
 ghost use Rattle.control_file.specs.Admission.{IsControl};
-ghost use Rattle.rewound_tree.specs.RewoundControl.{rewound_control};
+ghost use Rattle.rewound_tree.specs.RewoundControl.{consistent_at, consistent_on, rewound_control};
 ghost use Rattle.rewind_plan.specs.Between.{between};
 ghost use Rattle.rewind_plan.specs.Room.{AllHaveRoom};
 ghost use Rattle.rewind_survey.specs.Faults.{IsFree};
@@ -16,6 +16,19 @@ use rewind_plan::{Clusters, first_difference, first_lacking};
 use rewind_survey::RewindFault;
 use std::alloc::Global;
 
+/// The position from which on a cluster that was shut down is consistent, and that position's timeline.
+fn consistent_from(source: &Control) -> (u64, u32)
+    ensures at { result.0 ≡ consistent_at source.now }
+    ensures timeline { result.1 ≡ consistent_on source.now }
+{
+    if source.state == 2 {
+        let at = source.checkPoint.max(source.minRecoveryPoint);
+        (at, source.timeline())
+    } else {
+        (source.checkPoint, source.cp.tli)
+    }
+}
+
 /// The control file that a rewind leaves.
 #[tactic(auto, using(crate::proofs::ControlLemmas::control_steps))]
 pub(crate) fn rewound_control(source: &Control, now: i64) -> Control
@@ -23,11 +36,12 @@ pub(crate) fn rewound_control(source: &Control, now: i64) -> Control
     ensures value { result ≡ rewound_control source.now now }
     ensures control { IsControl result }
 {
+    let (at, tli) = consistent_from(source);
     Control {
         state: 5,
         time: now,
-        minRecoveryPoint: source.checkPoint,
-        minRecoveryPointTli: source.cp.tli,
+        minRecoveryPoint: at,
+        minRecoveryPointTli: tli,
         ..*source
     }
 }

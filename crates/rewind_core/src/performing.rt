@@ -6,7 +6,7 @@ ghost use Rattle.cluster_tree.specs.PathValue.{PathValue};
 ghost use Rattle.cluster_tree.specs.Stops.{LeavesOnly};
 ghost use Rattle.marked_runs.specs.Moments.{StandsSynced};
 ghost use Rattle.marked_runs.specs.Runs.{Runs, is_done};
-ghost use Rattle.rewind_writes.specs.Plan.{plan_changes};
+ghost use Rattle.rewind_writes.specs.Plan.{IsResumable, plan_changes};
 ghost use Rattle.rewind_writes.specs.Steps.{AllAreFit};
 ghost use Rattle.rewind_core.specs.Fits.{IsPlanFor, IsRewound};
 ghost use Rattle.rewind_core.specs.Planned.{Needing};
@@ -16,8 +16,9 @@ use crate::outcome::Plan;
 use cluster_tree::Tree;
 use marked_runs::PerformFault;
 
-/// Carries out a rewind that was planned. Its mark stands from before the first other change until
-/// after the last sync; it takes no memory, and writes pieces of at most 65536 bytes.
+/// Carries out a rewind that was planned. Its mark, which holds the plan's text, stands from before the
+/// first other change until after the last sync; it takes no memory, and writes pieces of at most 65536
+/// bytes, but for the text.
 ///
 /// Answers `ReadFault` only where a read failed and `WriteFault` only where a changing call did, which
 /// the tree has counted, and `Changed` never where the tree tells and is as it was when this was
@@ -27,7 +28,7 @@ pub fn perform<F: Tree>(tree: &mut F, plan: Plan) -> Result<(), PerformFault>
     // these changes ran, in this order: all of them where it is done, else the first ones, of the last
     // perhaps a part
     ensures runs { IsTrue F.tells → (n : Needing) → IsPlanFor (F.contents tree.old) n plan →
-        Runs (plan_changes (F.contents tree.old) plan.writes) (F.calls tree.old) (F.calls tree.new)
+        Runs (plan_changes (F.contents tree.old) plan.text plan.writes) (F.calls tree.old) (F.calls tree.new)
         (F.contents tree.old) (F.contents tree.new) (is_done result) }
     // then the tree below the target's root is the rewound one
     ensures rewound { IsTrue F.tells → (n : Needing) → IsPlanFor (F.contents tree.old) n plan →
@@ -35,6 +36,11 @@ pub fn perform<F: Tree>(tree: &mut F, plan: Plan) -> Result<(), PerformFault>
     // a stop at any moment leaves it untouched, marked or rewound
     ensures stops { IsTrue F.tells → (n : Needing) → IsPlanFor (F.contents tree.old) n plan →
         LeavesOnly (IsLeftBy n (moment_of F.Tree tree.old)) (F.stops tree.old) (F.stops tree.new) }
+    // where it begins on synced contents, what can be resumed: a mark that reads as complete holds the
+    // plan's text, and all else is an image of the changes under it
+    ensures resumable { IsTrue F.tells → (n : Needing) → IsPlanFor (F.contents tree.old) n plan →
+        StandsSynced (F.contents tree.old) (moment_of F.Tree tree.old) → LeavesOnly
+        (IsResumable (F.contents tree.old) plan.text plan.writes) (F.stops tree.old) (F.stops tree.new) }
     // and once it is done, what stands
     ensures synced { IsTrue F.tells → (n : Needing) → IsPlanFor (F.contents tree.old) n plan →
         OnOk result (StandsSynced (F.contents tree.new) (moment_of F.Tree tree.new)) }
@@ -46,5 +52,10 @@ pub fn perform<F: Tree>(tree: &mut F, plan: Plan) -> Result<(), PerformFault>
     ensures write_fault { IsErrOf result PerformFault.WriteFault →
         Rose (F.failed_changes tree.old) (F.failed_changes tree.new) }
 {
-    rewind_writes::perform(tree, plan.writes)
+    let Plan {
+        told: _,
+        writes,
+        text,
+    } = plan;
+    rewind_writes::perform(tree, writes, text.as_str().as_bytes())
 }

@@ -13,28 +13,53 @@ ghost use Rattle.rewind_survey.specs.Survey.{HoldsParted, Parting};
 ghost use Rattle.rewind_core.specs.Fits.{IsFitPlanned, IsMadeBetween, IsPlanBetween, Plans, PlansNeeded};
 ghost use Rattle.rewind_core.specs.Planned.{from_parting, from_walks, pairs_refusal, planned_of};
 ghost use Rattle.rewind_core.specs.Rooted.{IsRooted, aim};
+ghost use Rattle.rewind_core.specs.Text.{saying, sum_at};
+ghost use Rattle.plan_text.specs.Text.{plan_text};
 ghost use Rattle.clusters.specs.declared.fault.ClusterFault.TheVariants as cluster;
 
 use crate::outcome::{Plan, Planned};
 use crate::pairs::{check_pairs, rewound_control};
+use crate::sums::sum_at;
 use crate::walks::walk_below;
 use backup_label::Label;
 use cluster_tree::{Path, Tree};
 use clusters::segment_size;
 use control_file::Control;
 use file_walk::{Pair, pair_up};
+use plan_text::{StoredPlan, plan_text};
 use rewind_plan::{Clusters, plan_of};
 use rewind_survey::{Parted, RewindFault, Surveyed, Told, control_at, survey};
 use std::alloc::Global;
 
 // What a rewind is for: between two clusters, from where it is told, and with the control file and the
-// label that it leaves.
+// label that it leaves, and the CRC in the source's control file.
 #[derive(Clone, Copy)]
 pub(crate) struct Rewinding<'a> {
     clusters: Clusters<'a>,
     told: Told,
     control: &'a Control,
     label: Label,
+    sum: u32,
+}
+
+// A plan with its text.
+fn with_text(alloc: Global, target: &Path, stored: StoredPlan) -> Result<Plan, RewindFault>
+    ensures told { IfOk result (λ plan. plan.told ≡ stored.told) }
+    ensures writes { IfOk result (λ plan. plan.writes ≡ stored.plan) }
+    ensures text { IfOk result (λ plan. plan.text ≡ plan_text target.now (saying stored.source plan)) }
+    ensures memory { IfErr result (λ e. e ≡ RewindFault.Cluster cluster.OutOfMemory) }
+{
+    let text = plan_text(alloc, target, &stored)?;
+    let StoredPlan {
+        source: _,
+        told,
+        plan,
+    } = stored;
+    Ok(Plan {
+        told,
+        writes: plan,
+        text,
+    })
 }
 
 // The plan for the paths side by side.
@@ -47,6 +72,8 @@ fn plan_pairs(alloc: Global, rewinding: &Rewinding<'_>, pairs: &[Pair]) -> Resul
     ensures told { IfOk result (λ plan. plan.told ≡ rewinding.now.told) }
     ensures made { IfOk result (λ plan. IsPlanOf (aim rewinding.now).between pairs.now
         rewinding.now.control.now rewinding.now.label plan.writes) }
+    ensures text { IfOk result (λ plan. plan.text
+        ≡ plan_text rewinding.now.clusters.target.now (saying rewinding.now.sum plan)) }
     ensures fit { IfOk result (λ plan. AllAreFit plan.writes.steps.items) }
     ensures read { result ≢ Err (RewindFault.Cluster cluster.ReadFault) }
     ensures changed { (p : PathValue) → result ≢ Err (RewindFault.Cluster (cluster.Changed p)) }
@@ -57,10 +84,19 @@ fn plan_pairs(alloc: Global, rewinding: &Rewinding<'_>, pairs: &[Pair]) -> Resul
         told,
         control,
         label,
+        sum,
     } = *rewinding;
     check_pairs(alloc, &clusters, pairs)?;
-    let writes = plan_of(alloc, &clusters, pairs, control, label)?;
-    Ok(Plan { told, writes })
+    let plan = plan_of(alloc, &clusters, pairs, control, label)?;
+    with_text(
+        alloc,
+        clusters.target,
+        StoredPlan {
+            source: sum,
+            told,
+            plan,
+        },
+    )
 }
 
 // The plan of what lies below both roots.
@@ -77,6 +113,8 @@ fn plan_walked<F: Tree>(
         IsRooted (F.contents tree.old) rewinding.now.clusters.target.now }
     requires source { IsTrue F.tells →
         IsRooted (F.contents tree.old) rewinding.now.clusters.source.now }
+    requires sum { IsTrue F.tells → rewinding.now.sum
+        ≡ sum_at (F.contents tree.old) rewinding.now.clusters.source.now }
     ensures exact { IsTrue F.tells → PlansNeeded (F.contents tree.old)
         (from_walks (F.contents tree.old) (aim rewinding.now)) result }
     ensures made { IfOk result (IsPlanBetween rewinding.now.clusters.target.now
@@ -123,6 +161,7 @@ fn plan_parted<F: Tree>(
 {
     let t = control_at(alloc, tree, target)?;
     let s = control_at(alloc, tree, source)?;
+    let sum = sum_at(alloc, tree, source)?;
     let rewinding = Rewinding {
         clusters: Clusters {
             target,
@@ -139,6 +178,7 @@ fn plan_parted<F: Tree>(
             checkpoint: parted.told.checkpoint,
             time: now,
         },
+        sum,
     };
     plan_walked(alloc, tree, &rewinding)
 }

@@ -28,7 +28,7 @@ fn carry_out<F: Tree>(tree: &mut F, plan: Plan) -> Result<RewindDone, RewindFaul
     requires fit { AllAreFit plan.writes.steps.items }
     ensures told { IfOk result (λ done. done ≡ RewindDone.Rewound plan.told) }
     ensures runs { IsTrue F.tells → (n : Needing) → IsPlanFor (F.contents tree.old) n plan →
-        Runs (plan_changes (F.contents tree.old) plan.writes) (F.calls tree.old) (F.calls tree.new)
+        Runs (plan_changes (F.contents tree.old) plan.text plan.writes) (F.calls tree.old) (F.calls tree.new)
         (F.contents tree.old) (F.contents tree.new) (is_ok result) }
     ensures rewound { IsTrue F.tells → (n : Needing) → IsPlanFor (F.contents tree.old) n plan →
         OnOk result (IsRewound (F.contents tree.old) n (F.contents tree.new)) }

@@ -1,11 +1,11 @@
 -- Every change of a rewind is of the target.
-use Rattle.std.proofs.Common.{◌≡◌, ℕ, ℤ, Bool, true, false, cond, List, [], ◌∷◌, ◌++◌, map, inl, refl, sym, subst, nat_lt, Option, None, Some, Result, Ok, Err}
+use Rattle.std.proofs.Common.{◌≡◌, ℕ, ℤ, Bool, true, false, cond, List, [], ◌∷◌, ◌++◌, length, map, inl, refl, sym, subst, nat_lt, Option, None, Some, Result, Ok, Err}
 use Rattle.block_refs.specs.declared.names.RelName.{RelName}
 use Rattle.backup_label.specs.declared.label.Label.{Label}
 use Rattle.cluster_tree.specs.Causes.{given, unless}
-use Rattle.cluster_tree.specs.Change.{Change, Cuts, MakesFile}
+use Rattle.cluster_tree.specs.Change.{Change, Cuts, MakesFile, Syncs}
 use Rattle.cluster_tree.specs.Contents.{Contents, entry_at, is_file}
-use Rattle.cluster_tree.specs.PathValue.{PathValue, Holds, below}
+use Rattle.cluster_tree.specs.PathValue.{PathValue, Holds}
 use Rattle.cluster_tree.proofs.RootLemmas.{holds-below}
 use Rattle.control_file.specs.declared.control.Control.{Control}
 use Rattle.clusters.specs.RootControl.{control_at}
@@ -17,7 +17,8 @@ use Rattle.file_walk.specs.declared.action.Action.TheVariants as action
 use Rattle.file_walk.specs.declared.entry.EntryKind.{EntryKind}
 use Rattle.file_walk.specs.declared.entry.EntryKind.TheVariants as kind
 use Rattle.file_walk.specs.declared.pair.Pair.{Pair}
-use Rattle.marked_runs.specs.Runs.{writes_at}
+use Rattle.gated_marks.specs.Changes.{begun_gated, emptied, gate_opened, head_laid, text_laid}
+use Rattle.marked_runs.specs.Runs.{ended, writes_at}
 use Rattle.rewind_plan.specs.Blocks.{block_steps, range_step}
 use Rattle.rewind_plan.specs.PlanOf.{IsPlanOf}
 use Rattle.rewind_plan.specs.Planned.{Between, action_of, all_file_steps, both_files, file_steps, folder_step, folder_steps, in_target, removal_step, removal_steps, steps_of, touched_steps, whole_step}
@@ -26,7 +27,7 @@ use Rattle.rewind_survey.specs.Faults.{told_by}
 use Rattle.rewind_survey.specs.Survey.{Parting, Survey, survey_of}
 use Rattle.rewind_survey.specs.Survey as survey
 use Rattle.rewind_survey.specs.declared.fault.RewindFault.{RewindFault}
-use Rattle.rewind_writes.specs.Plan.{plan_changes}
+use Rattle.rewind_writes.specs.Plan.{body_changes, mark_gate, mark_head, mark_laid, plan_changes}
 use Rattle.rewind_writes.specs.Steps.{changes_of, part_of, steps_changes}
 use Rattle.rewind_writes.specs.declared.plan.Plan.{Plan}
 use Rattle.rewind_writes.specs.declared.step.Step.{Step}
@@ -164,17 +165,30 @@ module _ (w : Between) where
   pub all-in : (pairs : List Pair) → AreIn w.target (steps_of w pairs)
   all-in pairs = and-in w.target (folder_steps w pairs) _ (folders-in pairs) (and-in w.target (all_file_steps w pairs) (removal_steps w pairs) (files-in pairs) (removals-in pairs))
 
+-- ---- a mark that is laid
+
+emptied-of : (root mark : PathValue) (there : Bool) → Holds root mark → AreOf root (cond there (Cuts mark 0 ∷ Syncs ∷ []) (MakesFile mark ∷ []))
+emptied-of root mark true holds = (at-path root mark holds, (at-none root, tt))
+emptied-of root mark false holds = (at-path root mark holds, tt)
+
+pub laid-of : (c : Contents) (root mark : PathValue) (text : List ℕ) → Holds root mark → AreOf root (begun_gated c mark mark_head mark_gate text)
+laid-of c root mark text holds =
+    let on = at-path root mark holds in
+    let head = both root (emptied c mark) _ (emptied-of root mark (is_file (entry_at c mark)) holds) (on, (at-none root, tt)) in
+    let put = both root (writes_at mark (length mark_head) text) (Syncs ∷ []) (write-of root mark (length mark_head) text holds) (at-none root, tt) in
+    both root _ (gate_opened mark mark_gate) (both root (head_laid c mark mark_head) (text_laid mark (length mark_head) text) head put) (on, (at-none root, tt))
+
 -- ---- the changes of a rewind
 
-pub plan-of : (c : Contents) (w : Between) (pairs : List Pair) (control : Control) (label : Label) (plan : Plan) → IsPlanOf w pairs control label plan → AreOf w.target (plan_changes c plan)
-plan-of c w pairs control label plan is =
+pub plan-of : (c : Contents) (text : List ℕ) (w : Between) (pairs : List Pair) (control : Control) (label : Label) (plan : Plan) → IsPlanOf w pairs control label plan → AreOf w.target (plan_changes c text plan)
+plan-of c text w pairs control label plan is =
     let root = w.target in
-    let mark = at-path root plan.mark (subst (Holds root) (sym is.mark) (holds-below root mark_parts)) in
+    let held = subst (Holds root) (sym is.mark) (holds-below root mark_parts) in
     let at_label = at-path root plan.label.path (subst (Holds root) (sym is.label_at) (holds-below root label_parts)) in
     let at_control = at-path root plan.control.path (subst (Holds root) (sym is.control_at) (holds-below root control_parts)) in
     let steps = steps-of c root plan.steps.items (subst (AreIn root) (sym is.steps) (all-in w pairs)) in
     let body = both root (steps_changes c plan.steps.items) _ steps (at_label, (at_label, (at_control, tt))) in
-    (mark, (mark, (at-none root, both root _ _ body (at-none root, (mark, (at-none root, tt))))))
+    both root _ (ended plan.mark) (both root (mark_laid c text plan) (body_changes c plan) (laid-of c root plan.mark text held) body) (at-none root, (at-path root plan.mark held, (at-none root, tt)))
 
 -- ---- what is meant is of the roots that were given
 
@@ -218,7 +232,7 @@ planned-aims c target source now = aims-given target (survey_of c target source)
 
 -- ---- both, of a rewind that is needed
 
-pub of-target : (c : Contents) (target source : PathValue) (now : ℤ) (n : Needing) (plan : RewindPlan) → planned_of c target source now ≡ Ok (Needs n) → IsPlanFor c n plan → AreOf target (plan_changes c plan.writes)
+pub of-target : (c : Contents) (target source : PathValue) (now : ℤ) (n : Needing) (plan : RewindPlan) → planned_of c target source now ≡ Ok (Needs n) → IsPlanFor c n plan → AreOf target (plan_changes c plan.text plan.writes)
 of-target c target source now n plan is for =
     let aims : n.aim.between.target ≡ target = subst (Aims target) is (planned-aims c target source now) in
-    subst (λ root. AreOf root (plan_changes c plan.writes)) aims (plan-of c n.aim.between n.pairs n.aim.control n.aim.label plan.writes for.writes)
+    subst (λ root. AreOf root (plan_changes c plan.text plan.writes)) aims (plan-of c plan.text n.aim.between n.pairs n.aim.control n.aim.label plan.writes for.writes)

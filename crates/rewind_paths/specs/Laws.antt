@@ -15,4 +15,4 @@ AreOf root changes = AreBelow (root ∷ []) (map call_of changes)
 
 -- every change of a plan for the rewind that is needed is of the target
 abbrev pub RewindIsOfTarget : Type 0
-RewindIsOfTarget = (c : Contents) (target source : PathValue) (now : ℤ) (n : Needing) (plan : Plan) → planned_of c target source now ≡ Ok (Needs n) → IsPlanFor c n plan → AreOf target (plan_changes c plan.writes)
+RewindIsOfTarget = (c : Contents) (target source : PathValue) (now : ℤ) (n : Needing) (plan : Plan) → planned_of c target source now ≡ Ok (Needs n) → IsPlanFor c n plan → AreOf target (plan_changes c plan.text plan.writes)

@@ -1,25 +1,36 @@
+use Rattle.std.proofs.Common.{◌∙◌}
 use Rattle.cluster_tree.specs.Frame.{moment_of}
-use Rattle.rewind_core.proofs.PerformLemmas.{found, rewound-by, unmarked, unrefused}
+use Rattle.rewind_core.proofs.PerformLemmas.{found, performs-own, resumable-own, rewound-by, stops-own, synced-own, unbegun, unmarked, unrefused}
 use Rattle.rewind_core.proofs.StopLemmas.{performs-left}
 use Rattle.rewind_core.proofs.performing.perform.Goals as goal
 
 pub returns-clause-runs : goal.returns-clause-runs
 returns-clause-runs g c told n is =
-    (c.perform.ensures.performs (found _ n c.args.plan is) told (unrefused _ n c.args.plan is)).runs
+    let performs = performs-own g.F.Tree c.args.plan.writes _ c.args.plan.text c.args.tree.now _ _ (c.as_bytes.ensures.value ∙ c.as_str.ensures.value) c.perform.ensures.performs in
+    (performs (found _ n c.args.plan is) told (unrefused _ n c.args.plan is)).runs
 
 pub returns-clause-rewound : goal.returns-clause-rewound
 returns-clause-rewound g c told n is =
-    rewound-by _ n c.args.plan is c.perform.result
-    (c.perform.ensures.performs (found _ n c.args.plan is) told (unrefused _ n c.args.plan is)).runs
+    let performs = performs-own g.F.Tree c.args.plan.writes _ c.args.plan.text c.args.tree.now _ _ (c.as_bytes.ensures.value ∙ c.as_str.ensures.value) c.perform.ensures.performs in
+    rewound-by _ n c.args.plan is c.perform.result (performs (found _ n c.args.plan is) told (unrefused _ n c.args.plan is)).runs
 
 pub returns-clause-changed : goal.returns-clause-changed
 returns-clause-changed g c told n is =
-    (c.perform.ensures.performs (found _ n c.args.plan is) told (unrefused _ n c.args.plan is)).agreed
+    let performs = performs-own g.F.Tree c.args.plan.writes _ c.args.plan.text c.args.tree.now _ _ (c.as_bytes.ensures.value ∙ c.as_str.ensures.value) c.perform.ensures.performs in
+    (performs (found _ n c.args.plan is) told (unrefused _ n c.args.plan is)).agreed
 
 pub returns-clause-stops : goal.returns-clause-stops
 returns-clause-stops g c told n is =
+    let stops = stops-own g.F.Tree c.args.plan.writes _ c.args.plan.text c.args.tree.now _ c.perform.result (c.as_bytes.ensures.value ∙ c.as_str.ensures.value) c.perform.ensures.stops in
     performs-left (moment_of g.F.Tree c.args.tree.now) _ n c.args.plan is
-    (c.perform.ensures.stops told (found _ n c.args.plan is) (unrefused _ n c.args.plan is) (unmarked _ n c.args.plan is))
+    (stops told (found _ n c.args.plan is) (unrefused _ n c.args.plan is) (unmarked _ n c.args.plan is))
 
 pub returns-clause-synced : goal.returns-clause-synced
-returns-clause-synced g c told n is = c.perform.ensures.synced told (found _ n c.args.plan is) (unrefused _ n c.args.plan is)
+returns-clause-synced g c told n is =
+    let synced = synced-own g.F.Tree c.args.plan.writes _ c.args.plan.text c.args.tree.now _ _ (c.as_bytes.ensures.value ∙ c.as_str.ensures.value) c.perform.ensures.synced in
+    synced told (found _ n c.args.plan is) (unrefused _ n c.args.plan is)
+
+pub returns-clause-resumable : goal.returns-clause-resumable
+returns-clause-resumable g c told n is synced =
+    let resumable = resumable-own g.F.Tree c.args.plan.writes _ c.args.plan.text c.args.tree.now _ c.perform.result (c.as_bytes.ensures.value ∙ c.as_str.ensures.value) c.perform.ensures.resumable in
+    resumable told (found _ n c.args.plan is) (unrefused _ n c.args.plan is) (unmarked _ n c.args.plan is) synced (unbegun _ n c.args.plan is)

@@ -29,7 +29,7 @@ returns-clause-exact g c told =
     _ (c.deref.ensures.value ∙ c.in_ok-pairs.ensures.value (c.in_ok-here.ensures.order told) (c.in_ok-there.ensures.order told))
     (g.met.F.Tree.is_tree told c.args.tree.now) c.requires.apart (c.requires.target told) (c.requires.source told)
     (c.in_ok-here.ensures.parts told) (c.in_ok-there.ensures.parts told) c.plan_pairs.result
-    c.plan_pairs.ensures.refused c.plan_pairs.ensures.passed c.plan_pairs.ensures.told c.plan_pairs.ensures.made
+    c.plan_pairs.ensures.refused c.plan_pairs.ensures.passed c.plan_pairs.ensures.told _ (c.requires.sum told) c.plan_pairs.ensures.text c.plan_pairs.ensures.made
 
 pub returns-clause-made : goal.returns-clause-made
 returns-clause-made g c = made-between (aim c.args.rewinding.now) _ c.plan_pairs.result c.plan_pairs.ensures.made
