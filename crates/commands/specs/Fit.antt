@@ -48,6 +48,7 @@ pub record IsFitPair (words : PairWords) : Type 0 where
 -- what a command may be carried out on
 abbrev pub IsFit : Command → Type 0
 IsFit (command.Rewind words) = AreFitRoots words.target words.source
+IsFit (command.Resume words) = AreFitRoots words.target words.source
 IsFit (command.Controldata words) = IsFitRoot words.root
 IsFit (command.Waldump words) = IsFitWaldump words
 IsFit (command.Resetwal words) = IsFitResetwal words

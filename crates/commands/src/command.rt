@@ -9,6 +9,8 @@ use crate::{
 pub enum Command {
     /// pg_rewind.
     Rewind(RewindWords),
+    /// pg_rewind --resume.
+    Resume(RewindWords),
     /// pg_waldump.
     Waldump(WaldumpWords),
     /// pg_controldata.

@@ -1,5 +1,5 @@
 -- The name to keep of words that are read has one of its forms.
-use Rattle.std.proofs.Common.{◌≡◌, ◌∙◌, ℕ, Bool, true, false, if◌then◌else◌, is_some, List, Option, None, Some, option_and_then, refl, sym}
+use Rattle.std.proofs.Common.{◌≡◌, ℕ, Bool, true, false, if◌then◌else◌, is_some, List, Option, None, Some, option_and_then, refl, sym}
 use Rattle.archive_names.specs.Cleanup.{kept_of}
 use Rattle.clap.specs.Walk.{Row}
 use Rattle.command_words.specs.Table.{found_in}

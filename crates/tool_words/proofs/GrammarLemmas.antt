@@ -4,7 +4,7 @@ use Rattle.clap.proofs.OnLiterals.{clap_on_literals}
 use Rattle.command_words.specs.Table.{found_in}
 use Rattle.tool_words.specs.Controldata.{controldata_of, controldata_table}
 use Rattle.tool_words.specs.Rewind.{rewind_of, rewind_table}
-use Rattle.tool_words.specs.Laws.{IsPlainText, both}
+use Rattle.tool_words.specs.Laws.{IsPlainText, both, resumed}
 use Rattle.tool_words.specs.Roots.{root_of}
 
 pub help_is_refused : (name : List ℕ) → controldata_of (name ∷ codes "--help" ∷ []) ≡ None
@@ -99,6 +99,48 @@ dry_run name (c ∷ cs) [] p q =
     let e : (c == 45) ≡ false = grind arith in
     rw (e, e) refl
 dry_run name (c ∷ cs) (d ∷ ds) p q =
+    let e : (c == 45) ≡ false = grind arith in
+    let f : (d == 45) ≡ false = grind arith in
+    rw (e, e, f, f) refl
+
+pub resume : (name target source : List ℕ) → IsPlainText target → IsPlainText source → rewind_of (name ∷ codes "-D" ∷ target ∷ codes "--source-pgdata" ∷ source ∷ codes "--resume" ∷ []) ≡ resumed target source false
+unfolding rewind_table found_in clap_on_literals
+resume name [] [] p q = refl
+resume name [] (d ∷ ds) p q =
+    let f : (d == 45) ≡ false = grind arith in
+    rw (f, f) refl
+resume name (c ∷ cs) [] p q =
+    let e : (c == 45) ≡ false = grind arith in
+    rw (e, e) refl
+resume name (c ∷ cs) (d ∷ ds) p q =
+    let e : (c == 45) ≡ false = grind arith in
+    let f : (d == 45) ≡ false = grind arith in
+    rw (e, e, f, f) refl
+
+pub dry_resume : (name target source : List ℕ) → IsPlainText target → IsPlainText source → rewind_of (name ∷ codes "-D" ∷ target ∷ codes "--source-pgdata" ∷ source ∷ codes "--resume" ∷ codes "-n" ∷ []) ≡ resumed target source true
+unfolding rewind_table found_in clap_on_literals
+dry_resume name [] [] p q = refl
+dry_resume name [] (d ∷ ds) p q =
+    let f : (d == 45) ≡ false = grind arith in
+    rw (f, f) refl
+dry_resume name (c ∷ cs) [] p q =
+    let e : (c == 45) ≡ false = grind arith in
+    rw (e, e) refl
+dry_resume name (c ∷ cs) (d ∷ ds) p q =
+    let e : (c == 45) ≡ false = grind arith in
+    let f : (d == 45) ≡ false = grind arith in
+    rw (e, e, f, f) refl
+
+pub resume_twice : (name target source : List ℕ) → IsPlainText target → IsPlainText source → rewind_of (name ∷ codes "-D" ∷ target ∷ codes "--source-pgdata" ∷ source ∷ codes "--resume" ∷ codes "--resume" ∷ []) ≡ None
+unfolding rewind_table found_in clap_on_literals
+resume_twice name [] [] p q = refl
+resume_twice name [] (d ∷ ds) p q =
+    let f : (d == 45) ≡ false = grind arith in
+    rw (f, f) refl
+resume_twice name (c ∷ cs) [] p q =
+    let e : (c == 45) ≡ false = grind arith in
+    rw (e, e) refl
+resume_twice name (c ∷ cs) (d ∷ ds) p q =
     let e : (c == 45) ≡ false = grind arith in
     let f : (d == 45) ≡ false = grind arith in
     rw (e, e, f, f) refl

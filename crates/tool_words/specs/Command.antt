@@ -14,6 +14,7 @@ use Rattle.commands.specs.declared.fault.CommandFault.{CommandFault}
 use Rattle.commands.specs.declared.fault.CommandFault.TheVariants as fault
 use Rattle.commands.specs.declared.name.CommandName.{CommandName}
 use Rattle.commands.specs.declared.name.CommandName.TheVariants as name
+use Rattle.commands.specs.declared.rewind.RewindWords.{RewindWords}
 use Rattle.commands.specs.declared.waldump.WaldumpWords.TheVariants as asked
 use Rattle.tool_words.specs.Archivecleanup.{archivecleanup_of}
 use Rattle.tool_words.specs.Controldata.{controldata_of}
@@ -64,16 +65,22 @@ two_roots first second =
     if climbs (checked 0 first) || climbs (checked 0 second) then Err fault.DotDot
     else given (root_named first) (λ f. given (root_named second) (λ s. roots_apart f s))
 
--- pg_rewind of two roots, and pg_walcompare
-abbrev pub rewind_at : Bool → PathValue × PathValue → Command
-rewind_at dry_run roots = command.Rewind (record { target = roots.0; source = roots.1; dry_run = dry_run })
+-- pg_rewind of two roots, from its start or gone on with
+abbrev pub rewind_words : Bool → PathValue × PathValue → RewindWords
+rewind_words dry_run roots = record { target = roots.0; source = roots.1; dry_run = dry_run }
 
+abbrev pub rewind_at : RewindTexts → PathValue × PathValue → Command
+rewind_at words roots =
+    if words.resume then command.Resume (rewind_words words.dry_run roots)
+    else command.Rewind (rewind_words words.dry_run roots)
+
+-- pg_walcompare of two roots
 abbrev pub walcompare_at : PathValue × PathValue → Command
 walcompare_at roots = command.Walcompare (record { first = roots.0; second = roots.1 })
 
 abbrev pub rewind_asked : Option RewindTexts → Result Command CommandFault
 rewind_asked None = Err fault.Usage
-rewind_asked (Some words) = given (two_roots words.target words.source) (λ roots. Ok (rewind_at words.dry_run roots))
+rewind_asked (Some words) = given (two_roots words.target words.source) (λ roots. Ok (rewind_at words roots))
 
 abbrev pub walcompare_asked : Option WalcompareTexts → Result Command CommandFault
 walcompare_asked None = Err fault.Usage

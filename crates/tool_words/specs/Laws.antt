@@ -27,9 +27,13 @@ pub record ReadsRoot (name dir : List ℕ) : Type 0 where
   pub neither : controldata_of (name ∷ []) ≡ None
   pub help : controldata_of (name ∷ codes "--help" ∷ []) ≡ None
 
--- these two roots, neither of them empty
+-- these two roots, neither of them empty, for a rewind from its start
 abbrev pub both : List ℕ → List ℕ → Bool → Option RewindTexts
-both target source dry_run = rewind_from (root_of target) (root_of source) dry_run
+both target source dry_run = rewind_from (root_of target) (root_of source) dry_run false
+
+-- and for one that is gone on with
+abbrev pub resumed : List ℕ → List ℕ → Bool → Option RewindTexts
+resumed target source dry_run = rewind_from (root_of target) (root_of source) dry_run true
 
 -- the two roots of pg_rewind
 pub record ReadsRoots (name target source : List ℕ) : Type 0 where
@@ -41,6 +45,12 @@ pub record ReadsRoots (name target source : List ℕ) : Type 0 where
   pub no_target : rewind_of (name ∷ codes "--source-pgdata" ∷ source ∷ []) ≡ None
   pub further : rewind_of (name ∷ codes "-D" ∷ target ∷ codes "--source-pgdata" ∷ source ∷ target ∷ []) ≡ None
   pub help : rewind_of (name ∷ codes "--help" ∷ []) ≡ None
+
+-- a rewind is resumed where the flag for it stands behind its roots, as a dry run too; given twice it is refused
+pub record ReadsResume (name target source : List ℕ) : Type 0 where
+  pub resume : rewind_of (name ∷ codes "-D" ∷ target ∷ codes "--source-pgdata" ∷ source ∷ codes "--resume" ∷ []) ≡ resumed target source false
+  pub dry : rewind_of (name ∷ codes "-D" ∷ target ∷ codes "--source-pgdata" ∷ source ∷ codes "--resume" ∷ codes "-n" ∷ []) ≡ resumed target source true
+  pub twice : rewind_of (name ∷ codes "-D" ∷ target ∷ codes "--source-pgdata" ∷ source ∷ codes "--resume" ∷ codes "--resume" ∷ []) ≡ None
 
 -- ---- pg_waldump
 

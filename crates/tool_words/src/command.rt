@@ -55,11 +55,16 @@ fn rewind_asked(alloc: Global, words: &[String]) -> Result<Command, CommandFault
             let target = texts.target.as_str();
             let source = texts.source.as_str();
             let (target, source) = two_roots(alloc, target, source)?;
-            Ok(Command::Rewind(RewindWords {
+            let asked = RewindWords {
                 target,
                 source,
                 dry_run: texts.dry_run,
-            }))
+            };
+            if texts.resume {
+                Ok(Command::Resume(asked))
+            } else {
+                Ok(Command::Rewind(asked))
+            }
         }
         Err(WordsFault::Usage) => Err(CommandFault::Usage),
         Err(WordsFault::OutOfMemory) => Err(CommandFault::OutOfMemory),

@@ -1,5 +1,5 @@
 // Laws of the grammar: what it comes to at the words that are usual, for every value.
-ghost use Rattle.tool_words.specs.Laws.{IsPlainText, ReadsRoot, ReadsRoots, ReadsStart};
+ghost use Rattle.tool_words.specs.Laws.{IsPlainText, ReadsResume, ReadsRoot, ReadsRoots, ReadsStart};
 
 /// Each usual way to give the root of `pg_controldata` gives it, given twice or not at all it is
 /// refused, and so is a call for help.
@@ -14,6 +14,14 @@ pub fn two_roots_are_read(name: &str, target: &str, source: &str)
     requires target { IsPlainText target.now }
     requires source { IsPlainText source.now }
     ensures { ReadsRoots name.now target.now source.now }
+{}
+
+/// With `--resume` behind its roots `pg_rewind` goes on with a rewind, as a dry run too where it is asked
+/// for; given twice it is refused.
+pub fn a_resume_is_read(name: &str, target: &str, source: &str)
+    requires target { IsPlainText target.now }
+    requires source { IsPlainText source.now }
+    ensures { ReadsResume name.now target.now source.now }
 {}
 
 /// `pg_waldump` begins with a segment's file, or in a folder at a position; with neither of them it is

@@ -18,16 +18,19 @@ pub(crate) struct RewindTexts {
     pub(crate) source: Text,
     /// Whether nothing is to be written.
     pub(crate) dry_run: bool,
+    /// Whether a rewind that was broken off is to be gone on with.
+    pub(crate) resume: bool,
 }
 
 #[tactic(auto, unfolding(crate::specs::Rewind::rewind_table))]
-fn table() -> [Entry; 3]
+fn table() -> [Entry; 4]
     ensures { rules_of result ≡ rewind_table }
 {
     [
         Entry::option("target", Some('D'), Some("target-pgdata")),
         Entry::option("source", None, Some("source-pgdata")),
         Entry::flag("dry-run", Some('n'), Some("dry-run")),
+        Entry::flag("resume", None, Some("resume")),
     ]
 }
 
@@ -46,10 +49,12 @@ pub(crate) fn rewind_words(alloc: Global, words: &[String]) -> Result<RewindText
             let target = root(alloc, target)?;
             let source = root(alloc, source)?;
             let dry_run = found.flag("dry-run");
+            let resume = found.flag("resume");
             Ok(RewindTexts {
                 target,
                 source,
                 dry_run,
+                resume,
             })
         }
         _ => Err(WordsFault::Usage),
