@@ -1,4 +1,4 @@
-// The lines of clusters, files and histories that are unfit.
+// The lines of clusters, files, histories and plans that are unfit.
 ghost use Rattle.std.specs.Prelude.{◌≡◌, string_bytes, false, IfOk, IsOk};
 ghost use Rattle.cause_lines.specs.Lines.{line_of, line_with, made_text};
 ghost use Rattle.cause_lines.specs.Pieces.{ends_pieces, entry_pieces, missing_pieces, special_pieces, systems_pieces};
@@ -57,7 +57,7 @@ pub(crate) fn special_line(
     format!(in alloc; "{name}: error: {what} {at} {manager} {info}\n")
 }
 
-/// The line of clusters or files that are unfit.
+/// The line of clusters, files or plans that are unfit.
 pub(crate) fn unfit_line(
     alloc: Global,
     name: Option<CommandName>,
@@ -81,6 +81,9 @@ pub(crate) fn unfit_line(
         }
         RewindCause::KindsDiffer(path) => path_line(alloc, name, "KindsDiffer", path),
         RewindCause::OddSize(path, bytes) => number_line(alloc, name, "OddSize", path, *bytes),
+        RewindCause::BadPlan(root, line) => number_line(alloc, name, "BadPlan", root, *line),
+        RewindCause::SourceDiffers(path) => path_line(alloc, name, "SourceDiffers", path),
+        RewindCause::TargetDiffers(path) => path_line(alloc, name, "TargetDiffers", path),
     }
 }
 

@@ -118,6 +118,14 @@ pub enum RewindCause {
     KindsDiffer(Path),
     /// A file of a main fork at this path below a root, and its bytes, which make no whole blocks.
     OddSize(Path, u64),
+    /// The root of a target whose mark holds a plan, and the number, from 1, of its first line that
+    /// isn't of its form or place.
+    BadPlan(Path, u64),
+    /// A file at this path below the source's root isn't the one that a stored plan was made for.
+    SourceDiffers(Path),
+    /// What stands at this path below the target's root refuses the next change of a rewind that is
+    /// resumed. What was changed before stays, and the mark stands.
+    TargetDiffers(Path),
 }
 
 /// What is wrong with a log.

@@ -11,3 +11,9 @@ returns-in-KindsDiffer c = rw c.in-KindsDiffer.is c.path_line-in-KindsDiffer.ens
 
 pub returns-in-OddSize : goal.returns-in-OddSize
 returns-in-OddSize c = rw c.in-OddSize.is c.number_line-in-OddSize.ensures
+
+pub returns-in-BadPlan : goal.returns-in-BadPlan
+returns-in-BadPlan c = rw c.in-BadPlan.is c.number_line-in-BadPlan.ensures
+
+pub returns-in-TargetDiffers : goal.returns-in-TargetDiffers
+returns-in-TargetDiffers c = rw c.in-TargetDiffers.is c.path_line-in-TargetDiffers.ensures
