@@ -27,7 +27,7 @@ use Rattle.cmd_pair.proofs.StayLemmas.{at-target, bare, changes-stay, silent}
 went_target : (target source : PathValue) (now : ℤ) (a b : State) (finished : Bool) → Went (planned_of a.contents target source now) a b finished → Changes (target ∷ []) (bare a) (bare b)
 went_target target source now a b finished (inl same) = subst (λ (x : State). Changes (target ∷ []) (bare a) (bare x)) (sym same) (none-within (target ∷ []) a.contents a.calls silent silent)
 went_target target source now a b finished (inr (n, plan, meant, for, ran)) =
-    ran-within (target ∷ []) (plan_changes a.contents plan.writes) a.calls b.calls a.contents b.contents finished silent silent (of-target a.contents target source now n plan meant for) ran
+    ran-within (target ∷ []) (plan_changes a.contents plan.text plan.writes) a.calls b.calls a.contents b.contents finished silent silent (of-target a.contents target source now n plan meant for) ran
 
 pub rewind-stays : (root target source : PathValue) → target ≡ target_of root → (a b : State) (finished : Bool) → Went (planned_of a.contents target source (pos made_at)) a b finished → StaysInPair root a b
 rewind-stays root target source is a b finished went = changes-stay root target a b (at-target root target is) (went_target target source (pos made_at) a b finished went)

@@ -48,7 +48,7 @@ pub planned-form : (words : RewindWords) (c : Contents) (v : Planned) → IsMade
 planned-form words c planned.SameTimeline made = inl refl
 planned-form words c (planned.EndsAtFork fork) made = inr (inl (fork, refl))
 planned-form words c (planned.Needed plan) made =
-    made-form words c plan.told (plan_changes c plan.writes) words.dry_run refl (subst (λ root. AreOf root (plan_changes c plan.writes)) made.target_is (plan-of c made.between made.pairs made.control made.label plan.writes made.writes))
+    made-form words c plan.told (plan_changes c plan.text plan.writes) words.dry_run refl (subst (λ root. AreOf root (plan_changes c plan.text plan.writes)) made.target_is (plan-of c plan.text made.between made.pairs made.control made.label plan.writes made.writes))
 
 needed-looks : (dry_run : Bool) (c : Contents) (n : Needing) → Looks ((needed_answer dry_run c n).acts)
 needed-looks true c n = tt
@@ -66,8 +66,8 @@ answer-looks c words now = looks_of words.dry_run c (planned_of c words.target w
 -- ---- what was planned is what is meant
 
 -- the changes of the plan are those that are needed
-changes_are : (c : Contents) (n : Needing) (plan : Plan) → IsPlanFor c n plan → plan_changes c plan.writes ≡ needed_changes c n
-changes_are c n plan is = cc (is.writes.mark, is.writes.steps, is.writes.label_at, is.writes.label_says, is.writes.control_at, is.writes.control_says)
+changes_are : (c : Contents) (n : Needing) (plan : Plan) → IsPlanFor c n plan → plan_changes c plan.text plan.writes ≡ needed_changes c n
+changes_are c n plan is = cc (is.text, is.told, is.writes.mark, is.writes.steps, is.writes.label_at, is.writes.label_says, is.writes.control_at, is.writes.control_says)
 
 needed_answers : (dry_run : Bool) (c : Contents) (n : Needing) (plan : Plan) → IsPlanFor c n plan → planned_answer dry_run c (planned.Needed plan) ≡ needed_answer dry_run c n
 needed_answers dry_run c n plan is =

@@ -32,14 +32,14 @@ on_ok (Ok v) p = p
 on_ok (Err e) p = tt
 
 module _ (tells : Bool) (plan : Plan) (c c' : Contents) (k k' : List ChangeCall) {o e : Bool} {out err : Sunk} where
-  by_fault : (f : PerformFault) → (IsTrue tells → Runs (plan_changes c plan.writes) k k' c c' false) → (IsTrue tells → (p : PathValue) → f ≢ perform.Changed p)
+  by_fault : (f : PerformFault) → (IsTrue tells → Runs (plan_changes c plan.text plan.writes) k k' c c' false) → (IsTrue tells → (p : PathValue) → f ≢ perform.Changed p)
       → PerformsUnseen (IsTrue tells) o e (perform_cause f) (made_of plan) (seen c k out err) (seen c' k' out err)
-  by_fault perform.ReadFault ran never = makes_part tells (λ d. plan_changes d plan.writes) c c' k k' cause.ReadFault false (inr refl) ran
-  by_fault perform.WriteFault ran never = makes_part tells (λ d. plan_changes d plan.writes) c c' k k' cause.WriteFault false (inl refl) ran
-  by_fault (perform.Changed p) ran never = makes_changed tells (λ d. plan_changes d plan.writes) c c' k k' p (λ t. never t p refl)
+  by_fault perform.ReadFault ran never = makes_part tells (λ d. plan_changes d plan.text plan.writes) c c' k k' cause.ReadFault false (inr refl) ran
+  by_fault perform.WriteFault ran never = makes_part tells (λ d. plan_changes d plan.text plan.writes) c c' k k' cause.WriteFault false (inl refl) ran
+  by_fault (perform.Changed p) ran never = makes_changed tells (λ d. plan_changes d plan.text plan.writes) c c' k k' p (λ t. never t p refl)
 
   -- its cause under another name
-  pub broken_off : (f : PerformFault) (why : Cause) → why ≡ perform_cause f → (IsTrue tells → Runs (plan_changes c plan.writes) k k' c c' false) → (IsTrue tells → (p : PathValue) → f ≢ perform.Changed p)
+  pub broken_off : (f : PerformFault) (why : Cause) → why ≡ perform_cause f → (IsTrue tells → Runs (plan_changes c plan.text plan.writes) k k' c c' false) → (IsTrue tells → (p : PathValue) → f ≢ perform.Changed p)
       → PerformsUnseen (IsTrue tells) o e why (made_of plan) (seen c k out err) (seen c' k' out err)
   broken_off f why is ran never =
       let P : Cause → Type 0 = λ x. PerformsUnseen (IsTrue tells) o e x (made_of plan) (seen c k out err) (seen c' k' out err) in

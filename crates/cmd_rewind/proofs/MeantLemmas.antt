@@ -122,7 +122,7 @@ hints-look target t = may-if (not (t.walLogHints == 0) || (t.checksumVersion == 
 
 clean-looks : (root : PathValue) (c : Control) → MayLook (not_clean root c)
 unfolding not_clean
-clean-looks root c = may-if (c.state == 1) _ (inr (inr refl))
+clean-looks root c = may-if ((c.state == 1) || (c.state == 2)) _ (inr (inr refl))
 
 points-look : (o : Option RewindFault) (points : List (Option RewindFault)) → MayLook o → MayLook (first_of points) → MayLook (first_of (o ∷ points))
 unfolding first_of

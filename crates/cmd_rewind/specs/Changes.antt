@@ -1,15 +1,18 @@
 -- The changes of a rewind, in the order of writes: PostgreSQL 16, src/bin/pg_rewind/pg_rewind.c, perform_rewind. Own: "The plan of a rewind".
-use Rattle.std.specs.Prelude.{List, [], ◌∷◌, ◌++◌, codes}
+use Rattle.std.specs.Prelude.{ℕ, List, [], ◌∷◌, ◌++◌}
 use Rattle.cluster_tree.specs.Change.{Change, MakesFile, Writes}
 use Rattle.cluster_tree.specs.Contents.{Contents}
 use Rattle.cluster_tree.specs.PathValue.{below}
-use Rattle.marked_runs.specs.Runs.{marked}
+use Rattle.gated_marks.specs.Changes.{gated}
+use Rattle.plan_text.specs.Text.{plan_text}
 use Rattle.control_file.specs.Writing.{control_bytes}
 use Rattle.backup_label.specs.Text.{label_text}
+use Rattle.rewind_writes.specs.Plan.{mark_gate, mark_head}
 use Rattle.rewind_writes.specs.Steps.{steps_changes}
 use Rattle.rewind_plan.specs.Planned.{steps_of}
 use Rattle.rewind_plan.specs.Sides.{control_parts, label_parts, mark_parts}
 use Rattle.rewind_core.specs.Planned.{Aim, Needing}
+use Rattle.rewind_core.specs.Text.{sum_at}
 
 -- last of all the label is made, and the control file written over
 abbrev pub closing : Aim → List Change
@@ -18,8 +21,18 @@ closing aim =
     ∷ Writes (below aim.between.target label_parts) 0 (label_text aim.label)
     ∷ Writes (below aim.between.target control_parts) 0 (control_bytes aim.control) ∷ []
 
+-- what the mark holds: the plan as text
+abbrev pub needed_text : Contents → Needing → List ℕ
+needed_text c n = plan_text n.aim.between.target record {
+  source = sum_at c n.aim.between.source;
+  told = n.aim.told;
+  steps = steps_of n.aim.between n.pairs;
+  label = label_text n.aim.label;
+  control = control_bytes n.aim.control;
+}
+
 -- under the mark the folders, files and removals of the paths side by side, and then that
 abbrev pub needed_changes : Contents → Needing → List Change
 needed_changes c n =
-    marked (below n.aim.between.target mark_parts) (codes "pg_rewind 1\n")
+    gated c (below n.aim.between.target mark_parts) mark_head mark_gate (needed_text c n)
     (steps_changes c (steps_of n.aim.between n.pairs) ++ closing n.aim)

@@ -4,7 +4,6 @@ use Rattle.std.specs.Fmt.{decimal}
 use Rattle.std.specs.List.{concat}
 use Rattle.cluster_tree.specs.Change.{Change, all_changed, call_of}
 use Rattle.cluster_tree.specs.Contents.{Contents}
-use Rattle.cluster_tree.specs.PathValue.{PathValue}
 use Rattle.cluster_tree.specs.Run.{Moment}
 use Rattle.marked_runs.specs.Moments.{IsUntouched, StandsSynced}
 use Rattle.wal_base.specs.Lsn.{lsn_text}

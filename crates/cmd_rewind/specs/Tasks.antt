@@ -26,7 +26,7 @@ abbrev pub planned_answer : Bool → Contents → Planned → Answer
 planned_answer dry_run c planned.SameTimeline = does same_report
 planned_answer dry_run c (planned.EndsAtFork fork) = does (fork_report fork)
 planned_answer dry_run c (planned.Needed plan) =
-    if dry_run then does (rewind_report plan.told) else does (made_acts plan.told c (plan_changes c plan.writes))
+    if dry_run then does (rewind_report plan.told) else does (made_acts plan.told c (plan_changes c plan.text plan.writes))
 
 -- the report of lines that were made
 abbrev pub reported : Lines → List Act
@@ -36,7 +36,7 @@ reported (lines.Rewind first second) = Report (string_bytes first) ∷ Report (s
 
 -- the changes of a plan, of these contents, and the last line
 abbrev pub made_of : Plan → Contents → List Act
-made_of plan c = Do (map call_of (plan_changes c plan.writes)) (all_changed c (plan_changes c plan.writes)) ∷ Report all_done ∷ []
+made_of plan c = Do (map call_of (plan_changes c plan.text plan.writes)) (all_changed c (plan_changes c plan.text plan.writes)) ∷ Report all_done ∷ []
 
 -- what a task does
 abbrev pub task_acts : Task → Contents → List Act

@@ -9,4 +9,6 @@ mod rewinds;
 mod tasks;
 
 pub use laws::marks_are_refused;
+pub use lines::{Lines, diverged, rewinding};
+pub use reports::{all_done, report};
 pub use rewinds::rewind;

@@ -7,7 +7,7 @@ use std::alloc::{AllocError, Global};
 
 /// The report of what a target needs.
 #[derive(Drop)]
-pub(crate) enum Lines {
+pub enum Lines {
     /// That both clusters are on one timeline.
     Same,
     /// That nothing is to be done, behind the line on the fork.
@@ -18,7 +18,7 @@ pub(crate) enum Lines {
 
 /// The line on the fork.
 #[tactic(auto, unfolding(crate::specs::Rewind::diverged))]
-pub(crate) fn diverged(alloc: Global, fork: Divergence) -> Result<String, AllocError>
+pub fn diverged(alloc: Global, fork: Divergence) -> Result<String, AllocError>
     ensures { IfOk result (λ line. string_bytes line ≡ diverged fork) }
 {
     let at = fork.at;
@@ -28,7 +28,7 @@ pub(crate) fn diverged(alloc: Global, fork: Divergence) -> Result<String, AllocE
 
 /// The line on the common checkpoint.
 #[tactic(auto, unfolding(crate::specs::Rewind::rewinding))]
-pub(crate) fn rewinding(alloc: Global, told: Told) -> Result<String, AllocError>
+pub fn rewinding(alloc: Global, told: Told) -> Result<String, AllocError>
     ensures { IfOk result (λ line. string_bytes line ≡ rewinding told) }
 {
     let at = told.checkpoint;

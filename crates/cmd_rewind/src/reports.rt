@@ -28,7 +28,7 @@ fn no_rewind() -> &'static str
 
 /// The line of a rewind that is done.
 #[tactic(auto, unfolding(crate::specs::Rewind::all_done))]
-pub(crate) fn all_done() -> &'static str
+pub fn all_done() -> &'static str
     ensures { result.now ≡ all_done }
 {
     "pg_rewind: Done!\n"
@@ -71,7 +71,7 @@ fn report_rewind<E: Sink>(err: &mut E, first: &str, second: &str) -> Result<(), 
 }
 
 /// Reports what a target needs.
-pub(crate) fn report<E: Sink>(err: &mut E, lines: &Lines) -> Result<(), Cause>
+pub fn report<E: Sink>(err: &mut E, lines: &Lines) -> Result<(), Cause>
     ensures performs { (out_tells : Bool) (out : Sunk) (c : Contents) (k : List ChangeCall) →
         Performs out_tells E.tells (ending_of (cause_of result)) (reported lines.now)
         (seen c k out (sunk (E.written err.old) (E.failed_writes err.old)))

@@ -7,7 +7,7 @@ use Rattle.cmd_rewind.proofs.makes.make.Goals as goal
 
 pub returns-in-Ok-clause-performs : goal.returns-in-Ok-clause-performs
 returns-in-Ok-clause-performs g c out_tells out =
-    makes_told g.F.Tree.tells (λ d. plan_changes d c.args.plan.writes) (g.F.Tree.contents c.args.tree.now) (g.F.Tree.contents c.perform.new.tree) (g.F.Tree.calls c.args.tree.now) (g.F.Tree.calls c.perform.new.tree)
+    makes_told g.F.Tree.tells (λ d. plan_changes d c.args.plan.text c.args.plan.writes) (g.F.Tree.contents c.args.tree.now) (g.F.Tree.contents c.perform.new.tree) (g.F.Tree.calls c.args.tree.now) (g.F.Tree.calls c.perform.new.tree)
     c.tell.result (λ t. c.in-Ok.ensures.runs t (c.requires.planned t).0 (c.requires.planned t).1) c.tell.ensures.whole c.tell.ensures.part c.tell.ensures.only c.all_done.ensures
 
 pub returns-in-Err-clause-performs : goal.returns-in-Err-clause-performs
