@@ -1,0 +1,82 @@
+use Rattle.std.proofs.Common.{Err, FitsSigned, inl, inr, refl, rules, w64, ap}
+use Rattle.std.proofs.lemmas.Int.{to_z-of_z}
+use Rattle.cluster_tree.specs.Frame.{moment_of}
+use Rattle.plan_text.specs.Text.{said_by}
+use Rattle.run_acts.proofs.AnswerSteps.{carries_look}
+use Rattle.run_acts.proofs.UnseenSteps.{unseen_still}
+use Rattle.cmd_resume.proofs.LookLemmas.{looks-only, refused-passes, resume-form, resume-looks}
+use Rattle.cmd_resume.proofs.ResumeLemmas.{asked-readable, blames-on, exact_as, fresh-durable, fresh-leaves, fresh-left, fresh-meant, looks-left, made_as, stored-durable, stored-leaves, stored-left, stored-meant, unseen_as}
+use Rattle.cmd_resume.proofs.resumes.resume.Goals as goal
+
+pub resume_stored-requires-clause-readable : goal.resume_stored-requires-clause-readable
+resume_stored-requires-clause-readable g c t =
+    let words = c.args.words.now in
+    asked-readable (g.F.Tree.contents c.args.tree.now) (g.F.Tree.contents c.stored_rewind.new.tree) words.target words.source c.in-Ok-Some.stored c.stored_rewind.ensures.reads.same
+    c.requires.apart (made_as c.args.words.now.target c.args.words.now.source c.in-Ok-Some.field-0-is c.in-Ok-Some.ensures.made) (exact_as c.in-Ok-Some.field-0-is (c.in-Ok-Some.ensures.exact t))
+
+pub returns-in-Ok-None-clause-carries : goal.returns-in-Ok-None-clause-carries
+returns-in-Ok-None-clause-carries g c out_tells out =
+    let fits : FitsSigned w64 c.args.now = search rules in
+    let words = c.args.words.now in
+    unseen_as c.stored_rewind.ensures.reads.same c.stored_rewind.ensures.reads.uncalled
+    (λ t. fresh-meant words (g.F.Tree.contents c.args.tree.now) (g.F.Tree.contents c.stored_rewind.new.tree) (to_z-of_z w64 c.args.now fits) c.stored_rewind.ensures.reads.same (exact_as c.in-Ok-None.field-0-is (c.in-Ok-None.ensures.exact t)))
+    (λ a form. inl form) (c.rewind.ensures.carries out_tells out)
+
+pub returns-in-Ok-None-clause-resumed : goal.returns-in-Ok-None-clause-resumed
+returns-in-Ok-None-clause-resumed g c t =
+    let fits : FitsSigned w64 c.args.now = search rules in
+    fresh-leaves c.rewind.result c.args.words.now (g.F.Tree.contents c.args.tree.now) (g.F.Tree.contents c.stored_rewind.new.tree) (g.F.Tree.contents c.rewind.new.tree)
+    (to_z-of_z w64 c.args.now fits) c.stored_rewind.ensures.reads.same (exact_as c.in-Ok-None.field-0-is (c.in-Ok-None.ensures.exact t)) (c.rewind.ensures.rewound t)
+
+pub returns-in-Ok-None-clause-stops : goal.returns-in-Ok-None-clause-stops
+returns-in-Ok-None-clause-stops g c t =
+    let fits : FitsSigned w64 c.args.now = search rules in
+    fresh-left g.F.Tree c.args.words.now c.args.now c.args.tree.now c.stored_rewind.new.tree c.stored_rewind.ensures.reads c.rewind.new.tree (to_z-of_z w64 c.args.now fits) (c.rewind.ensures.stops t)
+
+pub returns-in-Ok-None-clause-synced : goal.returns-in-Ok-None-clause-synced
+returns-in-Ok-None-clause-synced g c t =
+    let fits : FitsSigned w64 c.args.now = search rules in
+    fresh-durable c.rewind.result c.args.words.now (g.F.Tree.contents c.args.tree.now) (g.F.Tree.contents c.stored_rewind.new.tree) (moment_of g.F.Tree c.rewind.new.tree)
+    (to_z-of_z w64 c.args.now fits) c.stored_rewind.ensures.reads.same (exact_as c.in-Ok-None.field-0-is (c.in-Ok-None.ensures.exact t)) (c.rewind.ensures.synced t)
+
+pub returns-in-Ok-None-clause-blames : goal.returns-in-Ok-None-clause-blames
+returns-in-Ok-None-clause-blames g c n = blames-on g.F.Tree c.args.tree.now c.stored_rewind.new.tree c.stored_rewind.ensures.reads (c.rewind.ensures.blames n)
+
+pub returns-in-Ok-Some-clause-carries : goal.returns-in-Ok-Some-clause-carries
+returns-in-Ok-Some-clause-carries g c out_tells out =
+    let words = c.args.words.now in
+    unseen_as c.stored_rewind.ensures.reads.same c.stored_rewind.ensures.reads.uncalled
+    (λ t. stored-meant words c.args.now (g.F.Tree.contents c.args.tree.now) (g.F.Tree.contents c.stored_rewind.new.tree) c.in-Ok-Some.stored c.stored_rewind.ensures.reads.same
+    (made_as c.args.words.now.target c.args.words.now.source c.in-Ok-Some.field-0-is c.in-Ok-Some.ensures.made).placed (exact_as c.in-Ok-Some.field-0-is (c.in-Ok-Some.ensures.exact t)))
+    (λ a form. form) (c.resume_stored.ensures.carries out_tells out)
+
+pub returns-in-Ok-Some-clause-resumed : goal.returns-in-Ok-Some-clause-resumed
+returns-in-Ok-Some-clause-resumed g c t =
+    stored-leaves c.resume_stored.result c.args.words.now c.args.now (g.F.Tree.contents c.args.tree.now) (g.F.Tree.contents c.stored_rewind.new.tree) (g.F.Tree.contents c.resume_stored.new.tree)
+    c.in-Ok-Some.stored c.stored_rewind.ensures.reads.same (made_as c.args.words.now.target c.args.words.now.source c.in-Ok-Some.field-0-is c.in-Ok-Some.ensures.made).placed (exact_as c.in-Ok-Some.field-0-is (c.in-Ok-Some.ensures.exact t)) (c.resume_stored.ensures.resumed t)
+
+pub returns-in-Ok-Some-clause-stops : goal.returns-in-Ok-Some-clause-stops
+returns-in-Ok-Some-clause-stops g c t =
+    stored-left g.F.Tree c.args.words.now c.args.now c.args.tree.now c.stored_rewind.new.tree c.stored_rewind.ensures.reads c.resume_stored.new.tree c.in-Ok-Some.stored
+    (made_as c.args.words.now.target c.args.words.now.source c.in-Ok-Some.field-0-is c.in-Ok-Some.ensures.made).placed (exact_as c.in-Ok-Some.field-0-is (c.in-Ok-Some.ensures.exact t)) (c.resume_stored.ensures.stops t)
+
+pub returns-in-Ok-Some-clause-synced : goal.returns-in-Ok-Some-clause-synced
+returns-in-Ok-Some-clause-synced g c t =
+    stored-durable c.resume_stored.result c.args.words.now c.args.now (g.F.Tree.contents c.args.tree.now) (said_by c.in-Ok-Some.stored) (moment_of g.F.Tree c.resume_stored.new.tree)
+    (exact_as c.in-Ok-Some.field-0-is (c.in-Ok-Some.ensures.exact t)) (c.resume_stored.ensures.synced t)
+
+pub returns-in-Ok-Some-clause-blames : goal.returns-in-Ok-Some-clause-blames
+returns-in-Ok-Some-clause-blames g c n = blames-on g.F.Tree c.args.tree.now c.stored_rewind.new.tree c.stored_rewind.ensures.reads (c.resume_stored.ensures.blames n)
+
+pub returns-in-Err-clause-carries : goal.returns-in-Err-clause-carries
+returns-in-Err-clause-carries g c out_tells out =
+    let words = c.args.words.now in
+    let contents = g.F.Tree.contents c.args.tree.now in
+    let looks = looks-only c.in-Err.fault c.resume_cause.result (λ is. c.in-Err.ensures.never_writes (ap Err is)) c.resume_cause.ensures.look in
+    unseen_still c.stored_rewind.ensures.reads.same c.stored_rewind.ensures.reads.uncalled
+    (λ d j. carries_look c.resume_cause.result (resume-form contents words c.args.now) (resume-looks contents words c.args.now)
+    (inl (inr (inr (inr (inr (c.resume_cause.result, looks, refl)))))) looks
+    (λ t. refused-passes contents words c.args.now c.in-Err.fault c.resume_cause.result (c.in-Err.ensures.exact t) c.resume_cause.ensures.value) refl refl)
+
+pub returns-in-Err-clause-stops : goal.returns-in-Err-clause-stops
+returns-in-Err-clause-stops g c t = looks-left g.F.Tree c.args.words.now c.args.now _ _ c.stored_rewind.ensures.reads
