@@ -10,6 +10,7 @@ use Rattle.commands.specs.declared.waldump.WaldumpWords.{WaldumpWords}
 use Rattle.commands.specs.declared.rewind.RewindWords.{RewindWords}
 use Rattle.commands.specs.declared.controldata.ControldataWords.{ControldataWords}
 use Rattle.cmd_controldata.specs.Controldata.{IsControldata, controldata_answer}
+use Rattle.cmd_resume.proofs.LookLemmas.{resume-form, resume-looks}
 use Rattle.cmd_rewind.specs.Rewind.{IsRewind, LeavesRewound, rewind_answer}
 use Rattle.cmd_waldump.specs.Waldump.{AskForList, IsWaldump, waldump_answer}
 use Rattle.clusters.specs.RootControl.{control_at}
@@ -42,14 +43,13 @@ use Rattle.cmd_pair.proofs.FormLemmas.{answer-form as pair-form, answer-looks as
 use Rattle.commands.specs.declared.pair.PairWords.{PairWords}
 use Rattle.pair_maker.specs.Pair.{StaysBeside}
 use Rattle.wal_tools.specs.Answers.{IsAnswer, answered}
-use Rattle.rewound_laws.proofs.ConvergeLemmas.{follows}
-use Rattle.wal_tools.specs.Converges.{ConvergesAsked}
 use Rattle.wal_tools.specs.Leaves.{LeavesAsked, StaysAsked}
 use Rattle.wal_tools.specs.Words.{IsSeen, MayChange, NeedsNoTree, refused_by_words, words_cause}
 
 -- what is done has the command's form, and begins with a look
 pub answered-form : (c : Contents) (now : ℤ) (asked : Result Command CommandFault) → IsAnswer now asked (answered c now asked)
 answered-form c now (Ok (command.Rewind words)) = rewind-form c words now
+answered-form c now (Ok (command.Resume words)) = resume-form c words now
 answered-form c now (Ok (command.Controldata words)) = control-form (control_at c words.root)
 answered-form c now (Ok (command.Waldump words)) = waldump-form c words
 answered-form c now (Ok (command.Resetwal words)) = reset-form c words now
@@ -61,6 +61,7 @@ answered-form c now (Err e) = refl
 
 pub answered-looks : (c : Contents) (now : ℤ) (asked : Result Command CommandFault) → Looks ((answered c now asked).acts)
 answered-looks c now (Ok (command.Rewind words)) = rewind-looks c words now
+answered-looks c now (Ok (command.Resume words)) = resume-looks c words now
 answered-looks c now (Ok (command.Controldata words)) = control-looks (control_at c words.root)
 answered-looks c now (Ok (command.Waldump words)) = waldump-looks c words
 answered-looks c now (Ok (command.Resetwal words)) = reset-looks c words now
@@ -82,7 +83,7 @@ of_command tells c now {asked} {k} {o} {e} {ended} {s} {u} is p = let P : Result
 pub at_time : (tells : Bool) (c : Contents) (asked : Result Command CommandFault) {n m : ℤ} {o e : Bool} {ended : Cause} {s u : Seen} → n ≡ m → CarriesOut tells c n o e asked ended s u → CarriesOut tells c m o e asked ended s u
 at_time tells c asked {o = o} {e} {ended} {s} {u} is p = subst (λ x. CarriesOut tells c x o e asked ended s u) is p
 
-by_tree : (tells : Bool) → IsTrue tells ⊎ ⊥ → IsTrue tells
+pub by_tree : (tells : Bool) → IsTrue tells ⊎ ⊥ → IsTrue tells
 by_tree tells (inl t) = t
 by_tree tells (inr none) = absurd none
 
@@ -110,7 +111,7 @@ pub of_waldump : (tells : Bool) (c : Contents) (now : ℤ) {k : Command} {words 
     → Carries (IsTrue tells ⊎ AskForList words) (waldump_answer c words) (IsWaldump words) o e ended s u → CarriesOut tells c now o e (Ok k) ended s u
 of_waldump tells c now {o = o} {e} {ended} {s} {u} is p = let P : Command → Type 0 = λ x. CarriesOut tells c now o e (Ok x) ended s u in subst P (sym is) (unseen_seen (inr (λ may. may)) p)
 
-undried : (dry_run : Bool) → (IsTrue (not dry_run) → ⊥) → IsTrue dry_run
+pub undried : (dry_run : Bool) → (IsTrue (not dry_run) → ⊥) → IsTrue dry_run
 undried true h = refl
 undried false h = absurd (h refl)
 
@@ -173,19 +174,6 @@ rewound_at {k} {words} {n} {m} r tells c c' out out' is same left =
     let Q : Command → Type 0 = λ x. OnOk r (LeavesAsked (Ok x) m tells c c' out out') in
     subst Q (sym is) (subst P same left)
 
--- and the target follows its source
-pub converges_left : (asked : Result Command CommandFault) (now : ℤ) (tells : Bool) (c c' : Contents) (out out' : List ℕ) → LeavesAsked asked now tells c c' out out' → ConvergesAsked asked now c c'
-converges_left (Ok (command.Rewind words)) now tells c c' out out' left =
-    λ n wet planned. follows c c' words.target words.source now n planned (left n wet planned)
-converges_left (Ok (command.Controldata words)) now tells c c' out out' left = tt
-converges_left (Ok (command.Waldump words)) now tells c c' out out' left = tt
-converges_left (Ok (command.Resetwal words)) now tells c c' out out' left = tt
-converges_left (Ok (command.Archivecleanup words)) now tells c c' out out' left = tt
-converges_left (Ok (command.Walreplay words)) now tells c c' out out' left = tt
-converges_left (Ok (command.Walcompare words)) now tells c c' out out' left = tt
-converges_left (Ok (command.Pair words)) now tells c c' out out' left = tt
-converges_left (Err e) now tells c c' out out' left = tt
-
 -- what pg_walreplay does is seen where the tree tells
 seen_replay : (T : Type 0) (words : WalreplayWords) → IsSeen T (Ok (command.Walreplay words)) → T
 seen_replay T words (inl t) = t
@@ -239,6 +227,7 @@ beside_at {k} {words} c c' ended is stays = let Q : Command → Type 0 = λ x. S
 -- what stays does so where a fault of a device, or want of memory, stands in place of the cause
 stays_free : (asked : Result Command CommandFault) (c c' : Contents) (own : Cause) {ended : Cause} → IsFree ended → StaysAsked asked c c' own → StaysAsked asked c c' ended
 stays_free (Ok (command.Rewind words)) c c' own free stays = tt
+stays_free (Ok (command.Resume words)) c c' own free stays = tt
 stays_free (Ok (command.Controldata words)) c c' own free stays = tt
 stays_free (Ok (command.Waldump words)) c c' own free stays = tt
 stays_free (Ok (command.Resetwal words)) c c' own free stays = tt
@@ -251,6 +240,7 @@ stays_free (Err e) c c' own free stays = tt
 -- where nothing was done, for want of memory
 pub stays_unmade : (asked : Result Command CommandFault) (c : Contents) → StaysAsked asked c c cause.OutOfMemory
 stays_unmade (Ok (command.Rewind words)) c = tt
+stays_unmade (Ok (command.Resume words)) c = tt
 stays_unmade (Ok (command.Controldata words)) c = tt
 stays_unmade (Ok (command.Waldump words)) c = tt
 stays_unmade (Ok (command.Resetwal words)) c = tt
@@ -297,6 +287,7 @@ wet_reset {k} {words} is dry = let P : Command → Type 0 = λ x. MayChange (Ok 
 -- what needs no tree changes nothing
 needless : (asked : Result Command CommandFault) → NeedsNoTree asked → MayChange asked → ⊥
 needless (Ok (command.Rewind words)) need may = need
+needless (Ok (command.Resume words)) need may = need
 needless (Ok (command.Controldata words)) need may = may
 needless (Ok (command.Waldump words)) need may = may
 needless (Ok (command.Resetwal words)) need may = need

@@ -29,6 +29,7 @@ use Rattle.wal_tools.specs.Stopped.{IsDurableAsked, IsLeftAsked}
 -- what is untouched is left by every command
 within : (asked : Result Command CommandFault) (now : ℤ) (first : Moment) → Within (IsUntouched first) (IsLeftAsked asked now first)
 within (Ok (command.Rewind words)) now first c u = inl u
+within (Ok (command.Resume words)) now first c u = inl (inl u)
 within (Ok (command.Controldata words)) now first c u = u
 within (Ok (command.Waldump words)) now first c u = u
 within (Ok (command.Resetwal words)) now first c u = inl u

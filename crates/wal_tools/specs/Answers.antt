@@ -9,6 +9,7 @@ use Rattle.cmd_archivecleanup.specs.Archivecleanup.{IsArchivecleanup, archivecle
 use Rattle.cmd_controldata.specs.Controldata.{IsControldata, controldata_answer}
 use Rattle.cmd_pair.specs.Pair.{IsPair, pair_answer}
 use Rattle.cmd_resetwal.specs.Resetwal.{IsResetwal, resetwal_answer}
+use Rattle.cmd_resume.specs.Resume.{IsResume, resume_answer}
 use Rattle.cmd_rewind.specs.Rewind.{IsRewind, rewind_answer}
 use Rattle.cmd_walcompare.specs.Walcompare.{IsWalcompare, walcompare_answer}
 use Rattle.cmd_waldump.specs.Waldump.{IsWaldump, waldump_answer}
@@ -18,6 +19,7 @@ use Rattle.wal_tools.specs.Words.{words_cause}
 -- what is done about the words, from the contents and the time in seconds since 1970
 abbrev pub answered : Contents → ℤ → Result Command CommandFault → Answer
 answered c now (Ok (command.Rewind words)) = rewind_answer c words now
+answered c now (Ok (command.Resume words)) = resume_answer c words now
 answered c now (Ok (command.Controldata words)) = controldata_answer c words
 answered c now (Ok (command.Waldump words)) = waldump_answer c words
 answered c now (Ok (command.Resetwal words)) = resetwal_answer c words now
@@ -30,6 +32,7 @@ answered c now (Err e) = refused (words_cause e)
 -- what the command may do over any tree
 abbrev pub IsAnswer : ℤ → Result Command CommandFault → Answer → Type 0
 IsAnswer now (Ok (command.Rewind words)) answer = IsRewind words answer
+IsAnswer now (Ok (command.Resume words)) answer = IsResume words answer
 IsAnswer now (Ok (command.Controldata words)) answer = IsControldata answer
 IsAnswer now (Ok (command.Waldump words)) answer = IsWaldump words answer
 IsAnswer now (Ok (command.Resetwal words)) answer = IsResetwal words now answer

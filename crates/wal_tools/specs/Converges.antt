@@ -7,11 +7,14 @@ use Rattle.commands.specs.declared.command.Command.TheVariants as command
 use Rattle.commands.specs.declared.fault.CommandFault.{CommandFault}
 use Rattle.rewind_core.specs.Planned.{Needing, Needs, planned_of}
 use Rattle.rewound_laws.specs.Converge.{Follows}
+use Rattle.wal_tools.specs.Resumed.{ConvergesResumed}
 
--- A rewind that was asked for and needed, and that is done, leaves a target that follows its source. Of other commands nothing is said.
+-- A rewind that was asked for and needed, and that is done, leaves a target that follows its source; and so does one that was
+-- stopped and is resumed. Of other commands nothing is said.
 abbrev pub ConvergesAsked : Result Command CommandFault → ℤ → (c c' : Contents) → Type 0
 ConvergesAsked (Ok (command.Rewind words)) now c c' =
     (n : Needing) → words.dry_run ≡ false → planned_of c words.target words.source now ≡ Ok (Needs n) → Follows c words.target n c'
+ConvergesAsked (Ok (command.Resume words)) now c c' = ConvergesResumed words now c c'
 ConvergesAsked (Ok (command.Controldata words)) now c c' = Unit {0}
 ConvergesAsked (Ok (command.Waldump words)) now c c' = Unit {0}
 ConvergesAsked (Ok (command.Resetwal words)) now c c' = Unit {0}

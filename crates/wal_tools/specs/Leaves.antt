@@ -1,23 +1,26 @@
 -- What a run of pg_rewind, of pg_walreplay and of pair leaves, and what one of pg_walcompare found: PostgreSQL 16 manual, reference page of pg_rewind;
--- src/backend/access/transam/xlogrecovery.c, PerformWalRecovery. Own: "The plan of a rewind", "The answer of a replay", "What a comparison of clusters shows",
--- "A pair from a number".
+-- src/backend/access/transam/xlogrecovery.c, PerformWalRecovery. Own: "The plan of a rewind", "A rewind that is resumed", "The answer of a
+-- replay", "What a comparison of clusters shows", "A pair from a number".
 use Rattle.std.specs.Prelude.{ℕ, ℤ, Bool, List, Result, Ok, Err}
 use Rattle.cluster_tree.specs.Contents.{Contents}
 use Rattle.commands.specs.declared.command.Command.{Command}
 use Rattle.commands.specs.declared.command.Command.TheVariants as command
 use Rattle.commands.specs.declared.fault.CommandFault.{CommandFault}
 use Rattle.cmd_pair.specs.Tried.{LeavesPair}
+use Rattle.cmd_resume.specs.Resume.{LeavesResumed}
 use Rattle.cmd_rewind.specs.Rewind.{LeavesRewound}
 use Rattle.cmd_walcompare.specs.Walcompare.{AreSame}
 use Rattle.cmd_walreplay.specs.Walreplay.{LeavesReplayed, StaysMarked}
 use Rattle.pair_maker.specs.Pair.{StaysBeside}
 use Rattle.run_acts.specs.declared.cause.Cause.{Cause}
 
--- What a run leaves that is done. A rewind that was asked for, needed and made leaves the rewound tree below the target's root, path by path. A replay
--- leaves the replayed files, and standard output goes on by the line on their log. Of a comparison the two clusters are the same. Of
--- pair the three clusters were made and tried, and standard output goes on by the line on them.
+-- What a run leaves that is done. A rewind that was asked for, needed and made leaves the rewound tree below the target's root, path by path. A resume
+-- leaves what its changes make, and where no complete mark stands what a rewind leaves. A replay leaves the replayed files, and standard output goes on by
+-- the line on their log. Of a comparison the two clusters are the same. Of pair the three clusters were made and tried, and standard output goes on by the
+-- line on them.
 abbrev pub LeavesAsked : Result Command CommandFault → ℤ → (tells : Bool) → (c c' : Contents) → (out out' : List ℕ) → Type 0
 LeavesAsked (Ok (command.Rewind words)) now tells c c' out out' = LeavesRewound words now c c'
+LeavesAsked (Ok (command.Resume words)) now tells c c' out out' = LeavesResumed words now c c'
 LeavesAsked (Ok (command.Controldata words)) now tells c c' out out' = Unit {0}
 LeavesAsked (Ok (command.Waldump words)) now tells c c' out out' = Unit {0}
 LeavesAsked (Ok (command.Resetwal words)) now tells c c' out out' = Unit {0}
@@ -31,6 +34,7 @@ LeavesAsked (Err e) now tells c c' out out' = Unit {0}
 -- leaves all but its three clusters as it was.
 abbrev pub StaysAsked : Result Command CommandFault → (c c' : Contents) → (ended : Cause) → Type 0
 StaysAsked (Ok (command.Rewind words)) c c' ended = Unit {0}
+StaysAsked (Ok (command.Resume words)) c c' ended = Unit {0}
 StaysAsked (Ok (command.Controldata words)) c c' ended = Unit {0}
 StaysAsked (Ok (command.Waldump words)) c c' ended = Unit {0}
 StaysAsked (Ok (command.Resetwal words)) c c' ended = Unit {0}

@@ -8,6 +8,7 @@ use Rattle.commands.specs.declared.fault.CommandFault.{CommandFault}
 use Rattle.cmd_archivecleanup.specs.Left.{IsLeftByCleanup}
 use Rattle.cmd_pair.specs.Left.{IsLeftByPair}
 use Rattle.cmd_resetwal.specs.Resetwal.{IsLeftByReset}
+use Rattle.cmd_resume.specs.Resume.{IsLeftByResume, IsResumedDurably}
 use Rattle.cmd_rewind.specs.Rewind.{IsDurable, IsLeftByRewind}
 use Rattle.cmd_walreplay.specs.Walreplay.{IsLeftByWalreplay}
 use Rattle.marked_runs.specs.Moments.{IsUntouched, StandsSynced}
@@ -16,6 +17,7 @@ use Rattle.marked_runs.specs.Moments.{IsUntouched, StandsSynced}
 -- its three clusters; one that only reads leaves all untouched.
 abbrev pub IsLeftAsked : Result Command CommandFault → ℤ → Moment → Contents → Type 0
 IsLeftAsked (Ok (command.Rewind words)) now first c = IsLeftByRewind words now first c
+IsLeftAsked (Ok (command.Resume words)) now first c = IsLeftByResume words now first c
 IsLeftAsked (Ok (command.Controldata words)) now first c = IsUntouched first c
 IsLeftAsked (Ok (command.Waldump words)) now first c = IsUntouched first c
 IsLeftAsked (Ok (command.Resetwal words)) now first c = IsLeftByReset words now first c
@@ -25,9 +27,11 @@ IsLeftAsked (Ok (command.Walcompare words)) now first c = IsUntouched first c
 IsLeftAsked (Ok (command.Pair words)) now first c = IsLeftByPair words first c
 IsLeftAsked (Err e) now first c = IsUntouched first c
 
--- Once it is done, a stop leaves what stands, and nothing else: of a rewind that was asked for and needed, of a reset that was asked for, and of a replay.
+-- Once it is done, a stop leaves what stands, and nothing else: of a rewind that was asked for and needed, of a resume, of a reset that was asked
+-- for, and of a replay.
 abbrev pub IsDurableAsked : Result Command CommandFault → ℤ → Contents → Moment → Type 0
 IsDurableAsked (Ok (command.Rewind words)) now c moment = IsDurable words now c moment
+IsDurableAsked (Ok (command.Resume words)) now c moment = IsResumedDurably words now c moment
 IsDurableAsked (Ok (command.Controldata words)) now c moment = Unit {0}
 IsDurableAsked (Ok (command.Waldump words)) now c moment = Unit {0}
 IsDurableAsked (Ok (command.Resetwal words)) now c moment = words.options.dry ≡ None → StandsSynced moment.state.contents moment

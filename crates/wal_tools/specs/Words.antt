@@ -21,6 +21,7 @@ words_cause fault.OutOfMemory = cause.OutOfMemory
 -- why the words alone refuse, if they do: they ask for no command
 abbrev pub refused_by_words : Result Command CommandFault → Option Cause
 refused_by_words (Ok (command.Rewind words)) = None
+refused_by_words (Ok (command.Resume words)) = None
 refused_by_words (Ok (command.Controldata words)) = None
 refused_by_words (Ok (command.Waldump words)) = None
 refused_by_words (Ok (command.Resetwal words)) = None
@@ -33,6 +34,7 @@ refused_by_words (Err e) = Some (words_cause e)
 -- Words are faulty: they are in no command's grammar, or they are pg_waldump's and break a rule on its start and its end where segments have some size.
 abbrev pub AreFaulty : Result Command CommandFault → Type 0
 AreFaulty (Ok (command.Rewind words)) = ⊥
+AreFaulty (Ok (command.Resume words)) = ⊥
 AreFaulty (Ok (command.Controldata words)) = ⊥
 AreFaulty (Ok (command.Waldump words)) = BreakRule words
 AreFaulty (Ok (command.Resetwal words)) = ⊥
@@ -45,6 +47,7 @@ AreFaulty (Err e) = e ≡ fault.Usage
 -- what is asked for needs no tree: the list of resource managers, and words that refuse alone
 abbrev pub NeedsNoTree : Result Command CommandFault → Type 0
 NeedsNoTree (Ok (command.Rewind words)) = ⊥
+NeedsNoTree (Ok (command.Resume words)) = ⊥
 NeedsNoTree (Ok (command.Controldata words)) = ⊥
 NeedsNoTree (Ok (command.Waldump words)) = AskForList words
 NeedsNoTree (Ok (command.Resetwal words)) = ⊥
@@ -57,6 +60,7 @@ NeedsNoTree (Err e) = Unit {0}
 -- a command that may make changing calls: pg_rewind, pg_resetwal and pg_archivecleanup, but for a dry run, pg_walreplay and pair
 abbrev pub MayChange : Result Command CommandFault → Type 0
 MayChange (Ok (command.Rewind words)) = IsTrue (not words.dry_run)
+MayChange (Ok (command.Resume words)) = IsTrue (not words.dry_run)
 MayChange (Ok (command.Controldata words)) = ⊥
 MayChange (Ok (command.Waldump words)) = ⊥
 MayChange (Ok (command.Resetwal words)) = IsTrue (not (is_some words.options.dry))
@@ -69,6 +73,7 @@ MayChange (Err e) = ⊥
 -- a command that walks over folders, or removes those that a record names, and may find a path below its roots that is too deep
 abbrev pub Walks : Result Command CommandFault → Type 0
 Walks (Ok (command.Rewind words)) = Unit {0}
+Walks (Ok (command.Resume words)) = Unit {0}
 Walks (Ok (command.Controldata words)) = ⊥
 Walks (Ok (command.Waldump words)) = ⊥
 Walks (Ok (command.Resetwal words)) = ⊥

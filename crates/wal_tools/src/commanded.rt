@@ -18,6 +18,7 @@ use cmd_archivecleanup::archivecleanup;
 use cmd_controldata::controldata;
 use cmd_pair::pair;
 use cmd_resetwal::resetwal;
+use cmd_resume::resume;
 use cmd_rewind::rewind;
 use cmd_walcompare::walcompare;
 use cmd_waldump::waldump;
@@ -73,6 +74,7 @@ pub(crate) fn carry_out<F: Tree, O: Sink, E: Sink>(
 {
     match command {
         Command::Rewind(words) => rewind(alloc, tree, err, words, now),
+        Command::Resume(words) => resume(alloc, tree, err, words, now),
         Command::Controldata(words) => controldata(alloc, tree, out, words),
         Command::Waldump(words) => waldump(alloc, tree, out, words),
         Command::Resetwal(words) => resetwal(alloc, tree, out, words, now),

@@ -134,20 +134,22 @@ pub fn run<F: Tree, O: Sink, E: Sink>(
         MayChange (command_of (map string_bytes words.now)) }
     ensures changed { IsTrue F.tells → (p : PathValue) → result.cause ≢ Cause.Changed p }
 
-    // a rewind that is done leaves the rewound tree, and a replay the replayed one, which it tells; of a
-    // comparison that is done the clusters are the same; and a pair that is done was made and tried
+    // a rewind that is done leaves the rewound tree, a resume what its changes make, and a replay the
+    // replayed tree, which it tells; of a comparison that is done the clusters are the same; and a pair
+    // that is done was made and tried
     ensures leaves { IsTrue F.tells → result.cause ≡ Cause.Done → LeavesAsked
         (command_of (map string_bytes words.now)) now O.tells (F.contents tree.old)
         (F.contents tree.new) (O.written out.old) (O.written out.new) }
-    // and the rewound target follows its source: where both grew from one state, replay of the source's
-    // log gives below it what it gives below a whole copy of the source
+    // and the rewound target follows its source, also of a rewind that was stopped and is resumed: where
+    // both grew from one state, replay of the source's log gives below it what it gives below a whole
+    // copy of the source
     ensures converges { IsTrue F.tells → result.cause ≡ Cause.Done → ConvergesAsked
         (command_of (map string_bytes words.now)) now (F.contents tree.old) (F.contents tree.new) }
     // whatever its cause, a replay leaves the log, and a refusal behind its first change the mark; and
     // pair all but its clusters
     ensures stays { IsTrue F.tells → StaysAsked (command_of (map string_bytes words.now))
         (F.contents tree.old) (F.contents tree.new) result.cause }
-    // a stop at any moment leaves a cluster untouched, marked as unfinished or whole
+    // a stop at any moment, of a resume too, leaves a cluster untouched, marked as unfinished or whole
     ensures stops { IsTrue F.tells → LeavesOnly (IsLeftAsked
         (command_of (map string_bytes words.now)) now (moment_of F.Tree tree.old))
         (F.stops tree.old) (F.stops tree.new) }

@@ -4,6 +4,7 @@ use Rattle.acts.specs.Acts.{sunk}
 use Rattle.cluster_tree.specs.Frame.{moment_of}
 use Rattle.run_acts.specs.Causes.{cause_of}
 use Rattle.wal_tools.proofs.RunLemmas.{at_time, beside_at, dried_cleanup, dried_reset, dried_rewind, of_archivecleanup, of_controldata, of_pair, of_resetwal, of_rewind, of_waldump, of_walcompare, of_walreplay, pair_may, paired_at, replay_may, replayed_at, rewound_at, same_at, stays_at}
+use Rattle.wal_tools.proofs.ResumeLemmas.{dried_resume, durable_resume, left_of_resume, of_resume, resumed_at}
 use Rattle.wal_tools.proofs.StopLemmas.{durable_replay, durable_reset, durable_rewind, left_of_cleanup, left_of_pair, left_of_replay, left_of_reset, left_of_rewind, read_left}
 use Rattle.wal_tools.proofs.commanded.carry_out.Goals as goal
 
@@ -153,3 +154,31 @@ returns-in-Pair-clause-stays g c t =
 
 pub returns-in-Pair-clause-stops : goal.returns-in-Pair-clause-stops
 returns-in-Pair-clause-stops g c t = left_of_pair c.args.now (moment_of g.F.Tree c.args.tree.now) (g.F.Tree.stops c.args.tree.now) (g.F.Tree.stops c.pair.new.tree) c.in-Pair.is (c.pair.ensures.stops t)
+
+pub returns-in-Resume-clause-carries : goal.returns-in-Resume-clause-carries
+returns-in-Resume-clause-carries g c =
+    let fits : FitsSigned w64 c.args.now = search rules in
+    at_time g.F.Tree.tells (g.F.Tree.contents c.args.tree.now) (Ok c.args.command.now) (to_z-of_z w64 c.args.now fits)
+    (of_resume c.in-Resume.is g.F.Tree.tells (g.F.Tree.contents c.args.tree.now) _
+    (c.resume.ensures.carries g.O.Sink.tells (sunk (g.O.Sink.written c.args.out.now) (g.O.Sink.failed_writes c.args.out.now))))
+
+pub returns-in-Resume-clause-reads : goal.returns-in-Resume-clause-reads
+returns-in-Resume-clause-reads g c none = c.resume.ensures.reads (dried_resume c.in-Resume.is none)
+
+pub returns-in-Resume-clause-blames : goal.returns-in-Resume-clause-blames
+returns-in-Resume-clause-blames g c = c.resume.ensures.blames (g.O.Sink.failed_writes c.args.out.now)
+
+pub returns-in-Resume-clause-leaves : goal.returns-in-Resume-clause-leaves
+returns-in-Resume-clause-leaves g c t =
+    let fits : FitsSigned w64 c.args.now = search rules in
+    resumed_at c.in-Resume.is (to_z-of_z w64 c.args.now fits) c.resume.result g.O.Sink.tells (g.F.Tree.contents c.args.tree.now) (g.F.Tree.contents c.resume.new.tree) (g.O.Sink.written c.args.out.now) (g.O.Sink.written c.args.out.now) (c.resume.ensures.resumed t)
+
+pub returns-in-Resume-clause-stops : goal.returns-in-Resume-clause-stops
+returns-in-Resume-clause-stops g c t =
+    let fits : FitsSigned w64 c.args.now = search rules in
+    left_of_resume c.in-Resume.is (to_z-of_z w64 c.args.now fits) (moment_of g.F.Tree c.args.tree.now) (g.F.Tree.stops c.args.tree.now) (g.F.Tree.stops c.resume.new.tree) (c.resume.ensures.stops t)
+
+pub returns-in-Resume-clause-durable : goal.returns-in-Resume-clause-durable
+returns-in-Resume-clause-durable g c t =
+    let fits : FitsSigned w64 c.args.now = search rules in
+    durable_resume c.in-Resume.is (to_z-of_z w64 c.args.now fits) c.resume.result (g.F.Tree.contents c.args.tree.now) (moment_of g.F.Tree c.resume.new.tree) (c.resume.ensures.synced t)

@@ -6,7 +6,8 @@ use Rattle.run_acts.proofs.UnseenSteps.{unseen_grow, unseen_told}
 use Rattle.tool_words.specs.Command.{command_of}
 use Rattle.cause_lines.specs.Lines.{line_of}
 use Rattle.wal_tools.specs.Runs.{Says}
-use Rattle.wal_tools.proofs.RunLemmas.{at_time, converges_left, exact_told, leaves_done, stays_told}
+use Rattle.wal_tools.proofs.ConvergeLemmas.{converges_left}
+use Rattle.wal_tools.proofs.RunLemmas.{at_time, exact_told, leaves_done, stays_told}
 use Rattle.wal_tools.proofs.StopLemmas.{durable_done, left_at}
 use Rattle.wal_tools.proofs.program.run.Goals as goal
 

@@ -1,0 +1,72 @@
+-- A rewind that is done, and one that was stopped and is resumed, leave a target that follows its source.
+use Rattle.std.proofs.Common.{◌≡◌, ℕ, ℤ, Bool, false, List, Result, Ok, Err, refl, sym, ap, ◌∙◌, subst}
+use Rattle.cluster_tree.specs.Change.{all_changed}
+use Rattle.cluster_tree.specs.Contents.{Contents}
+use Rattle.cluster_tree.specs.PathValue.{below}
+use Rattle.rewind_plan.specs.Sides.{control_parts, label_parts, mark_parts}
+use Rattle.plan_text.specs.Stored.{IsPlacedAt}
+use Rattle.plan_text.specs.Text.{said_by}
+use Rattle.plan_text.specs.declared.stored.StoredPlan.{StoredPlan}
+use Rattle.rewind_core.specs.Fits.{IsRewound}
+use Rattle.rewind_core.specs.Planned.{Needing}
+use Rattle.rewind_core.specs.Text.{sum_at}
+use Rattle.rewind_core.specs.declared.outcome.Plan.{Plan}
+use Rattle.stored_laws.specs.Laws.{IsStopped}
+use Rattle.stored_laws.proofs.AimLemmas.{needed-aimed}
+use Rattle.stored_laws.proofs.ResumeLemmas.{stopped-resumed}
+use Rattle.stored_laws.proofs.StoredLemmas.{stopped-stored}
+use Rattle.rewound_laws.proofs.ConvergeLemmas.{follows}
+use Rattle.commands.specs.declared.command.Command.{Command}
+use Rattle.commands.specs.declared.command.Command.TheVariants as command
+use Rattle.commands.specs.declared.fault.CommandFault.{CommandFault}
+use Rattle.commands.specs.declared.rewind.RewindWords.{RewindWords}
+use Rattle.cmd_resume.specs.Resume.{LeavesResumed}
+use Rattle.cmd_resume.proofs.ResumeLemmas.{changes-as}
+use Rattle.wal_tools.specs.Converges.{ConvergesAsked}
+use Rattle.wal_tools.specs.Leaves.{LeavesAsked}
+use Rattle.wal_tools.specs.Resumed.{ConvergesResumed}
+
+-- ---- a rewind that was stopped
+
+-- its plan, as a mark holds it
+abbrev held-plan : (sum : ℕ) → Plan → StoredPlan
+held-plan sum plan = record { source = sum; told = plan.told; plan = plan.writes }
+
+module _ (words : RewindWords) (now : ℤ) (c c' : Contents) (left : LeavesResumed words now c c') where
+  again-rewound : words.dry_run ≡ false → (c0 : Contents) (before : ℤ) (n : Needing) (plan : Plan) → IsStopped c0 words.target words.source before n plan c → IsRewound c0 n c'
+  again-rewound wet c0 before n plan stop =
+      let of = stop.for.writes in
+      let root = (needed-aimed c0 words.target words.source before n stop.needed).target_is in
+      let stored = held-plan (sum_at c0 words.source) plan in
+      let placed : IsPlacedAt words.target stored.plan = record {
+        mark = of.mark ∙ ap (λ r. below r mark_parts) root;
+        label = of.label_at ∙ ap (λ r. below r label_parts) root;
+        control = of.control_at ∙ ap (λ r. below r control_parts) root;
+      } in
+      let ends = stopped-resumed c0 words.target words.source before n plan c stored stop placed refl in
+      let made = left.stored (said_by stored) wet (stopped-stored c0 words.target words.source before n plan c stop) in
+      subst (IsRewound c0 n) (sym (made ∙ ap (all_changed c) (sym (changes-as c words.target stored placed)))) ends.rewound
+
+  resumed-converges : ConvergesResumed words now c c'
+  resumed-converges = record {
+    fresh = λ none n wet planned. follows c c' words.target words.source now n planned (left.fresh none n wet planned);
+    stored = λ wet c0 before n plan stop.
+        let rewound = again-rewound wet c0 before n plan stop in
+        (rewound, follows c0 c' words.target words.source before n stop.needed rewound);
+  }
+
+-- ---- any run
+
+-- what a run leaves that is done
+pub converges_left : (asked : Result Command CommandFault) (now : ℤ) (tells : Bool) (c c' : Contents) (out out' : List ℕ) → LeavesAsked asked now tells c c' out out' → ConvergesAsked asked now c c'
+converges_left (Ok (command.Rewind words)) now tells c c' out out' left =
+    λ n wet planned. follows c c' words.target words.source now n planned (left n wet planned)
+converges_left (Ok (command.Resume words)) now tells c c' out out' left = resumed-converges words now c c' left
+converges_left (Ok (command.Controldata words)) now tells c c' out out' left = tt
+converges_left (Ok (command.Waldump words)) now tells c c' out out' left = tt
+converges_left (Ok (command.Resetwal words)) now tells c c' out out' left = tt
+converges_left (Ok (command.Archivecleanup words)) now tells c c' out out' left = tt
+converges_left (Ok (command.Walreplay words)) now tells c c' out out' left = tt
+converges_left (Ok (command.Walcompare words)) now tells c c' out out' left = tt
+converges_left (Ok (command.Pair words)) now tells c c' out out' left = tt
+converges_left (Err e) now tells c c' out out' left = tt
