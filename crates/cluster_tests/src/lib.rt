@@ -8,6 +8,8 @@ mod endless;
 #[cfg(test)]
 mod faults;
 #[cfg(test)]
+mod held;
+#[cfg(test)]
 mod kinds;
 #[cfg(test)]
 mod labels;
@@ -24,7 +26,13 @@ mod refusals;
 #[cfg(test)]
 mod resets;
 #[cfg(test)]
+mod resumes;
+#[cfg(test)]
 mod rows;
+#[cfg(test)]
+mod runs;
+#[cfg(test)]
+mod stored;
 #[cfg(test)]
 mod surveys;
 #[cfg(test)]

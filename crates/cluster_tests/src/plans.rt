@@ -77,7 +77,7 @@ fn tell_step<R: Abort>(rt: &R, out: &mut String, step: &Step) {
     }
 }
 
-fn tell_all<R: Abort>(rt: &R, out: &mut String, steps: &VecDeque<Step>) {
+pub(crate) fn tell_all<R: Abort>(rt: &R, out: &mut String, steps: &VecDeque<Step>) {
     for step in steps.iter() {
         if !out.is_empty() {
             tell(rt, out, ", ");

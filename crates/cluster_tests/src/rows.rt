@@ -1,19 +1,25 @@
 //! Runs the rows of texts. README.md has their forms.
 use crate::endless::tell_endless;
 use crate::faults::tell_faults;
+use crate::held::tell_held;
 use crate::labels::tell_labels;
 use crate::numbers::tell_numbers;
 use crate::paths::tell_path;
 use crate::plans::tell_plan;
 use crate::resets::tell_reset;
+use crate::resumes::tell_resumes;
+use crate::stored::tell_stored;
 use crate::surveys::tell_survey;
 use crate::texts::cut_at;
 use crate::walks::tell_walks;
-use crate::{endless, faults, labels, numbers, paths, plans, refusals, resets, surveys, walks};
+use crate::{
+    endless, faults, held, labels, numbers, paths, plans, refusals, resets, resumes, stored,
+    surveys, walks,
+};
 use std::process::Abort;
 
 /// The texts of rows of rewinds.
-const REWINDS: [&str; 18] = [
+const REWINDS: [&str; 23] = [
     paths::ACTIONS,
     paths::EXCLUDED,
     paths::RELATIONS,
@@ -26,12 +32,30 @@ const REWINDS: [&str; 18] = [
     walks::PAIRS,
     endless::ENDLESS,
     plans::PLANS,
+    stored::MARKS,
+    stored::TAKEN,
+    stored::FORMS,
+    stored::PATHS,
+    stored::PLACES,
     surveys::CONTROLS,
     surveys::HISTORIES,
     surveys::MARKS,
     surveys::MISSING,
     surveys::FAILING,
     surveys::WHOLE,
+];
+
+/// The texts of rows of rewinds done again.
+const RESUMES: [&str; 9] = [
+    held::MARKS,
+    held::SOURCES,
+    held::FAILING,
+    resumes::ENDS,
+    resumes::DIFFERING,
+    resumes::CHANGED,
+    resumes::BLOCKS,
+    resumes::FAILS,
+    resumes::STOPS,
 ];
 
 /// The texts of rows of resets.
@@ -57,6 +81,7 @@ fn tell_rewind<R: AllocGlobal + Abort>(rt: &R, out: &mut String, verb: &str, wor
         "label" | "read" => tell_labels(rt, out, verb, words),
         "endless" => tell_endless(rt, out, words),
         "plan" => tell_plan(rt, out, words),
+        "mark" | "stored" | "deep" => tell_stored(rt, out, verb, words),
         "survey" | "whole" => tell_survey(rt, out, verb, words),
         _ => tell_walks(rt, out, verb, words),
     }
@@ -69,6 +94,8 @@ fn tell<R: AllocGlobal + Abort>(rt: &R, out: &mut String, row: &str) {
         "numbers" | "fit" | "segment" | "status" => tell_numbers(rt, out, verb, words),
         "reset" | "keep" | "change" => tell_reset(rt, out, verb, words),
         "broken" | "call" => tell_faults(rt, out, verb, words),
+        "resume" | "blocks" | "fails" | "stop" => tell_resumes(rt, out, verb, words),
+        "held" => tell_held(rt, out, words),
         _ => tell_rewind(rt, out, verb, words),
     }
 }
@@ -92,6 +119,13 @@ fn check<R: AllocGlobal + Abort>(rt: &R, text: &str) {
 #[test]
 fn each_row_of_a_rewind_is_answered(rt: HostRuntime) {
     for text in REWINDS {
+        check(&rt, text);
+    }
+}
+
+#[test]
+fn each_row_of_a_resume_is_answered(rt: HostRuntime) {
+    for text in RESUMES {
         check(&rt, text);
     }
 }

@@ -27,7 +27,9 @@ survey 0 | plain | 0 8 7300000000000000002, 16 4 4: 90921017 | - = the target is
     7300000000000000001 and the source of system 7300000000000000002
 survey 0 | 176 1 0, 16 4 4: 2403351279 | plain | - = t did not log hints
 survey 0 | 16 4 4: 2778277599 | 16 4 6: 1183704562 | - = t was not shut down cleanly: its state is 4
-survey 0 | plain | 16 4 2: 2236093785 | - = s was not shut down cleanly: its state is 2
+survey 0 | plain | 16 4 3: 1983139767 | - = s was not shut down cleanly: its state is 3
+survey 0 | plain | 16 4 2: 2236093785 | - = nothing on one timeline
+survey 0 | 16 4 2, 144 4 2: 2020152777 | plain | - = t has no history of timeline 2
 survey 0 | plain | 48 4 2: 2426670369 | - = s has no history of timeline 2
 survey 0 | 144 4 2: 1744931850 | 48 4 2: 2426670369 | - = nothing on one timeline";
 

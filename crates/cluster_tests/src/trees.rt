@@ -1,6 +1,7 @@
 //! Trees in memory from short lines.
 ghost use Rattle.std.specs.Prelude.{◌≤◌, length};
 
+use crate::runs::runs_of;
 use crate::texts::{cut_at, number};
 use cluster_tree::{FailPlan, MemoryTree, Names, Path, Tree};
 use std::process::Abort;
@@ -61,6 +62,17 @@ fn put_bytes<R: AllocGlobal + Abort>(rt: &R, tree: &mut MemoryTree, path: &str, 
     put_file(rt, tree, path, &bytes);
 }
 
+/// Makes a file of bytes by their runs.
+fn put_runs<R: AllocGlobal + Abort>(rt: &R, tree: &mut MemoryTree, path: &str, runs: &str) {
+    let bytes = runs_of(rt, runs);
+    put_file(rt, tree, path, &bytes);
+}
+
+/// Takes an entry away.
+fn take_away<R: AllocGlobal + Abort>(rt: &R, tree: &mut MemoryTree, path: &str) {
+    tree.remove(&path_of(rt, path)).expect(rt, "no entry");
+}
+
 /// Makes what is no file.
 fn put_other<R: AllocGlobal + Abort>(rt: &R, tree: &mut MemoryTree, kind: &str, path: &str) {
     let path = path_of(rt, path);
@@ -72,8 +84,8 @@ fn put_other<R: AllocGlobal + Abort>(rt: &R, tree: &mut MemoryTree, kind: &str, 
     }
 }
 
-/// Carries out a line: a folder `d`, a file `f` of so many zeros, a file `h` of bytes by their digits, a link `l`, or a name
-/// `b` in a folder that isn't UTF-8; or nothing.
+/// Carries out a line: a folder `d`, a file `f` of so many zeros, a file `h` of bytes by their digits, a file `r` of bytes by
+/// their runs, a link `l`, or a name `b` in a folder that isn't UTF-8; an entry taken away by `x`; or nothing.
 fn put<R: AllocGlobal + Abort>(rt: &R, tree: &mut MemoryTree, line: &str) {
     let (kind, behind) = cut_at(line, " ");
     let (path, words) = cut_at(behind, " ");
@@ -81,6 +93,8 @@ fn put<R: AllocGlobal + Abort>(rt: &R, tree: &mut MemoryTree, line: &str) {
         "" => {}
         "f" => put_zeros(rt, tree, path, number(rt, words)),
         "h" => put_bytes(rt, tree, path, words),
+        "r" => put_runs(rt, tree, path, words),
+        "x" => take_away(rt, tree, path),
         _ => put_other(rt, tree, kind, path),
     }
 }

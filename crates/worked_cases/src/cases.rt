@@ -5,8 +5,8 @@ use super::replays::FOLLOWS;
 use super::rewinds::CLUSTERS;
 use super::{
     bodies, clean_ups, comparisons, control_files, dumps, faulty_words, folders, options, records,
-    replay_faults, replay_refusals, replays, reset_refusals, reset_words, resets, rewind_faults,
-    rewinds, rewinds_made, rewound_logs, words,
+    replay_faults, replay_refusals, replays, reset_refusals, reset_words, resets, resume_faults,
+    resumes, rewind_faults, rewinds, rewinds_made, rewound_logs, standbys, words,
 };
 
 #[test]
@@ -96,6 +96,13 @@ fn rewinds_of_clusters(rt: HostRuntime) {
         rewind_faults::CALLS,
         rewound_logs::WALKS,
         rewound_logs::READINGS,
+        resumes::RESUMED,
+        resumes::STOPPED,
+        resumes::CLOSING,
+        resumes::UNMARKED,
+        resume_faults::BLOCKS,
+        resume_faults::REFUSED,
+        resume_faults::DEVICES,
     ];
     check(&rt, &texts);
 }
@@ -114,6 +121,9 @@ fn replays_and_comparisons(rt: HostRuntime) {
         comparisons::COMPARED,
         comparisons::REFUSED,
         comparisons::FAULTS,
+        standbys::STANDBYS,
+        standbys::TARGETS,
+        standbys::SOURCES,
     ];
     check(&rt, &texts);
 }

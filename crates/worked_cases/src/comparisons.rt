@@ -25,21 +25,7 @@ run pg_rewind -D t --source-pgdata s
 err $parted
 err $rewinding
 err $done
-call file t/pg_rewind.unfinished
-call write t/pg_rewind.unfinished 0 12
-call sync
-call write t/base/5/16384 8192 8192
-call file t/pg_wal/00000002.history
-call write t/pg_wal/00000002.history 0 20
-call file t/pg_wal/000000020000000000000001
-call write t/pg_wal/000000020000000000000001 0 8192
-call remove t/pg_wal/000000010000000000000001
-call file t/backup_label
-call write t/backup_label 0 173
-call write t/global/pg_control 0 8192
-call sync
-call remove t/pg_rewind.unfinished
-call sync
+take rewound
 status 0
 take follower u
 run pg_walcompare t u
@@ -47,30 +33,14 @@ out pg_walcompare: no difference
 status 0
 run pg_walreplay t
 out pg_walreplay: replayed 3 records to 0/100158 on timeline 2
-call file t/pg_walreplay.unfinished
-call write t/pg_walreplay.unfinished 0 15
-call sync
-call write t/base/5/16384 16384 8192
-call write t/global/pg_control 0 8192
-call remove t/backup_label
-call sync
-call remove t/pg_walreplay.unfinished
-call sync
+take redone t
 status 0
 run pg_walcompare t u
 err pg_walcompare: error: Differs backup_label
 status 1
 run pg_walreplay u
 out pg_walreplay: replayed 3 records to 0/100158 on timeline 2
-call file u/pg_walreplay.unfinished
-call write u/pg_walreplay.unfinished 0 15
-call sync
-call write u/base/5/16384 16384 8192
-call write u/global/pg_control 0 8192
-call remove u/backup_label
-call sync
-call remove u/pg_walreplay.unfinished
-call sync
+take redone u
 status 0
 run pg_walcompare t u
 out pg_walcompare: no difference

@@ -41,6 +41,10 @@ mod reset_words;
 #[cfg(test)]
 mod resets;
 #[cfg(test)]
+mod resume_faults;
+#[cfg(test)]
+mod resumes;
+#[cfg(test)]
 mod rewind_faults;
 #[cfg(test)]
 mod rewinds;
@@ -48,5 +52,7 @@ mod rewinds;
 mod rewinds_made;
 #[cfg(test)]
 mod rewound_logs;
+#[cfg(test)]
+mod standbys;
 #[cfg(test)]
 mod words;

@@ -14,15 +14,7 @@ err pg_walreplay: error: ReadFault
 status 3
 run pg_walreplay t
 out pg_walreplay: replayed 3 records to 0/100158 on timeline 2
-call file t/pg_walreplay.unfinished
-call write t/pg_walreplay.unfinished 0 15
-call sync
-call write t/base/5/16384 16384 8192
-call write t/global/pg_control 0 8192
-call remove t/backup_label
-call sync
-call remove t/pg_walreplay.unfinished
-call sync
+take redone t
 status 0
 whole
 part page_not_read
@@ -188,14 +180,6 @@ status 1
 take replayed t
 failing tree at 26
 out pg_walreplay: replayed 3 records to 0/100158 on timeline 2
-call file t/pg_walreplay.unfinished
-call write t/pg_walreplay.unfinished 0 15
-call sync
-call write t/base/5/16384 16384 8192
-call write t/global/pg_control 0 8192
-call remove t/backup_label
-call sync
-call remove t/pg_walreplay.unfinished
-call sync
+take redone t
 status 0
 ";

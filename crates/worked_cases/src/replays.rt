@@ -3,7 +3,8 @@
 
 /// The source's log behind the fork: an insert into block 2 at 0/1000A0, and a shutdown checkpoint at
 /// 0/1000E0. Of a cluster that follows it: its control file, three empty heap pages, its history, its log
-/// and its label, and all of these. The example pair, whose target has an insert of its own in block 1.
+/// and its label, and all of these. The example pair, whose target has an insert of its own in block 1, and
+/// the relations of both. What its rewind changes, and the replay behind it.
 pub(crate) const FOLLOWS: &str =
     "name third 700 0 10 00200A007F060000050000000040000002000000FF0301000008180007000000010000
 name fourth 0 0 0 FF58E00010000000000002000000010000000100000000000000BD02000000000000014000000100000000000000BC0200000100000001000000010000000000000000F153650000000000000000000000000000000000000000
@@ -41,37 +42,33 @@ take history %
 take log %
 take label %
 whole
+part ours
+take pages %
+put %/base/5/16384 8192 00000000E0001000000000001C00E01F0020042000000000E09F3800
+put %/base/5/16384 16352 BC020000000000000000000000000100010001000008180007000000
+file %/base/5/PG_VERSION 31360A
+whole
+part theirs
+take pages %
+put %/base/5/16384 16384 00000000E0001000000000001C00E01F0020042000000000E09F3800
+put %/base/5/16384 24544 BC020000000000000000000000000200010001000008180007000000
+file %/base/5/PG_VERSION 31360A
+whole
 part pair
 control $target
-take pages t
-put t/base/5/16384 8192 00000000E0001000000000001C00E01F0020042000000000E09F3800
-put t/base/5/16384 16352 BC020000000000000000000000000100010001000008180007000000
-file t/base/5/PG_VERSION 31360A
+take ours t
 log t/pg_wal
 record $checkpoint
 record $insert
 record $second
 end
 control $source
-take pages s
-put s/base/5/16384 16384 00000000E0001000000000001C00E01F0020042000000000E09F3800
-put s/base/5/16384 24544 BC020000000000000000000000000200010001000008180007000000
-file s/base/5/PG_VERSION 31360A
+take theirs s
 file $promoted
 take log s
 whole
-";
-
-// What is changed, call by call, and what stands there then.
-pub(crate) const MADE: &str = "case the example pair
-take pair
-run pg_rewind -D t --source-pgdata s
-err $parted
-err $rewinding
-err $done
-call file t/pg_rewind.unfinished
-call write t/pg_rewind.unfinished 0 12
-call sync
+part rewound
+take marked 17034
 call write t/base/5/16384 8192 8192
 call file t/pg_wal/00000002.history
 call write t/pg_wal/00000002.history 0 20
@@ -84,18 +81,32 @@ call write t/global/pg_control 0 8192
 call sync
 call remove t/pg_rewind.unfinished
 call sync
+whole
+part redone
+call file %/pg_walreplay.unfinished
+call write %/pg_walreplay.unfinished 0 15
+call sync
+call write %/base/5/16384 16384 8192
+call write %/global/pg_control 0 8192
+call remove %/backup_label
+call sync
+call remove %/pg_walreplay.unfinished
+call sync
+whole
+";
+
+// What is changed, call by call, and what stands there then.
+pub(crate) const MADE: &str = "case the example pair
+take pair
+run pg_rewind -D t --source-pgdata s
+err $parted
+err $rewinding
+err $done
+take rewound
 status 0
 run pg_walreplay t
 out pg_walreplay: replayed 3 records to 0/100158 on timeline 2
-call file t/pg_walreplay.unfinished
-call write t/pg_walreplay.unfinished 0 15
-call sync
-call write t/base/5/16384 16384 8192
-call write t/global/pg_control 0 8192
-call remove t/backup_label
-call sync
-call remove t/pg_walreplay.unfinished
-call sync
+take redone t
 status 0
 bytes t/base/5/16384 8192 000000000000100000000000180000200020042000000000
 bytes t/base/5/16384 16384 00000000E0001000000000001C00E01F0020042000000000E09F3800
@@ -160,15 +171,7 @@ take follower t
 put t/pg_wal/000000020000000000000001 248 FE
 run pg_walreplay t
 out pg_walreplay: replayed 2 records to 0/1000E0 on timeline 2
-call file t/pg_walreplay.unfinished
-call write t/pg_walreplay.unfinished 0 15
-call sync
-call write t/base/5/16384 16384 8192
-call write t/global/pg_control 0 8192
-call remove t/backup_label
-call sync
-call remove t/pg_walreplay.unfinished
-call sync
+take redone t
 status 0
 bytes t/global/pg_control 24 00F15365000000002800100000000000280010000000000001000000
 bytes t/global/pg_control 136 E00010000000000002000000
@@ -270,15 +273,7 @@ take follower t
 failing out at 1
 run pg_walreplay t
 err pg_walreplay: error: SinkFault
-call file t/pg_walreplay.unfinished
-call write t/pg_walreplay.unfinished 0 15
-call sync
-call write t/base/5/16384 16384 8192
-call write t/global/pg_control 0 8192
-call remove t/backup_label
-call sync
-call remove t/pg_walreplay.unfinished
-call sync
+take redone t
 status 3
 absent t/pg_walreplay.unfinished
 ";

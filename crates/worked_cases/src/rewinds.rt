@@ -2,7 +2,8 @@
 // formats.
 
 /// The clusters: a target whose last checkpoint is the third record of its log, one that was shut down with
-/// the first, and a source on timeline 2, which left timeline 1 at 0/1000A0. What is told of them.
+/// the first, and a source on timeline 2, which left timeline 1 at 0/1000A0. What is told of them. Two
+/// clusters that hold little else, and a mark that is laid with a text of so many bytes.
 pub(crate) const CLUSTERS: &str =
     "name target t checkPoint=1048800 cp.redo=1048800 cp.tli=1 cp.prevTli=1 cp.fpw=1 cp.nextXid=701 cp.nextOid=16385 cp.nextMulti=1 cp.oldestXid=700 cp.oldestXidDb=1 cp.oldestMulti=1 cp.oldestMultiDb=1 cp.time=1700000000 time=1700000000
 name early t checkPoint=1048616 cp.redo=1048616 cp.tli=1 cp.prevTli=1 cp.fpw=1 cp.nextXid=701 cp.nextOid=16385 cp.nextMulti=1 cp.oldestXid=700 cp.oldestXidDb=1 cp.oldestMulti=1 cp.oldestMultiDb=1 cp.time=1700000000 time=1700000000
@@ -12,6 +13,27 @@ name compressed 0 160 0 001000000200180007E81F7F06000005000000004000000200000001
 name parted pg_rewind: servers diverged at WAL location 0/1000A0 on timeline 1
 name rewinding pg_rewind: rewinding from last common checkpoint at 0/100028 on timeline 1
 name done pg_rewind: Done!
+part two
+control $target
+folder t/pg_wal
+log t/pg_wal
+record $checkpoint
+record $insert
+record $second
+end
+control $source
+folder s/pg_wal
+file $promoted
+whole
+part marked
+call file t/pg_rewind.unfinished
+call write t/pg_rewind.unfinished 0 14
+call sync
+call write t/pg_rewind.unfinished 14 %
+call sync
+call write t/pg_rewind.unfinished 12 1
+call sync
+whole
 ";
 
 // What a dry run reports, and what is told where nothing is to be done.
@@ -183,10 +205,10 @@ failing err from 3
 err $parted
 err $rewinding
 status 3
-# six marks; a size and a read of each control file, twice, and of the history; a page of the log; and
-# on either side the root and two calls for each of four entries
+# six marks; a size and a read of each control file, twice, of the source's once more, and of the history;
+# a page of the log; and on either side the root and two calls for each of four entries
 run pg_rewind -D t --source-pgdata s -n
-reads 35
+reads 37
 err $parted
 err $rewinding
 err $done

@@ -37,9 +37,7 @@ run pg_rewind -D t --source-pgdata s
 err $parted
 err $rewinding
 err $done
-call file t/pg_rewind.unfinished
-call write t/pg_rewind.unfinished 0 12
-call sync
+take marked 17044
 call write t/base/5/16384 8192 8192
 call cut t/pg_wal/000000010000000000000001 0
 call write t/pg_wal/000000010000000000000001 0 1048576
@@ -117,9 +115,7 @@ run pg_rewind -D t --source-pgdata s
 err $parted
 err $rewinding
 err $done
-call file t/pg_rewind.unfinished
-call write t/pg_rewind.unfinished 0 12
-call sync
+take marked 17417
 call folder t/a
 call file t/a-b
 call write t/a-b 0 1
@@ -355,9 +351,7 @@ failing err at 3
 err $parted
 err $rewinding
 err pg_rewind: error: SinkFault
-call file t/pg_rewind.unfinished
-call write t/pg_rewind.unfinished 0 12
-call sync
+take marked 16919
 call file t/pg_wal/00000002.history
 call write t/pg_wal/00000002.history 0 20
 call remove t/pg_wal/000000010000000000000001

@@ -37,6 +37,11 @@ fn cut<R: Abort>(rt: &R, tree: &mut MemoryTree, file: &Path, size: &str) {
     tree.cut(file, number(rt, size)).expect(rt, "no such file");
 }
 
+// `gone PATH`: no entry, where a file or an empty folder stands.
+fn take_away<R: Abort>(rt: &R, tree: &mut MemoryTree, path: &Path) {
+    tree.remove(path).expect(rt, "no such entry");
+}
+
 /// Carries out a line that describes a tree at a path, if it is one.
 pub(crate) fn set_up<R: AllocGlobal + Abort>(
     rt: &R,
@@ -51,6 +56,7 @@ pub(crate) fn set_up<R: AllocGlobal + Abort>(
         "zeros" => add_file(rt, tree, path, &zeros(rt, narrow(rt, words))),
         "put" => put_bytes(rt, tree, path, words),
         "cut" => cut(rt, tree, path, words),
+        "gone" => take_away(rt, tree, path),
         "link" => tree.add_link(path).expect(rt, "no room for a link"),
         "badname" => tree.add_bad_name(path).expect(rt, "no such folder"),
         "control" => add_control(rt, tree, path, words),
