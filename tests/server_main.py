@@ -31,6 +31,7 @@ def main(work, programs, program):
         checks.step(server_tools.beside_pg_archivecleanup, machine.path("archive"))
         if checks.step(server_rewind.rewind, old.data, new.data):
             checks.step(server_rewind.stops, old.data, new.data)
+            checks.step(server_rewind.resumes, old.data, new.data)
             checks.step(server_rewind.replay_stops, new.data)
             crashed = checks.step(server_rewind.servers, old, new)
             if crashed:

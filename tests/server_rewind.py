@@ -17,6 +17,9 @@ REPLAYED = ("base/", "global/", "pg_xact/", "pg_multixact/")
 EMPTIED = ("pg_stat_tmp", "pg_replslot", "pg_dynshmem", "pg_notify", "pg_serial", "pg_snapshots", "pg_subtrans")
 UNCOPIED = ("postgresql.auto.conf.tmp", "current_logfiles.tmp", "backup_label", "tablespace_map", "backup_manifest", "postmaster.pid",
             "postmaster.opts")
+SAME_TIMELINE = "pg_rewind: source and target cluster are on the same timeline\npg_rewind: no rewind required\n"
+# lines of pg_controldata that tell from where on a cluster is consistent
+CONSISTENT = ("Minimum recovery ending location:", "Min recovery ending loc's timeline:")
 OWN_SETTINGS = ("postgresql.conf", "postgresql.auto.conf", "pg_hba.conf", "pg_ident.conf")
 
 
@@ -143,12 +146,12 @@ def killed(checks, name, words, cluster, source, mark, points):
 
 
 def stops(checks, old, new):
-    """Rewinds that are killed where the mark is still empty, at a copy, at a cut, at a removal, and where all is done but written
-    out to the disk."""
+    """Rewinds that are killed where the mark is still empty, before its plan is written out to the disk, at a copy, at a cut, at a
+    removal, and where all is done but written out to the disk."""
     machine, target, source = checks.machine, checks.machine.path("stopped16"), new + "16"
     words = ["pg_rewind", "-D", target, "--source-pgdata", source]
     source_before = tree(source)
-    points = ("write", 1), ("write", 300), ("cut", 100), ("remove", 50), ("sync", 3)
+    points = ("write", 1), ("sync", 3), ("write", 300), ("cut", 100), ("remove", 50), ("sync", 5)
     if not killed(checks, "rewind", words, old + "16", source, MARK, points):
         return
     for command in ("pg_walreplay", "pg_walcompare"):
@@ -162,6 +165,32 @@ def stops(checks, old, new):
                   again.touched and "other blocks were copied", source_before != tree(source) and "the source has changed")
     shutil.rmtree(target)
     shutil.rmtree(machine.path("stopped"))
+
+
+def resumes(checks, old, new):
+    """Rewinds that are killed under a whole mark, and completed by --resume: at once, or after a resume that is killed too."""
+    machine, target, source = checks.machine, checks.machine.path("stopped16"), new + "16"
+    words = ["-D", target, "--source-pgdata", source]
+    for kind, number, more in ("write", 300, None), ("cut", 100, ("write", 200)), ("remove", 50, ("remove", 40)), ("sync", 5, ("cut", 20)):
+        shutil.copytree(old + "16", target)
+        stop = [(kind, number, ["pg_rewind", *words])] + ([(*more, ["pg_rewind", "--resume", *words])] if more else [])
+        ended = [server_stops.run_until(at, turn, [checks.program, *run], machine.env) for at, turn, run in stop]
+        if None in ended:
+            checks.skip("a rewind that is resumed", "calls can't be traced here")
+            shutil.rmtree(target)
+            return
+        left = tree(target)
+        wanted = report(checks.ours, "-n", "--resume", *words)
+        changed = left != tree(target) and "a dry run has changed it"
+        seen = report(checks.ours, "--resume", *words)
+        convert(16, machine.version, target, machine.path("stopped"))
+        again = Rewound(machine, machine.path("rewound"), machine.path("stopped"), old, new)
+        checks.expect("a rewind that was killed at its %s %d%s is completed by --resume" % (kind, number, ", and again," if more else ""),
+                      not all(ended) and "it came to its end", changed, unequal(wanted, seen),
+                      "" if seen[2].endswith("Done!\n") else "nothing was to be done",
+                      again.differences(), again.touched and "other blocks were copied")
+        shutil.rmtree(target)
+        shutil.rmtree(machine.path("stopped"))
 
 
 def replay_stops(checks, new):
@@ -291,6 +320,40 @@ def followed(checks, new, followers):
         checked_by_amcheck(checks, name, server)
 
 
+class RewoundByStandby(Rewound):
+    """The same of a source that was shut down in recovery, but for the point from which on the result is consistent."""
+
+    def control(self, root):
+        return control_lines(self.machine.done("pg_controldata", root), "pg_control last modified:", *CONSISTENT)
+
+
+def by_standby(checks, old, standby):
+    """The primary that was, rewound by a standby that followed its successor and was stopped; beside the real one."""
+    machine, source = checks.machine, standby.data + "16.stopped"
+    target, real = machine.path("again16"), machine.path("again.real")
+    convert(machine.version, 16, standby.data, source)
+    shutil.copytree(old.data + "16", target)
+    shutil.copytree(old.data, real)
+    words = ["-D", target, "--source-pgdata", source]
+    wanted = report(machine.real, "--no-sync", "-D", real, "--source-pgdata", standby.data)
+    checks.expect("pg_rewind by a standby that was stopped reports what the real one does",
+                  unequal(wanted, report(checks.ours, *words)), "" if wanted[2].endswith("Done!\n") else "nothing was to be done")
+    convert(16, machine.version, target, machine.path("again"))
+    pair = RewoundByStandby(machine, real, machine.path("again"), old.data, standby.data)
+    points = [[line for line in machine.done("pg_controldata", root).split("\n") if line.startswith(CONSISTENT)]
+              for root in (standby.data, machine.path("again"))]
+    checks.expect("and leaves the tree of the real one, consistent where the standby is", pair.differences(), unequal_lines(*points))
+    copy = whole_copy(source, target, machine.path("copied16"))
+    replayed = [checks.ours("pg_walreplay", root) for root in (target, copy)]
+    checks.expect("replayed, it is what a whole copy of the standby is", *[ended.stderr for ended in replayed], checks.answers(
+        0, "pg_walcompare: no difference\n", "", "pg_walcompare", target, copy))
+    for root in (target, source):
+        checks.expect("a standby needs no rewind by a cluster on its timeline",
+                      unequal((0, "", SAME_TIMELINE), report(checks.ours, "-D", root, "--source-pgdata", copy)))
+    for root in (source, target, real, copy, machine.path("again")):
+        shutil.rmtree(root)
+
+
 def servers(checks, old, new):
     """The rewound cluster under a server, as docs/COMMANDS.md tells: alone, then behind the source, then promoted. Returns a
     cluster whose server was stopped hard behind a checkpoint, and what it held."""
@@ -302,6 +365,8 @@ def servers(checks, old, new):
     end = target.ask("select pg_last_wal_replay_lsn()")
     target.stop()
     checks.expect("a server starts on a rewound cluster, and reaches the end of its log")
+    if checks.is_built("pg_walreplay") and checks.is_built("pg_walcompare"):
+        by_standby(checks, old, target)
     followers = {"rewound": target}
     if checks.is_built("pg_walreplay"):
         replay(checks, target, end)
