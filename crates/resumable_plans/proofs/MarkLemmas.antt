@@ -62,17 +62,19 @@ module _ (c i : Contents) (text : List ℕ) (w : Between) (all : List Pair) (new
     image = under.image;
   }
 
+  pub between-left : IsLeft c (with_whole_mark c text plan) plan i → IsBetween (with_whole_mark c text plan) plan i
+  between-left left = left-between c (with_whole_mark c text plan) plan (plan-sound c w all sides new label plan of text) i left
+
   pub under-between : IsUnderPlan c text plan i → IsBetween (with_whole_mark c text plan) plan i × IsLeft c (with_whole_mark c text plan) plan i
   under-between under =
       let left : IsLeft c (with_whole_mark c text plan) plan i = FirstStop (under-stopped under) in
-      (left-between c (with_whole_mark c text plan) plan (plan-sound c w all sides new label plan of text) i left, left)
+      (between-left left, left)
 
-  pub resumes-rewind : IsLeft c (with_whole_mark c text plan) plan i → (first_refusal i (resumed_changes i plan) ≡ None)
+  -- from what is between start and end
+  pub resumes-rewind : IsBetween (with_whole_mark c text plan) plan i → (first_refusal i (resumed_changes i plan) ≡ None)
       × ((parts : List (List ℕ)) → entry_at (all_changed i (resumed_changes i plan)) (below w.target parts) ≡ rewound (rewinding c w new label) parts)
-  resumes-rewind left =
-      let start = with_whole_mark c text plan in
-      let sound = plan-sound c w all sides new label plan of text in
-      let whole = whole-resume c start plan sound i (left-between c start plan sound i left) (plan-rest c w all sides new label plan of text) in
+  resumes-rewind between =
+      let whole = whole-resume c (with_whole_mark c text plan) plan (plan-sound c w all sides new label plan of text) i between (plan-rest c w all sides new label plan of text) in
       (whole.0, λ parts. ap (λ d. entry_at d (below w.target parts)) (whole.1 ∙ marked-finished c text plan) ∙ plan-leaves-all c text w all new label plan sides of parts)
 
   pub complete-resumes : IsResumable c text plan i → (whole : IsComplete mark_head mark_gate (bytes_at i plan.mark)) → IsUnderPlan c text plan i
