@@ -1,3 +1,4 @@
+pub mod LeftLemmas
 pub mod AimLemmas
 pub mod StepLemmas
 pub mod SourceLemmas

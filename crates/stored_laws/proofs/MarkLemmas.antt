@@ -16,7 +16,7 @@ use Rattle.file_walk.specs.Actions.{is_mark}
 use Rattle.file_walk.specs.declared.entry.EntryKind.{EntryKind}
 use Rattle.file_walk.specs.declared.entry.EntryKind.TheVariants as kind
 use Rattle.file_walk.specs.declared.pair.Pair.{Pair}
-use Rattle.rewind_writes.specs.Plan.{IsUnderPlan, mark_bytes}
+use Rattle.rewind_writes.specs.Plan.{mark_bytes}
 use Rattle.rewind_writes.specs.declared.plan.Plan.{Plan}
 use Rattle.rewind_writes.specs.declared.step.Step.{Step}
 use Rattle.plan_text.specs.Mark.{mark_told}
@@ -25,12 +25,13 @@ use Rattle.rewind_plan.specs.PlanOf.{IsPlanOf}
 use Rattle.rewind_plan.specs.Planned.{Between, in_target, steps_of}
 use Rattle.rewind_plan.specs.Sides.{IsKind, IsPaired, Sides, control_parts, label_parts, mark_parts}
 use Rattle.rewind_plan.proofs.SideLemmas.{below-same}
+use Rattle.resumed_laws.specs.Between.{IsBetween}
 use Rattle.resumed_laws.specs.Groups.{Untouched, Labelled, Controlled, group_at, group_in, group_of, target_of}
 use Rattle.resumed_laws.specs.Sound.{with_whole_mark}
 use Rattle.resumed_laws.proofs.ReadLemmas.{untouched-same}
-use Rattle.resumable_plans.proofs.MarkLemmas.{under-between}
 use Rattle.resumable_plans.proofs.OrderLemmas.{group-has}
 use Rattle.resume_core.specs.Marks.{mark_at, other_mark, other_marks, own_mark, told_bytes}
+use Rattle.stored_laws.proofs.LeftLemmas.{mark-stays}
 use Rattle.stored_laws.proofs.SourceLemmas.{none-of-two}
 use Rattle.stored_laws.proofs.StepLemmas.{HoldsOfPairs, of-steps}
 
@@ -58,7 +59,7 @@ none-kind (Some kind.Folder) o is none = absurd (cc (is, none))
 
 -- ---- under the mark of a rewind
 
-module _ (c i : Contents) (text : List ℕ) (w : Between) (all : List Pair) (new : Control) (label : Label) (plan : Plan) (sides : Sides c w all) (of : IsPlanOf w all new label plan) (under : IsUnderPlan c text plan i) where
+module _ (c i : Contents) (text : List ℕ) (w : Between) (all : List Pair) (new : Control) (label : Label) (plan : Plan) (sides : Sides c w all) (of : IsPlanOf w all new label plan) (between : IsBetween (with_whole_mark c text plan) plan i) where
   -- no pair is at a mark
   unpaired : (parts : List (List ℕ)) → is_mark parts ≡ true → (x : Pair) → IsPaired c w x → in_target w x ≢ below w.target parts
   unpaired parts is x paired at =
@@ -99,7 +100,6 @@ module _ (c i : Contents) (text : List ℕ) (w : Between) (all : List Pair) (new
     none-there : parts ≢ mark_parts → entry_at i (below w.target parts) ≡ None
     none-there other =
         let path = below w.target parts in
-        let between = (under-between c i text w all new label plan sides of under).0 in
         ap (or_root path.parts) (untouched-same (with_whole_mark c text plan) i plan.steps.items plan.label plan.control path between group-none)
         ∙ entry-put_other c plan.mark path (FileEntry (mark_bytes text)) (λ e. other (below-same w.target parts mark_parts (e ∙ of.mark)))
         ∙ sides.marks_target parts is
@@ -114,5 +114,5 @@ module _ (c i : Contents) (text : List ℕ) (w : Between) (all : List Pair) (new
   pub target-marked : 14 < length (mark_bytes text) → mark_at i w.target ≡ Ok (Some (mark_bytes text))
   target-marked more =
       let mark = (marks_of w.target).rewind in
-      let own = own-complete mark (entry_at i mark) text (ap (entry_at i) (sym of.mark) ∙ under.holds) more in
+      let own = own-complete mark (entry_at i mark) text (ap (entry_at i) (sym of.mark) ∙ mark-stays c i text w all new label plan sides of between) more in
       ap₂ (λ r o. given r (λ bytes. unless o (Ok bytes))) own others-none

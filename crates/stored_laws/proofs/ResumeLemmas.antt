@@ -8,18 +8,18 @@ use Rattle.marked_runs.specs.Runs.{ended}
 use Rattle.plan_text.specs.Stored.{IsPlacedAt}
 use Rattle.plan_text.specs.Text.{Saying, said_by}
 use Rattle.plan_text.specs.declared.stored.StoredPlan.{StoredPlan}
-use Rattle.rewind_writes.specs.Plan.{IsUnderPlan}
 use Rattle.rewind_writes.specs.Steps.{FindAll, opened}
 use Rattle.rewind_writes.specs.declared.plan.Plan.{Plan}
 use Rattle.rewind_writes.specs.declared.step.Step.{Step}
 use Rattle.rewind_writes.proofs.StepLemmas.{find-both}
 use Rattle.rewind_plan.specs.PlanOf.{IsPlanOf}
 use Rattle.rewind_plan.specs.Sides.{control_parts, label_parts, mark_parts}
+use Rattle.resumed_laws.specs.Between.{IsBetween}
 use Rattle.resumed_laws.specs.Resumed.{resumed_body, resumed_changes, resumed_closing, resumed_steps}
 use Rattle.resumed_laws.specs.Sound.{with_whole_mark}
 use Rattle.resumed_laws.proofs.ResumeLemmas.{plan-finds}
 use Rattle.resumed_writes.specs.Again.{AreReadable}
-use Rattle.resumable_plans.proofs.MarkLemmas.{complete-resumes, resumes-rewind, under-between}
+use Rattle.resumable_plans.proofs.MarkLemmas.{resumes-rewind}
 use Rattle.resumable_plans.proofs.OutsideLemmas.{outside-stays}
 use Rattle.resumable_plans.proofs.PlanLemmas.{plan-sound}
 use Rattle.rewind_core.specs.Fits.{IsPlanFor, IsRewound}
@@ -27,6 +27,7 @@ use Rattle.rewind_core.specs.Planned.{Needing}
 use Rattle.rewind_core.specs.Text.{saying, sum_at}
 use Rattle.rewind_core.specs.declared.outcome.Plan.{Plan as RewindPlan}
 use Rattle.stored_laws.specs.Laws.{StoppedRewindsAreResumed}
+use Rattle.stored_laws.proofs.LeftLemmas.{stopped-between}
 use Rattle.stored_laws.proofs.AimLemmas.{needed-aimed}
 
 -- ---- plans that say the same
@@ -59,27 +60,25 @@ plan-same target sum n plan stored of root placed said = record {
   control_says = ap (λ (s : Saying). s.control) said;
 }
 
--- ---- from what is under the mark on
+-- ---- from what stops left on
 
-module _ (c i : Contents) (n : Needing) (plan : RewindPlan) (for : IsPlanFor c n plan) (under : IsUnderPlan c plan.text plan.writes i) where
+module _ (c i : Contents) (n : Needing) (plan : RewindPlan) (for : IsPlanFor c n plan) (between : IsBetween (with_whole_mark c plan.text plan.writes) plan.writes i) where
   readable : AreReadable i plan.writes.steps.items
   readable =
       let steps = plan.writes.steps.items in
-      let between = (under-between c i plan.text n.aim.between n.pairs n.aim.control n.aim.label plan.writes for.sides for.writes under).0 in
       let sound = plan-sound c n.aim.between n.pairs for.sides n.aim.control n.aim.label plan.writes for.writes plan.text in
       let found : FindAll i (resumed_body i plan.writes) steps = plan-finds c (with_whole_mark c plan.text plan.writes) i plan.writes sound between in
       (find-both i (resumed_steps i steps) (resumed_closing (all_changed i (resumed_steps i steps)) plan.writes.label plan.writes.control) steps found).0
 
   rewound : (first_refusal i (resumed_changes i plan.writes) ≡ None) × IsRewound c n (all_changed i (resumed_changes i plan.writes))
   rewound =
-      let left = (under-between c i plan.text n.aim.between n.pairs n.aim.control n.aim.label plan.writes for.sides for.writes under).1 in
-      let ends = resumes-rewind c i plan.text n.aim.between n.pairs n.aim.control n.aim.label plan.writes for.sides for.writes left in (
+      let ends = resumes-rewind c i plan.text n.aim.between n.pairs n.aim.control n.aim.label plan.writes for.sides for.writes between in (
         ends.0,
         record {
           sides = for.sides;
           inside = ends.1;
           elsewhere = λ path out.
-              let stays = outside-stays c i plan.text n.aim.between n.pairs n.aim.control n.aim.label plan.writes path for.sides for.writes left out in
+              let stays = outside-stays c i plan.text n.aim.between n.pairs n.aim.control n.aim.label plan.writes path for.sides for.writes between out in
               changed-elsewhere i (resumed_changes i plan.writes) path stays.1 ∙ stays.0;
         },
       )
@@ -90,10 +89,10 @@ stopped-resumed c target source now n plan i stored stop placed said =
     let aimed = needed-aimed c target source now n stop.needed in
     let same = plan-same target (sum_at c source) n plan stored for.writes aimed.target_is placed said in
     let changes = changes-same i stored.plan plan.writes same in
-    let under = complete-resumes c i plan.text n.aim.between n.pairs n.aim.control n.aim.label plan.writes for.sides for.writes stop.left stop.complete in
-    let ends = rewound c i n plan for under in
+    let between = stopped-between c i plan.text n.aim.between n.pairs n.aim.control n.aim.label plan.writes for.sides for.writes stop.left stop.complete in
+    let ends = rewound c i n plan for between in
     record {
-      readable = subst (AreReadable i) (sym same.steps) (readable c i n plan for under);
+      readable = subst (AreReadable i) (sym same.steps) (readable c i n plan for between);
       unrefused = ap (first_refusal i) changes ∙ ends.0;
       rewound = subst (λ l. IsRewound c n (all_changed i l)) (sym changes) ends.1;
     }

@@ -17,14 +17,14 @@ use Rattle.clusters.specs.WholeFile.{all_of}
 use Rattle.backup_label.specs.declared.label.Label.{Label}
 use Rattle.file_walk.specs.Actions.{is_mark}
 use Rattle.file_walk.specs.declared.pair.Pair.{Pair}
-use Rattle.rewind_writes.specs.Plan.{IsUnderPlan}
 use Rattle.rewind_writes.specs.declared.plan.Plan.{Plan}
 use Rattle.rewind_writes.specs.declared.step.Step.{Step}
 use Rattle.plan_text.specs.Text.{Saying}
 use Rattle.rewind_plan.specs.PlanOf.{IsPlanOf}
 use Rattle.rewind_plan.specs.Planned.{Between, in_source, steps_of}
 use Rattle.rewind_plan.specs.Sides.{Sides, control_parts}
-use Rattle.resumable_plans.proofs.MarkLemmas.{under-between}
+use Rattle.resumed_laws.specs.Between.{IsBetween}
+use Rattle.resumed_laws.specs.Sound.{with_whole_mark}
 use Rattle.resumable_plans.proofs.OutsideLemmas.{outside-stays}
 use Rattle.rewind_core.specs.Text.{sum_at}
 use Rattle.resume_core.specs.Source.{first_lost, is_just, is_least, lost_by, or_later, other_sum, size_at, source_difference, unless_so}
@@ -65,11 +65,10 @@ least end n within = grind (arith, nat_tests)
 
 -- ---- under the mark of a rewind
 
-module _ (c i : Contents) (text : List ℕ) (w : Between) (all : List Pair) (new : Control) (label : Label) (plan : Plan) (sides : Sides c w all) (of : IsPlanOf w all new label plan) (under : IsUnderPlan c text plan i) where
+module _ (c i : Contents) (text : List ℕ) (w : Between) (all : List Pair) (new : Control) (label : Label) (plan : Plan) (sides : Sides c w all) (of : IsPlanOf w all new label plan) (between : IsBetween (with_whole_mark c text plan) plan i) where
   source-stays : (parts : List (List ℕ)) → entry_at i (below w.source parts) ≡ entry_at c (below w.source parts)
   source-stays parts =
-      let left = (under-between c i text w all new label plan sides of under).1 in
-      (outside-stays c i text w all new label plan (below w.source parts) sides of left (roots-apart w.target w.source parts sides.apart.0 sides.apart.1)).0
+      (outside-stays c i text w all new label plan (below w.source parts) sides of between (roots-apart w.target w.source parts sides.apart.0 sides.apart.1)).0
 
   pub control-stays : control_at i w.source ≡ control_at c w.source
   control-stays = same-control c i w.source (source-stays control_parts)

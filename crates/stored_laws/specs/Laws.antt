@@ -1,5 +1,5 @@
 -- That what a stopped rewind left is resumed. Own: "A rewind that is resumed".
-use Rattle.std.specs.Prelude.{◌≡◌, ℤ, false, None, Some, Ok}
+use Rattle.std.specs.Prelude.{◌≡◌, ◌⊎◌, ℤ, false, None, Some, Ok}
 use Rattle.std.specs.List.{list_any}
 use Rattle.cluster_tree.specs.Apart.{AreApart}
 use Rattle.cluster_tree.specs.Change.{all_changed, first_refusal, is_on}
@@ -12,7 +12,9 @@ use Rattle.plan_text.specs.Stored.{IsPlacedAt}
 use Rattle.plan_text.specs.Text.{said_by}
 use Rattle.plan_text.specs.declared.stored.StoredPlan.{StoredPlan}
 use Rattle.rewind_writes.specs.Plan.{IsResumable, mark_gate, mark_head}
+use Rattle.resumed_laws.specs.Between.{IsBetween}
 use Rattle.resumed_laws.specs.Resumed.{resumed_body, resumed_changes}
+use Rattle.resumed_laws.specs.Sound.{with_whole_mark}
 use Rattle.resumed_writes.specs.Again.{AreReadable}
 use Rattle.rewind_core.specs.Fits.{IsPlanFor, IsRewound}
 use Rattle.rewind_core.specs.Planned.{Needing, Needs, planned_of}
@@ -22,12 +24,13 @@ use Rattle.rewind_paths.specs.Laws.{AreOf}
 use Rattle.resume_core.specs.Source.{source_difference}
 use Rattle.resume_core.specs.Stored.{IsStoredBetween, stored_of}
 
--- A rewind that was needed from these contents on, by a plan that its text says, was stopped: it left these, and a mark that reads as complete.
+-- A rewind that was needed from these contents on, by a plan that its text says, was stopped, and then perhaps resumes of it. Its first run left
+-- these, or what stands is on its way from the whole mark to the end, as all is that a stop of a resume leaves; the mark reads as complete.
 pub record IsStopped (c : Contents) (target source : PathValue) (now : ℤ) (n : Needing) (plan : Plan) (i : Contents) : Type 0 where
   pub needed : planned_of c target source now ≡ Ok (Needs n)
   pub for : IsPlanFor c n plan
   pub said : IsSaid target source (saying (sum_at c source) plan)
-  pub left : IsResumable c plan.text plan.writes i
+  pub left : IsResumable c plan.text plan.writes i ⊎ IsBetween (with_whole_mark c plan.text plan.writes) plan.writes i
   pub complete : IsComplete mark_head mark_gate (bytes_at i plan.writes.mark)
 
 -- then what the mark holds is that plan, and nothing refuses it
