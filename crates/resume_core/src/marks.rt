@@ -1,5 +1,5 @@
 // The marks at a target's root.
-ghost use Rattle.std.specs.Prelude.{◌≡◌, ◌≢◌, ◌≤◌, IfErr, IfOk, IfSome, IsErrOf, IsTrue, Err, length};
+ghost use Rattle.std.specs.Prelude.{◌≡◌, ◌≢◌, ◌≤◌, IfOk, IfSome, IsErrOf, IsTrue, Err, length};
 ghost use Rattle.cluster_tree.specs.Causes.{Passes, Rose};
 ghost use Rattle.cluster_tree.specs.Contents.{entry_at, is_file};
 ghost use Rattle.cluster_tree.specs.Frame.{Reads};

@@ -1,6 +1,6 @@
 // The rewind that a mark holds.
-ghost use Rattle.std.specs.Prelude.{◌≡◌, ◌≢◌, ◌≤◌, IfOk, IsErrOf, IsTrue, Err, None, MatchResult, length};
-ghost use Rattle.cluster_tree.specs.Causes.{Meets, Rose};
+ghost use Rattle.std.specs.Prelude.{◌≡◌, ◌≢◌, ◌≤◌, IfOk, IsErrOf, IsTrue, Err, None, length};
+ghost use Rattle.cluster_tree.specs.Causes.{Rose};
 ghost use Rattle.cluster_tree.specs.Frame.{Reads};
 ghost use Rattle.cluster_tree.specs.PathValue.{PathValue};
 ghost use Rattle.clusters.specs.Marks.{unfinished};
@@ -8,7 +8,6 @@ ghost use Rattle.plan_text.specs.Mark.{mark_told};
 ghost use Rattle.plan_text.specs.declared.mark.MarkText.TheVariants as told;
 ghost use Rattle.clusters.specs.declared.fault.ClusterFault.TheVariants as cluster;
 ghost use Rattle.rewind_survey.specs.declared.fault.RewindFault.TheVariants as rewind;
-ghost use Rattle.resume_core.specs.Faults.{IsFree};
 ghost use Rattle.resume_core.specs.Stored.{Holds, IsBetween, IsStoredBetween, Stores, held_in, plan_in, stored_of};
 
 use crate::ResumeFault;
