@@ -102,9 +102,10 @@ fn resume_stored<F: Tree, E: Sink>(
 /// memory, comes before the first line. Behind the two lines `TargetDiffers` comes at the first change
 /// that what stands in the target refuses, with its way from the root; or want of memory in its place.
 /// `ReadFault`, `WriteFault` and `SinkFault` come only where a call of that device failed, which it has
-/// counted, and `Changed` never where the tree tells its contents. In each of these cases the mark
-/// stands once the changes were begun, and the resume can be tried again. A stop at any moment leaves
-/// the target untouched, with its mark, or as the changes leave it, and once it is done as it stands.
+/// counted, and `Changed` never where the tree tells its contents. The mark stands until it is removed,
+/// and as long as it stands the resume can be tried again; behind that, at the last sync or the last
+/// line, the target is made. A stop at any moment leaves the target untouched, with its mark, or as the
+/// changes leave it, and once it is done as it stands.
 pub fn resume<F: Tree, E: Sink>(
     alloc: Global,
     tree: &mut F,

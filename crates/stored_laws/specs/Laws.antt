@@ -25,7 +25,7 @@ use Rattle.resume_core.specs.Source.{source_difference}
 use Rattle.resume_core.specs.Stored.{IsStoredBetween, stored_of}
 
 -- A rewind that was needed from these contents on, by a plan that its text says, was stopped, and then perhaps resumes of it. Its first run left
--- these, or what stands is on its way from the whole mark to the end, as all is that a stop of a resume leaves; the mark reads as complete.
+-- these, or what stands is on its way from the whole mark to the end, as what a stop of a resume leaves that began on synced such; the mark reads as complete.
 pub record IsStopped (c : Contents) (target source : PathValue) (now : ℤ) (n : Needing) (plan : Plan) (i : Contents) : Type 0 where
   pub needed : planned_of c target source now ≡ Ok (Needs n)
   pub for : IsPlanFor c n plan
