@@ -4,10 +4,10 @@ use Rattle.alike_clusters.specs.Clusters.{AlikeClusters}
 use Rattle.block_refs.specs.declared.names.BlockName.{BlockName}
 use Rattle.block_replay.specs.declared.faults.RecordFault.{RecordFault}
 use Rattle.block_replay.specs.declared.faults.RecordFault.TheVariants.{RedoFailed, File}
-use Rattle.cluster_kinds.specs.Kinds.{HasKinds}
-use Rattle.cluster_kinds.specs.Laws.{FindsKinds}
-use Rattle.cluster_kinds.proofs.KindLemmas.{put-kinds}
-use Rattle.cluster_kinds.proofs.RecordLemmas.{log-finds}
+use Rattle.cluster_laws.specs.Kinds.{HasKinds}
+use Rattle.cluster_laws.specs.KindLaws.{FindsKinds}
+use Rattle.cluster_laws.proofs.kinds.KindLemmas.{put-kinds}
+use Rattle.cluster_laws.proofs.kinds.RecordLemmas.{log-finds}
 use Rattle.cluster_tree.specs.Causes.{given, unless}
 use Rattle.cluster_tree.specs.Contents.{Contents, FileEntry}
 use Rattle.cluster_tree.specs.PathValue.{PathValue, below}

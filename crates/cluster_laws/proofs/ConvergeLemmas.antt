@@ -16,7 +16,7 @@ use Rattle.replay_world.specs.Records.{records_after}
 use Rattle.replay_world.specs.World.{World}
 use Rattle.storage_laws.specs.States.{page_in}
 use Rattle.storage_laws.proofs.NumberLemmas.{by_test}
-use Rattle.unlogged_laws.proofs.ConvergeLemmas.{unlogged-alike}
+use Rattle.cluster_laws.proofs.unlogged.ConvergeLemmas.{unlogged-alike}
 use Rattle.wal_base.specs.declared.lsn.Lsn.{Lsn}
 use Rattle.wal_records.specs.Reading.{LogRecord}
 use Rattle.cluster_laws.specs.Agree.{AgreeOn}

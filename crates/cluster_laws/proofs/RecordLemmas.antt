@@ -18,7 +18,7 @@ use Rattle.file_effects.specs.Done.{files_after}
 use Rattle.page_layout.specs.declared.refusal.RedoWhy.TheVariants.{Layout}
 use Rattle.record_effects.specs.Acts.{act_on}
 use Rattle.record_effects.specs.Managers.{rules_of}
-use Rattle.record_effects.proofs.RuleLemmas.{managers_are}
+use Rattle.replay_laws.proofs.RuleLemmas.{managers_are}
 use Rattle.replay_control.specs.Following.{control_after}
 use Rattle.replay_laws.specs.Log.{AreTaken, IsTaken}
 use Rattle.replay_laws.specs.Whole.{AreWhole}

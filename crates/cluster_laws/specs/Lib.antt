@@ -1,3 +1,6 @@
+pub mod Kinds
+pub mod KindLaws
+pub mod Unlogged
 pub mod Agree
 pub mod Alike
 pub mod Converging

@@ -3,7 +3,7 @@ use Rattle.std.specs.Prelude.{◌≡◌, ℕ, List, Option, Ok}
 use Rattle.alike_clusters.specs.Clusters.{AlikeClusters}
 use Rattle.block_refs.specs.declared.names.BlockName.{BlockName}
 use Rattle.cluster_compare.specs.Same.{IsSameCluster}
-use Rattle.cluster_kinds.specs.Kinds.{HasKinds}
+use Rattle.cluster_laws.specs.Kinds.{HasKinds}
 use Rattle.cluster_tree.specs.Contents.{Contents}
 use Rattle.cluster_tree.specs.PathValue.{PathValue}
 use Rattle.replay_core.specs.Replayed.{After, after_replay, first_world}

@@ -20,7 +20,7 @@ use Rattle.run_acts.specs.declared.cause.Cause.{Cause}
 use Rattle.run_acts.specs.declared.cause.Cause.TheVariants as cause
 use Rattle.run_acts.proofs.AnswerSteps.{unfree}
 use Rattle.cmd_pair.specs.Tried.{Ends, IsFreeReplay, IsReplayedPair, IsTriedPair}
-use Rattle.tried_laws.proofs.CompareLemmas.{pairs-compare}
+use Rattle.pair_laws.proofs.CompareLemmas.{pairs-compare}
 
 -- what is free isn't what the tree contradicted
 pub freed : {e : Cause} (path : PathValue) → IsFree e → ◌≡◌ {A = Result (Unit {0}) Cause} (Err e) (Err (cause.Changed path)) → ⊥

@@ -7,7 +7,7 @@ use Rattle.block_refs.specs.declared.names.Fork.{Fork}
 use Rattle.block_refs.specs.declared.names.Fork.TheVariants.{Init}
 use Rattle.block_refs.specs.declared.names.RelName.{RelName}
 use Rattle.cluster_compare.specs.Same.{has_init}
-use Rattle.cluster_kinds.specs.Kinds.{AnyPlace, FilePlace, FolderPlace, HasKinds, IsAt, Place, place_of}
+use Rattle.cluster_laws.specs.Kinds.{AnyPlace, FilePlace, FolderPlace, HasKinds, IsAt, Place, place_of}
 use Rattle.cluster_tree.specs.Contents.{Contents, Entry, FileEntry, FolderEntry, LinkEntry, entry_at, is_file, is_folder}
 use Rattle.cluster_tree.specs.Folders.{last_part}
 use Rattle.cluster_tree.specs.PathValue.{PathValue, below, path_of}

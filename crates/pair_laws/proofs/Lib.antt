@@ -32,3 +32,4 @@ pub mod StateLemmas
 pub mod LogLemmas
 pub mod PairLemmas
 pub mod EndLemmas
+pub mod CompareLemmas

@@ -5,7 +5,7 @@ use Rattle.std.specs.Cmp.Lexicographic.{pointwise}
 use Rattle.std.specs.List.{list_all, list_any}
 use Rattle.block_refs.specs.declared.names.Fork.TheVariants.{Main}
 use Rattle.block_refs.specs.declared.names.RelName.{RelName}
-use Rattle.cluster_kinds.specs.Kinds.{IsAt, place_of}
+use Rattle.cluster_laws.specs.Kinds.{IsAt, place_of}
 use Rattle.cluster_tree.specs.Contents.{Entry, FileEntry, FolderEntry, LinkEntry}
 use Rattle.cluster_tree.specs.Folders.{last_part}
 use Rattle.cluster_tree.specs.PathValue.{PathValue, front, is_part, kept_parts, path_of}

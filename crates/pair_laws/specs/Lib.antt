@@ -6,3 +6,4 @@ pub mod Bytes
 pub mod Survey
 pub mod Grew
 pub mod Ends
+pub mod Compared

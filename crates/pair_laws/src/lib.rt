@@ -3,6 +3,7 @@
 #![tactic(auto)]
 
 mod bytes;
+mod compared;
 mod ends;
 mod grew;
 mod life;
@@ -11,6 +12,7 @@ mod start;
 mod survey;
 
 pub use bytes::copy_log_is_bytes;
+pub use compared::pairs_compare_the_same;
 pub use ends::{copy_stays, pairs_end_the_same};
 pub use grew::{pair_has_copy, pairs_follow, pairs_grew_from_one_state};
 pub use life::{pair_lives, pair_says_enough};

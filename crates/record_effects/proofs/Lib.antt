@@ -1,2 +1,1 @@
-pub mod RuleLemmas
 pub mod ActLemmas

@@ -11,7 +11,7 @@ use Rattle.page_layout.specs.declared.refusal.RedoWhy.{RedoWhy}
 use Rattle.page_masks.specs.Kind.{is_zero}
 use Rattle.page_masks.specs.Law.{view}
 use Rattle.record_effects.specs.Managers.{rules_of}
-use Rattle.record_effects.proofs.RuleLemmas.{managers_are}
+use Rattle.replay_laws.proofs.RuleLemmas.{managers_are}
 use Rattle.replay_law.specs.Effect.{Step}
 use Rattle.replay_law.specs.Law.{AreAlike, EndAlike}
 use Rattle.replay_law.specs.Premises.{HasNoChange, IsState}

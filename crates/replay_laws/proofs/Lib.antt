@@ -1,3 +1,4 @@
+pub mod RuleLemmas
 pub mod ReadLemmas
 pub mod NameLemmas
 pub mod SkippedLemmas

@@ -17,7 +17,7 @@ use Rattle.page_masks.specs.Law.{stamped, view}
 use Rattle.record_effects.specs.Acts.{act_on, IsDone}
 use Rattle.record_effects.specs.Managers.{effect_on, rules_of}
 use Rattle.record_effects.proofs.ActLemmas.{acts_done, found_self}
-use Rattle.record_effects.proofs.RuleLemmas.{managers_are}
+use Rattle.replay_laws.proofs.RuleLemmas.{managers_are}
 use Rattle.block_effects.proofs.MeetLemmas.{meets}
 use Rattle.replay_law.specs.Effect.{Effect, Nothing, Init, Change, Gone}
 use Rattle.replay_law.specs.Replay.{replay_step}

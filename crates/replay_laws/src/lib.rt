@@ -6,9 +6,11 @@ mod converging;
 mod logs;
 mod records;
 mod refusals;
+mod rules;
 
 pub use checked::checked_laws;
 pub use converging::{blocks_converge, unchanged_blocks_end};
 pub use logs::log_laws;
 pub use records::record_laws;
 pub use refusals::refusal_laws;
+pub use rules::{managers_keep_their_rules, records_have_effects};

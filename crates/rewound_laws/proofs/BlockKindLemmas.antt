@@ -3,7 +3,7 @@ use Rattle.std.proofs.Common.{◌≡◌, ℕ, ◌≤◌, Bool, true, false, ◌&
 use Rattle.std.specs.Prelude.{bytes_eq, if◌then◌else◌}
 use Rattle.std.proofs.lemmas.Slice.Eq.{bytes_eq-Decides}
 use Rattle.backup_label.specs.Text.{label_text}
-use Rattle.cluster_kinds.specs.Kinds.{AnyPlace, FilePlace, FolderPlace, HasKinds, IsAt, Place, place_of}
+use Rattle.cluster_laws.specs.Kinds.{AnyPlace, FilePlace, FolderPlace, HasKinds, IsAt, Place, place_of}
 use Rattle.cluster_tree.specs.Contents.{Contents, FileEntry, entry_at, is_folder}
 use Rattle.cluster_tree.specs.PathValue.{PathValue, below, path_of}
 use Rattle.control_file.specs.Writing.{control_bytes}

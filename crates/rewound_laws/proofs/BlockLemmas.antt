@@ -9,7 +9,7 @@ use Rattle.block_refs.specs.declared.names.Fork.{Fork}
 use Rattle.block_refs.specs.declared.names.Fork.TheVariants.{Init}
 use Rattle.block_refs.specs.declared.names.RelName.{RelName}
 use Rattle.cluster_compare.specs.Same.{has_init}
-use Rattle.cluster_kinds.specs.Kinds.{HasKinds}
+use Rattle.cluster_laws.specs.Kinds.{HasKinds}
 use Rattle.cluster_laws.specs.Converging.{IsBased}
 use Rattle.cluster_tree.specs.Contents.{Contents, entry_at, is_file}
 use Rattle.cluster_tree.specs.PathValue.{PathValue, below, path_of}

@@ -2,7 +2,7 @@
 -- and pg_rewind.c. Own: "Clusters that grew from one state", "The law of one block".
 use Rattle.std.specs.Prelude.{◌≡◌, ◌⊎◌, ℕ, ℤ, ◌<◌, ◌≤◌, true, false, List, length, Option, Ok, is_some}
 use Rattle.block_refs.specs.declared.names.BlockName.{BlockName}
-use Rattle.cluster_kinds.specs.Kinds.{HasKinds}
+use Rattle.cluster_laws.specs.Kinds.{HasKinds}
 use Rattle.cluster_laws.specs.Converging.{IsBased}
 use Rattle.cluster_tree.specs.Contents.{Contents}
 use Rattle.cluster_tree.specs.PathValue.{PathValue}

@@ -6,7 +6,7 @@ use Rattle.block_refs.specs.declared.names.BlockName.{BlockName}
 use Rattle.block_refs.specs.declared.names.Fork.{Fork}
 use Rattle.block_refs.specs.declared.names.RelName.{RelName}
 use Rattle.cluster_compare.specs.Same.{has_init}
-use Rattle.cluster_kinds.specs.Kinds.{HasKinds}
+use Rattle.cluster_laws.specs.Kinds.{HasKinds}
 use Rattle.cluster_tree.specs.Contents.{Contents, IsTree}
 use Rattle.cluster_tree.specs.PathValue.{PathValue}
 use Rattle.page_masks.specs.Law.{view}

@@ -1,0 +1,14 @@
+pub mod KeepLemmas
+pub mod FileLemmas
+pub mod PutLemmas
+pub mod RecordLemmas
+pub mod LogLemmas
+pub mod SaidLemmas
+pub mod ControlLemmas
+pub mod FineLemmas
+pub mod PlainLemmas
+pub mod CloseLemmas
+pub mod MarkLemmas
+pub mod CopyLemmas
+pub mod TargetLemmas
+pub mod KeptLemmas

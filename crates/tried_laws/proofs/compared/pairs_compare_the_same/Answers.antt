@@ -1,5 +1,0 @@
-use Rattle.tried_laws.proofs.CompareLemmas.{pairs-compare}
-use Rattle.tried_laws.proofs.compared.pairs_compare_the_same.Goals as goal
-
-pub returns : goal.returns
-returns g = pairs-compare

@@ -1,9 +1,0 @@
-use Rattle.unlogged_laws.proofs.ConvergeLemmas.{gone-forgets}
-use Rattle.unlogged_laws.proofs.RecordLemmas.{init-goes}
-use Rattle.unlogged_laws.proofs.unlogged.init_forks_go_whole.Goals as goal
-
-pub returns-clause-record : goal.returns-clause-record
-returns-clause-record c = λ root per rec parts name w v is main made loses. init-goes root per rec parts name w v is main made loses.had loses.lost
-
-pub returns-clause-log : goal.returns-clause-log
-returns-clause-log c = λ root per start records name w v a b taken main made loses. gone-forgets root per start records name w v a b taken main made loses.had loses.lost
