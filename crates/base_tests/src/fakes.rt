@@ -2,9 +2,8 @@
 use crate::callers::{VERBS, ended, rewrite};
 use crate::texts::path_of;
 use crate::trees::small_tree;
-use cluster_tree::{
-    FailPlan, FailingTree, FileFault, MemorySink, PathFault, Sink, SinkFailed, Tree, TreeFault,
-};
+use cluster_tree::{FileFault, PathFault, Sink, SinkFailed, Tree, TreeFault};
+use memory_tree::{FailPlan, FailingTree, MemorySink};
 use std::process::Abort;
 
 // The first call of a kind fails by the plan, and the second doesn't.

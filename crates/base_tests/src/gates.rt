@@ -2,9 +2,10 @@
 // bytes and the number of calls are those of docs/DECISIONS.md, "A mark that holds its plan".
 use crate::texts::path_of;
 use crate::trees::{bytes_in, small_tree};
-use cluster_tree::{FailPlan, FailingTree, Kind, MemoryTree, Path, Tree};
+use cluster_tree::{Kind, Path, Tree};
 use gated_marks::{begin_gated, lay_head, lay_text, open_gate};
 use marked_runs::StepFault;
+use memory_tree::{FailPlan, FailingTree, MemoryTree};
 use std::process::Abort;
 
 const HEAD: &[u8] = b"pg_rewind 2\n-\n";

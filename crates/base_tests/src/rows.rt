@@ -9,7 +9,8 @@ use crate::paths::of_path;
 use crate::texts::{first_word, path_of, said, shown};
 use crate::trees::{changed, first_mark, is_sync, mark_path, names_of, small_tree};
 use crate::{calls, control_files, fakes, histories, masks, numbers, pages, paths};
-use cluster_tree::{MemoryTree, Tree};
+use cluster_tree::Tree;
+use memory_tree::MemoryTree;
 use std::process::Abort;
 
 /// How a call on a path ends, or what kind of entry stands there.

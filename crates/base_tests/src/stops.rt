@@ -1,7 +1,8 @@
 // The expected values follow from the calls since the last sync.
 use crate::texts::path_of;
 use crate::trees::{bytes_in, small_tree};
-use cluster_tree::{Kind, MemoryTree, Tree};
+use cluster_tree::{Kind, Tree};
+use memory_tree::MemoryTree;
 use std::process::Abort;
 
 /// An image of the tree has these bytes in `t/f`, and this at `t/g`.

@@ -1,7 +1,8 @@
 //! A small tree, and what is written in it.
 use crate::callers::rewrite;
 use crate::texts::{first_word, number, owned, path_of, said, shown, text_of};
-use cluster_tree::{ChangeCall, Marks, MemoryTree, Names, Path, Tree, TreeFault, mark_present};
+use cluster_tree::{ChangeCall, Marks, Names, Path, Tree, TreeFault, mark_present};
+use memory_tree::MemoryTree;
 use std::process::Abort;
 
 fn put_folder<R: AllocGlobal + Abort>(rt: &R, tree: &mut MemoryTree, text: &str) {

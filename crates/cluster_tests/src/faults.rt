@@ -5,8 +5,9 @@ use crate::options::options_of;
 use crate::resets::{CONTROL, cluster, found_in, tell_answer};
 use crate::texts::{cut_at, number, says, tell};
 use crate::trees::path_of;
-use cluster_tree::{ChangeCall, FailPlan, FailingTree, Kind, MemoryTree, Tree};
+use cluster_tree::{ChangeCall, Kind, Tree};
 use clusters::Found;
+use memory_tree::{FailPlan, FailingTree, MemoryTree};
 use std::process::Abort;
 
 /// The first and the last call that fails, the answer, and what stands then: `m` the mark, with its text `t`; `c` the new

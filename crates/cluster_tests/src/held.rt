@@ -5,7 +5,7 @@ use crate::controls::surveyed;
 use crate::stored::spelled;
 use crate::texts::{cut_at, says, tell};
 use crate::trees::{plan_of, put_all, put_file, root_of, tree_of};
-use cluster_tree::{FailingTree, MemoryTree};
+use memory_tree::{FailingTree, MemoryTree};
 use plan_text::StoredPlan;
 use resume_core::{ResumeFault, stored_rewind};
 use std::process::Abort;

@@ -3,8 +3,9 @@
 use crate::controls::surveyed;
 use crate::texts::{cut_at, number, says, shows, tell};
 use crate::trees::{path_of, plan_of, put_all, put_file, root_of, tree_of};
-use cluster_tree::{FailPlan, FailingTree, MemoryTree, Tree};
+use cluster_tree::Tree;
 use clusters::{Found, read_whole};
+use memory_tree::{FailPlan, FailingTree, MemoryTree};
 use rewind_survey::{RewindFault, Surveyed, survey};
 use std::process::Abort;
 

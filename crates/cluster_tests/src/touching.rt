@@ -4,7 +4,7 @@ ghost use Rattle.std.specs.Prelude.{◌≤◌, length};
 use crate::texts::number;
 use crate::trees::{put_file, root_of, tree_of};
 use block_refs::split_record;
-use cluster_tree::MemoryTree;
+use memory_tree::MemoryTree;
 use std::process::Abort;
 use touched_blocks::Touched;
 use wal_base::{Lsn, SegSize, Spans};

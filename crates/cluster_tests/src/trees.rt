@@ -3,7 +3,8 @@ ghost use Rattle.std.specs.Prelude.{◌≤◌, length};
 
 use crate::runs::runs_of;
 use crate::texts::{cut_at, number};
-use cluster_tree::{FailPlan, MemoryTree, Names, Path, Tree};
+use cluster_tree::{Names, Path, Tree};
+use memory_tree::{FailPlan, MemoryTree};
 use std::process::Abort;
 
 /// The path of a text.

@@ -3,8 +3,9 @@
 use crate::kinds::tell_kind;
 use crate::texts::{cut_at, number, says, tell};
 use crate::trees::{path_of, plan_of, tree_of};
-use cluster_tree::{FailingTree, MemoryTree, Path, Tree};
+use cluster_tree::{Path, Tree};
 use file_walk::{Entries, Pair, WalkFault, pair_up, walk};
+use memory_tree::{FailingTree, MemoryTree};
 use std::process::Abort;
 
 /// Which read fails, a root, a tree, and the entries below the root in the order of texts.

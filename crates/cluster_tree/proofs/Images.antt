@@ -4,8 +4,8 @@ use Rattle.std.proofs.lemmas.List.{drop-append-le, append_cancel_left}
 use Rattle.std.proofs.lemmas.Grind.{common_steps}
 use Rattle.cluster_tree.specs.Contents.{Contents}
 use Rattle.cluster_tree.specs.Step.{Step}
-use Rattle.cluster_tree.specs.Stops.{Stops, Epoch, with_pending, stops_after, IsImage, HadBeen, MayBeLeft, LeftSince, LeavesOnly}
-use Rattle.cluster_tree.specs.Run.{State, Moment, Happens, Occurs, Course, Calls, Still, Call, Pends}
+use Rattle.cluster_tree.specs.Stops.{Stops, Epoch, with_pending, IsImage, HadBeen, MayBeLeft, LeavesOnly}
+use Rattle.cluster_tree.specs.Run.{Moment, Occurs, Course, Still, Call, Pends}
 use Rattle.cluster_tree.specs.declared.tree.TreeFault.{TreeFault}
 use Rattle.cluster_tree.specs.declared.tree.ChangeCall.{ChangeCall}
 use Rattle.cluster_tree.specs.declared.tree.ChangeCall.TheVariants as call

@@ -2,8 +2,6 @@ pub mod OrderLemmas
 pub mod TextLemmas
 pub mod PathLemmas
 pub mod PartLemmas
-pub mod SpliceLemmas
-pub mod NodeLemmas
 pub mod ContentsLemmas
 pub mod FolderLemmas
 pub mod ListingLemmas
@@ -19,5 +17,3 @@ pub mod RootLemmas
 pub mod RunLemmas
 pub mod HoldLemmas
 pub mod Images
-pub mod SoundLemmas
-pub mod ImageLemmas

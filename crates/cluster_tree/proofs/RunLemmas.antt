@@ -1,11 +1,11 @@
 -- Runs, one after another.
-use Rattle.std.proofs.Common.{◌≡◌, ◌++◌, ◌∷◌, [], arith, refl, sym, subst, ap, ◌∙◌, inl, inr, Result, Ok, Err, OnOk, OnErr}
+use Rattle.std.proofs.Common.{◌≡◌, ◌++◌, ◌∷◌, [], arith, sym, subst, ap, ◌∙◌, inl, inr, Result, Ok, Err, OnOk, OnErr}
 use Rattle.cluster_tree.specs.Step.{Step}
 use Rattle.cluster_tree.specs.Stops.{stops_after}
 use Rattle.cluster_tree.specs.Contents.{Contents}
 use Rattle.cluster_tree.specs.Frame.{Reads, Came, state_of, moment_of}
 use Rattle.cluster_tree.specs.declared.tree.Tree.{Ghosts}
-use Rattle.cluster_tree.specs.Run.{State, Moment, Happens, Occurs, Run, Course, Calls, Still, Call, MakesBy, Makes, Pends}
+use Rattle.cluster_tree.specs.Run.{Moment, Run, Course, Calls, Still, Call, MakesBy, Makes, Pends}
 use Rattle.cluster_tree.specs.declared.tree.ChangeCall.{ChangeCall}
 use Rattle.cluster_tree.specs.declared.tree.TreeFault.{TreeFault}
 use Rattle.cluster_tree.specs.declared.tree.TreeFault.TheVariants as fault

@@ -1,15 +1,13 @@
 -- What leaves contents a tree, of which each entry lies in a folder.
-use Rattle.std.proofs.Common.{◌≡◌, ◌≢◌, ℕ, suc, ◌-◌, ◌==◌, nat_lt, take, Bool, true, false, cond, ◌&&◌, ◌||◌, List, [], ◌∷◌, length, Option, Some, None, Result, Ok, Err, OnOk, OnErr, refl, ap, sym, ◌∙◌, subst, inl, inr, is_some, true≢false, arith, rules}
-use Rattle.std.specs.FinMap.{get, insert, remove, get-insert, get-remove, empty, get-empty}
-use Rattle.cluster_tree.specs.PathValue.{PathValue, path_cmp}
+use Rattle.std.proofs.Common.{◌≡◌, ◌≢◌, ℕ, suc, ◌-◌, ◌==◌, nat_lt, take, Bool, true, false, cond, ◌&&◌, ◌||◌, List, [], ◌∷◌, length, Option, Some, None, refl, ap, sym, ◌∙◌, subst, inl, inr, is_some, true≢false, arith, rules}
+use Rattle.std.specs.FinMap.{get, insert, remove, get-insert, get-remove}
+use Rattle.cluster_tree.specs.PathValue.{PathValue}
 use Rattle.cluster_tree.specs.PathOrder.{path_eq}
-use Rattle.cluster_tree.proofs.OrderLemmas.{path_cmp_total, path_eq-own, path_eq-same, path_eq-other, same_path}
+use Rattle.cluster_tree.proofs.OrderLemmas.{path_cmp_total, path_eq-own, path_eq-same, path_eq-other}
 use Rattle.cluster_tree.specs.Contents.{Contents, Entry, FileEntry, FolderEntry, LinkEntry, or_root, entry_at, parent, is_folder, IsTree}
 use Rattle.cluster_tree.specs.Tree.{make_refusal, refusal_in, refusal_past, file_of}
 use Rattle.cluster_tree.specs.Folders.{has_child, removal_refusal, remove_refusal}
 use Rattle.cluster_tree.specs.Step.{Step}
-use Rattle.cluster_tree.specs.Memory.{contents_of}
-use Rattle.cluster_tree.specs.declared.nodes.Placed.{Placed}
 use Rattle.cluster_tree.proofs.FolderLemmas.{has_child-there}
 use Rattle.cluster_tree.specs.declared.tree.ChangeCall.{ChangeCall}
 use Rattle.cluster_tree.specs.declared.tree.ChangeCall.TheVariants as call
@@ -19,12 +17,12 @@ use Rattle.cluster_tree.specs.declared.tree.TreeFault.TheVariants as fault
 pub some_none : {A : Type 0} {x : A} {P : Type 0} → Some x ≡ None → P
 some_none e = absurd (subst (λ o. elim o as (λ _. Type 0) [ None ↦ ⊥ | Some _ ↦ Unit {0} ]) e tt)
 
-put_other : (c : Contents) (p q : PathValue) (v : Entry) → q ≢ p → get (insert c p v) q ≡ get c q
+pub put_other : (c : Contents) (p q : PathValue) (v : Entry) → q ≢ p → get (insert c p v) q ≡ get c q
 unfolding path_eq
 put_other c p q v n = get-insert path_cmp_total c p v q ∙ ap (λ b. cond b (Some v) (get c q)) (path_eq-other q p n)
 
 -- a path is another or not
-same_or_other : {P : Type 0} (q p : PathValue) → (q ≡ p → P) → (q ≢ p → P) → P
+pub same_or_other : {P : Type 0} (q p : PathValue) → (q ≡ p → P) → (q ≢ p → P) → P
 unfolding path_eq
 same_or_other {P} q p same other =
     elim (path_eq q p) as (λ b. path_eq q p ≡ b → P) [ true ↦ λ e. same (path_eq-same q p e) | false ↦ λ e. other (λ is. true≢false (sym (path_eq-own p) ∙ ap (λ x. path_eq x p) (sym is) ∙ e)) ] refl
@@ -36,21 +34,7 @@ put-tree c p v tree none above q there =
     ap (λ o. is_folder (or_root r.parts o)) (put_other c p r v (λ e. true≢false (sym f ∙ ap (λ x. is_folder (entry_at c x)) e ∙ none))) ∙ f in
     same_or_other q p (λ e. stays (parent q) (ap (λ x. is_folder (entry_at c (parent x))) e ∙ above)) (λ n. stays (parent q) (tree q (ap is_some (sym (put_other c p q v n)) ∙ there)))
 
--- a folder that is put where a folder was
-pub folder-tree : (c : Contents) (p : PathValue) (bad : Bool) → IsTree c → is_folder (entry_at c p) ≡ true → (get c p ≡ None → parent p ≡ p) → IsTree (insert c p (FolderEntry bad))
-unfolding path_eq
-folder-tree c p bad tree was root q there =
-    let here : get (insert c p (FolderEntry bad)) p ≡ Some (FolderEntry bad) = get-insert path_cmp_total c p (FolderEntry bad) p ∙ ap (λ b. cond b (Some (FolderEntry bad)) (get c p)) (path_eq-own p) in
-    let stays : (r : PathValue) → is_folder (entry_at c r) ≡ true → is_folder (entry_at (insert c p (FolderEntry bad)) r) ≡ true = λ r f.
-    same_or_other r p (λ e. ap (λ x. is_folder (entry_at (insert c p (FolderEntry bad)) x)) e ∙ ap (λ o. is_folder (or_root p.parts o)) here) (λ n. ap (λ o. is_folder (or_root r.parts o)) (put_other c p r _ n) ∙ f) in
-    stays (parent q) (same_or_other q p
-    (λ e. ap (λ x. is_folder (entry_at c (parent x))) e ∙ (elim (get c p) as (λ o. get c p ≡ o → is_folder (entry_at c (parent p)) ≡ true) [
-      | None ↦ λ none. ap (λ x. is_folder (entry_at c x)) (root none) ∙ was
-      | Some v ↦ λ some. tree p (ap is_some some)
-    ] refl))
-    (λ n. tree q (ap is_some (sym (put_other c p q _ n)) ∙ there)))
-
-above_of : (o : Option Entry) → refusal_in o ≡ None → is_folder o ≡ true
+pub above_of : (o : Option Entry) → refusal_in o ≡ None → is_folder o ≡ true
 above_of None e = some_none e
 above_of (Some (FolderEntry _)) e = refl
 above_of (Some (FileEntry _)) e = some_none e
@@ -137,21 +121,3 @@ step-tree (call.MakeFolder path) c d tree (inr made) = subst IsTree (sym made.1)
 step-tree (call.Remove path) c d tree (inl same) = subst IsTree (sym same) tree
 step-tree (call.Remove path) c d tree (inr gone) = subst IsTree (sym gone.1) (removed-tree c path tree gone.0)
 step-tree call.Sync c d tree same = subst IsTree (sym same) tree
-
-pub empty-tree : (c : Contents) → c ≡ empty → IsTree c
-empty-tree c e path there = absurd (true≢false (sym there ∙ ap is_some (ap (λ k. get k path) e ∙ get-empty path_cmp path)))
-
-bare_parts : (parts : List (List ℕ)) → is_folder (or_root parts None) ≡ true → take (length parts - 1) parts ≡ parts
-bare_parts [] f = refl
-bare_parts (part ∷ parts) f = absurd (true≢false (sym f))
-
--- a folder that comes to hold a bad name
-pub bad_name-tree : (c : Contents) (p : PathValue) → IsTree c → refusal_in (entry_at c p) ≡ None → IsTree (insert c p (FolderEntry true))
-bad_name-tree c p tree e =
-    let was : is_folder (entry_at c p) ≡ true = above_of (entry_at c p) e in
-    folder-tree c p true tree was (λ none. same_path (parent p) p refl (bare_parts p.parts (ap (λ o. is_folder (or_root p.parts o)) (sym none) ∙ was)))
-
--- nodes that were changed, or stayed as they were
-pub set-tree : {A E : Type 0} (r : Result A E) (xs ys : List Placed) (e : Contents) → OnOk r (contents_of ys ≡ e) → OnErr r (ys ≡ xs) → IsTree (contents_of xs) → IsTree e → IsTree (contents_of ys)
-set-tree (Ok v) xs ys e set kept tree new = subst IsTree (sym set) new
-set-tree (Err f) xs ys e set kept tree new = subst IsTree (sym (ap contents_of kept)) tree

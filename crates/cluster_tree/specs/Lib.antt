@@ -12,14 +12,10 @@ pub mod Stops
 pub mod Run
 pub mod Untold
 pub mod Sink
-pub mod Plan
-pub mod Memory
-pub mod Fakes
 pub mod Marks
 pub mod Joined
 pub mod Below
 pub mod Change
 pub mod Laws
 pub mod ChangeLaws
-pub mod Image
 pub mod Frame

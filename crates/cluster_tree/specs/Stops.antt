@@ -1,5 +1,5 @@
 -- What a stop may leave: between two syncs each changing call may have been carried out in part, or not at all. Own: "What a stop may leave".
-use Rattle.std.specs.Prelude.{◌≡◌, ℕ, ◌⊎◌, List, [], ◌∷◌, ◌++◌, drop, length}
+use Rattle.std.specs.Prelude.{◌≡◌, ◌⊎◌, List, [], ◌∷◌, ◌++◌, drop, length}
 use Rattle.std.specs.FinMap.{empty}
 use Rattle.cluster_tree.specs.Contents.{Contents}
 use Rattle.cluster_tree.specs.Step.{Step}

@@ -33,7 +33,7 @@ impl Names {
     }
 
     /// The list of these texts.
-    pub(crate) fn of_texts(alloc: Global, texts: Vec<String>) -> Names
+    pub fn of_texts(alloc: Global, texts: Vec<String>) -> Names
         ensures { result ≡ map string_bytes texts.items }
     {
         Names { alloc, texts }

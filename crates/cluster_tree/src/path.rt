@@ -140,7 +140,7 @@ impl Path {
     }
 
     /// Whether it is the path of this mark and these parts.
-    pub(crate) fn is(&self, absolute: bool, parts: &[String]) -> bool
+    pub fn is(&self, absolute: bool, parts: &[String]) -> bool
         ensures same { IsTrue result ↔ self.now ≡ path_of absolute (map string_bytes parts.now) }
         ensures test { result ≡ path_eq self.now (path_of absolute (map string_bytes parts.now)) }
     {
@@ -148,7 +148,7 @@ impl Path {
     }
 
     /// Its parts.
-    pub(crate) fn parts(&self) -> &[String]
+    pub fn parts(&self) -> &[String]
         ensures value { map string_bytes result.now ≡ self.now.parts }
         ensures proper { list_all is_part (map string_bytes result.now) ≡ true }
     {

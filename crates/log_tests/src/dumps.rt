@@ -1,7 +1,7 @@
 // A dump whose reads fail, one after the other. Bytes and the line are written out from the format.
 use crate::logs::{FIRST, log_path, one_timeline, size};
 use crate::written::{append, short_tree, writer_of};
-use cluster_tree::{FailPlan, FailingTree, MemorySink};
+use memory_tree::{FailPlan, FailingTree, MemorySink};
 use std::process::Abort;
 use wal_base::Lsn;
 use wal_records::LogWriter;

@@ -3,7 +3,8 @@ ghost use Rattle.std.specs.Prelude.{◌≡◌, ◌≤◌, length};
 ghost use Rattle.wal_base.specs.Segment.{bytes_of};
 
 use crate::texts::{bytes_of, cut_at, filled, half, number, path_of, position};
-use cluster_tree::{MemoryTree, Tree};
+use cluster_tree::Tree;
+use memory_tree::MemoryTree;
 use std::process::Abort;
 use wal_base::{Crc32c, SegSize, Spans};
 use wal_pages::LogPath;

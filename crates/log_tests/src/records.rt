@@ -9,7 +9,7 @@ use crate::rows::{Rows, check, check_row};
 use crate::texts::{bytes_of, cut_at, plan_of, position};
 use crate::told::Told;
 use crate::written::log_tree;
-use cluster_tree::{FailPlan, FailingTree, MemoryTree};
+use memory_tree::{FailPlan, FailingTree, MemoryTree};
 use std::process::Abort;
 use wal_base::{Lsn, SegSize};
 use wal_records::{LogFault, Record, RecordCursor, Step};

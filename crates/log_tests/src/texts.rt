@@ -1,5 +1,6 @@
 //! The words of rows. A word that isn't what its row needs ends the test.
-use cluster_tree::{FailPlan, Path};
+use cluster_tree::Path;
+use memory_tree::FailPlan;
 use std::process::Abort;
 use wal_base::{Lsn, decimal_u32};
 

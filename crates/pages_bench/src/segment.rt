@@ -1,7 +1,8 @@
 //! A segment of valid pages, and the tree and the cursor that it is read by.
 
 use anyhow::{Context, Result};
-use cluster_tree::{MemoryTree, Path, Tree};
+use cluster_tree::{Path, Tree};
+use memory_tree::MemoryTree;
 use std::alloc::{AllocError, Global};
 use wal_base::{SegSize, Spans};
 use wal_pages::{LogPath, PageCursor};

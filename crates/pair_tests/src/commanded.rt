@@ -3,7 +3,8 @@
 // those with (11b + seed) mod 3 = 0.
 use crate::made::{bytes_of, path};
 use crate::said::check;
-use cluster_tree::{MemoryTree, Tree};
+use cluster_tree::Tree;
+use memory_tree::MemoryTree;
 use std::process::Abort;
 
 // Each row has the words, and what they say.

@@ -1,6 +1,7 @@
 // A device that fails at each call in turn, and how much a call writes.
 use crate::made::{made, pair};
-use cluster_tree::{ChangeCall, FailPlan};
+use cluster_tree::ChangeCall;
+use memory_tree::FailPlan;
 
 #[test]
 fn a_call_that_fails_ends_it(rt: HostRuntime) {

@@ -2,7 +2,8 @@
 ghost use Rattle.std.specs.Prelude.{◌≡◌};
 ghost use Rattle.cluster_tree.specs.PathValue.{parsed};
 
-use cluster_tree::{FailPlan, FailingTree, FileFault, MemoryTree, Path, Tree};
+use cluster_tree::{FileFault, Path, Tree};
+use memory_tree::{FailPlan, FailingTree, MemoryTree};
 use pair_maker::make_pair;
 use std::process::Abort;
 

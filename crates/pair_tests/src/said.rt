@@ -1,5 +1,5 @@
 // What a run of a command says.
-use cluster_tree::{FailPlan, MemorySink, MemoryTree};
+use memory_tree::{FailPlan, MemorySink, MemoryTree};
 use std::alloc::Global;
 use std::process::Abort;
 use wal_tools::run;

@@ -1,6 +1,6 @@
 // The files of pairs, by their checksums, which come from a script of its own that follows the formats.
 use crate::made::{bytes_of, pair};
-use cluster_tree::MemoryTree;
+use memory_tree::MemoryTree;
 use std::process::Abort;
 use wal_base::Crc32c;
 

@@ -2,7 +2,8 @@
 
 use crate::writing::{SEGMENT, START, SYSTEM};
 use anyhow::{Context, Result};
-use cluster_tree::{MemoryTree, Path, Tree};
+use cluster_tree::{Path, Tree};
+use memory_tree::MemoryTree;
 use std::alloc::Global;
 use wal_base::{Lsn, SegSize, Segment, Spans};
 use wal_pages::LogPath;

@@ -3,7 +3,7 @@ ghost use Rattle.std.specs.Prelude.{◌≤◌, length};
 
 use crate::texts::{byte, bytes_of};
 use crate::trees::{path_of, put_file, tree_of};
-use cluster_tree::MemoryTree;
+use memory_tree::MemoryTree;
 use std::process::Abort;
 use wal_base::{Lsn, SegSize, Spans};
 use wal_pages::LogPath;

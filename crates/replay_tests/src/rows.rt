@@ -7,7 +7,7 @@ use crate::profile::{judged, measured};
 use crate::redo::redone_row;
 use crate::texts::{cut_at, owned, words_of};
 use crate::trees::{is_so, tree_of};
-use cluster_tree::MemoryTree;
+use memory_tree::MemoryTree;
 use std::process::Abort;
 use wal_records::Record;
 

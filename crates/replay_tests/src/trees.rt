@@ -1,7 +1,8 @@
 //! Trees in memory from short descriptions, and what stands in them. README.md has the words.
 use crate::pages::changes;
 use crate::texts::{byte, bytes_of, cut_at, filled, long, number, undashed};
-use cluster_tree::{Kind, MemoryTree, Names, Path, Tree};
+use cluster_tree::{Kind, Names, Path, Tree};
+use memory_tree::MemoryTree;
 use page_layout::Page;
 use std::process::Abort;
 use wal_base::Lsn;

@@ -4,7 +4,7 @@ use crate::logs::{header, write};
 use crate::texts::{byte, cut_at, position};
 use crate::touched::bodies::body_of;
 use crate::touched::walk_rows::HINTED;
-use cluster_tree::MemoryTree;
+use memory_tree::MemoryTree;
 use std::process::Abort;
 
 /// The body of a checkpoint record of timeline 1: the header of the main bytes, and these.

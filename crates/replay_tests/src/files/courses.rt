@@ -3,7 +3,8 @@ use crate::files::{answer, faults, storage_faults};
 use crate::rows::{Rows, check};
 use crate::texts::{cut_at, owned, undashed};
 use crate::trees::tree_of;
-use cluster_tree::{ChangeCall, FailPlan, FailingTree, MemoryTree};
+use cluster_tree::ChangeCall;
+use memory_tree::{FailPlan, FailingTree, MemoryTree};
 use std::process::Abort;
 
 /// A call, and what it changes.

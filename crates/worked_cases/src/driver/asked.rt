@@ -1,6 +1,6 @@
 // The lines that say what is run, and what it has to do.
 use super::line::{add, first_word, narrow, number, owned, plan};
-use cluster_tree::FailPlan;
+use memory_tree::FailPlan;
 use std::alloc::Global;
 use std::process::Abort;
 

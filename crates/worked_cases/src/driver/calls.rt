@@ -1,5 +1,6 @@
 // The changing calls of a run, a line each, but one line for writes to one file that lie next to each other.
-use cluster_tree::{ChangeCall, MemoryTree};
+use cluster_tree::ChangeCall;
+use memory_tree::MemoryTree;
 use std::process::Abort;
 
 // Whether a changing call behind another is a write that goes on where that one ends.

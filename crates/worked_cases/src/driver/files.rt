@@ -1,6 +1,7 @@
 // The lines that say what the tree has to hold.
 use super::line::{bytes, first_word, number, zeros};
-use cluster_tree::{Kind, MemoryTree, Path, Tree};
+use cluster_tree::{Kind, Path, Tree};
+use memory_tree::MemoryTree;
 use std::process::Abort;
 
 // `bytes PATH AT HEX`: whether a file has these bytes from a place on.

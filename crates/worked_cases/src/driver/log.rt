@@ -1,7 +1,8 @@
 // Logs, record by record.
 use super::line::{below, bytes, first_word, narrow, number, path};
 use super::setup::add_file;
-use cluster_tree::{MemoryTree, Path};
+use cluster_tree::Path;
+use memory_tree::MemoryTree;
 use std::process::Abort;
 use wal_base::{Lsn, SegSize, Segment};
 use wal_records::LogWriter;

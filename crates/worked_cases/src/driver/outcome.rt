@@ -3,7 +3,7 @@ use super::asked::{Asked, Wanted};
 use super::calls::calls_from;
 use super::line::{add, owned};
 use super::told::Told;
-use cluster_tree::{FailPlan, FailingTree, MemorySink, MemoryTree};
+use memory_tree::{FailPlan, FailingTree, MemorySink, MemoryTree};
 use std::alloc::Global;
 use std::process::Abort;
 use wal_tools::run;

@@ -7,7 +7,7 @@ use super::names::Named;
 use super::outcome::run_and_compare;
 use super::setup::set_up;
 use super::told::Told;
-use cluster_tree::MemoryTree;
+use memory_tree::MemoryTree;
 use std::alloc::Global;
 use std::mem;
 use std::process::Abort;

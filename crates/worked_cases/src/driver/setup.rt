@@ -1,7 +1,8 @@
 // The lines that describe a tree.
 use super::control::control_bytes;
 use super::line::{below, bytes, first_word, narrow, number, zeros};
-use cluster_tree::{MemoryTree, Path, Tree};
+use cluster_tree::{Path, Tree};
+use memory_tree::MemoryTree;
 use std::process::Abort;
 
 /// Makes a folder.

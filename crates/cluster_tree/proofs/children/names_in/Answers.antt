@@ -1,8 +1,0 @@
-use Rattle.cluster_tree.proofs.FolderLemmas.{ascending-texts}
-use Rattle.cluster_tree.proofs.children.names_in.Goals as goal
-
-pub returns-clause-listing : goal.returns-clause-listing
-returns-clause-listing c = record {
-  ascending = rw (c.of_texts.ensures, c.in_ok-in_order.ensures) (ascending-texts _ c.in_ok-names.ensures.ordered);
-  members = λ n. rw (c.of_texts.ensures, c.in_ok-in_order.ensures) (c.in_ok-names.ensures.members n);
-}

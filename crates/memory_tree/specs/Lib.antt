@@ -1,0 +1,4 @@
+pub mod Plan
+pub mod Memory
+pub mod Fakes
+pub mod Image
