@@ -1,21 +1,32 @@
 -- A resume as a whole: what was found, its forms, and what a stop leaves.
-use Rattle.std.proofs.Common.{◌≡◌, ◌∙◌, ℕ, ℤ, Bool, true, false, ◌≤◌, List, [], ◌∷◌, Option, None, Some, option_map, inl, inr, ⊎_elim, refl, sym, ap, ap₂, subst, Result, Ok, Err, OnOk, arith}
+use Rattle.std.proofs.Common.{◌≡◌, ◌∙◌, ℕ, ℤ, Bool, true, false, ◌≤◌, List, [], ◌∷◌, Option, None, Some, is_some, option_map, inl, inr, ⊎_elim, refl, sym, ap, ap₂, subst, Result, Ok, Err, OnOk, arith}
 use Rattle.std.specs.Prelude.{if◌then◌else◌}
 use Rattle.cluster_tree.specs.Change.{all_changed}
-use Rattle.cluster_tree.specs.Contents.{Contents}
+use Rattle.cluster_tree.specs.Contents.{Contents, or_root}
 use Rattle.cluster_tree.specs.Frame.{Reads, moment_of}
 use Rattle.cluster_tree.specs.PathValue.{PathValue}
 use Rattle.cluster_tree.specs.Run.{Moment}
 use Rattle.cluster_tree.specs.Stops.{LeavesOnly}
 use Rattle.cluster_tree.specs.declared.tree.ChangeCall.{ChangeCall}
 use Rattle.cluster_tree.specs.declared.tree.Tree.{Ghosts}
+use Rattle.cluster_tree.proofs.Images.{holds_first, leaves_only}
 use Rattle.marked_runs.specs.Moments.{IsMarked, IsSafe, StandsSynced}
 use Rattle.marked_runs.proofs.StopLemmas.{leaves_weaker}
 use Rattle.plan_text.specs.Stored.{IsPlacedAt}
 use Rattle.plan_text.specs.Text.{Saying, said_by}
 use Rattle.plan_text.specs.declared.stored.StoredPlan.{StoredPlan}
 use Rattle.resumed_laws.specs.Resumed.{resumed_changes}
-use Rattle.resumed_writes.specs.Again.{AreReadable, resumed_end}
+use Rattle.resumed_laws.specs.Between.{IsBetween as ResumedBetween}
+use Rattle.resumed_laws.specs.Sound.{with_whole_mark}
+use Rattle.resumed_laws.proofs.RunLemmas.{path-stays}
+use Rattle.resumed_writes.specs.Again.{AreReadable, IsOnWayOrFinished, IsResumable, resumed_end}
+use Rattle.rewind_core.specs.Planned.{Needing}
+use Rattle.rewind_core.specs.Text.{saying, sum_at}
+use Rattle.rewind_core.specs.declared.outcome.Plan.{Plan as RewindPlan}
+use Rattle.rewind_writes.specs.declared.plan.Plan.{Plan}
+use Rattle.stored_laws.specs.Laws.{IsStopped, IsStoppedAgain}
+use Rattle.stored_laws.proofs.AgainLemmas.{stopped-again}
+use Rattle.stored_laws.proofs.StoredLemmas.{stopped-stored}
 use Rattle.resume_core.specs.Stored.{IsBetween, IsStoredBetween, stored_of}
 use Rattle.resume_core.specs.declared.fault.ResumeFault.{ResumeFault}
 use Rattle.rewind_core.proofs.StopLemmas.{reads-leave, reads-on}
@@ -29,7 +40,7 @@ use Rattle.run_acts.specs.Unseen.{CarriesUnseen}
 use Rattle.run_acts.specs.declared.cause.Cause.{Cause}
 use Rattle.run_acts.proofs.AnswerSteps.{Looks}
 use Rattle.run_acts.proofs.BlameSteps.{blames_after_reads}
-use Rattle.cmd_rewind.specs.Rewind.{IsDurable, IsLeftByRewind, LeavesRewound, all_done, diverged, rewind_answer, rewind_report, rewinding}
+use Rattle.cmd_rewind.specs.Rewind.{IsDurable, IsLeftByRewind, IsLeftToResume, LeavesRewound, all_done, diverged, rewind_answer, rewind_report, rewinding}
 use Rattle.cmd_resume.specs.Changes.{changes_again}
 use Rattle.cmd_resume.specs.Resume.{IsLeftByResume, IsResume, IsResumedDurably, LeavesResumed, behind_line, behind_look, found_answer, resume_answer, rest_of, told_answer}
 use Rattle.cmd_resume.specs.Rests.{IsBehind, IsLeftAgain, IsRest, again_answer, again_rest}
@@ -161,6 +172,13 @@ stored-durable (Err e) words now c said moment found stands = tt
 
 -- ---- what a stop leaves
 
+-- nothing is done of what may be resumed
+pub still-again : (found c : Contents) (plan : Plan) (first : Moment) → IsResumable found c plan first → LeavesOnly (IsOnWayOrFinished found c plan) first.stops first.stops
+still-again found c plan first may =
+    let Between : Contents → Type 0 = ResumedBetween c plan in
+    leaves_only (IsOnWayOrFinished found c plan) Between first first (holds_first (IsOnWayOrFinished found c plan) Between first may.now may.left)
+    (λ d between. inl (between, ap (λ o. is_some (or_root plan.mark.parts o)) (path-stays found c plan may.sound d between plan.mark may.apart).0 ∙ may.marked))
+
 module _ {F : Type 0} (tree : Ghosts F) (words : RewindWords) (now : ℤ) (a b : F) (reads : Reads tree a b) where
   pub looks-left : LeavesOnly (IsLeftByResume words now (moment_of tree a)) (tree.stops a) (tree.stops b)
   looks-left = reads-leave tree (IsLeftByResume words now (moment_of tree a)) a b reads (λ c untouched. inl (inl untouched))
@@ -169,6 +187,32 @@ module _ {F : Type 0} (tree : Ghosts F) (words : RewindWords) (now : ℤ) (a b :
   fresh-left d time left =
       leaves_weaker (IsLeftByRewind words now (moment_of tree a)) (IsLeftByResume words now (moment_of tree a)) (tree.stops a) (tree.stops d) (λ c is. inl is)
       (reads-on tree (IsLeftByRewind words now) a b d reads (subst (λ m. LeavesOnly (IsLeftByRewind words m (moment_of tree b)) (tree.stops b) (tree.stops d)) time left))
+
+  -- from synced contents on, where a rewind begins
+  pub fresh-resumable : (d : F) {n : ℤ} → n ≡ now → StandsSynced (tree.contents a) (moment_of tree a)
+      → (StandsSynced (tree.contents b) (moment_of tree b) → LeavesOnly (IsLeftToResume words n (tree.contents b)) (tree.stops b) (tree.stops d)) → LeavesOnly (IsLeftToResume words now (tree.contents a)) (tree.stops a) (tree.stops d)
+  fresh-resumable d time stands left =
+      let same : moment_of tree b ≡ moment_of tree a = λ i. record { state = record { contents = reads.same i; calls = reads.uncalled i }; stops = reads.unstopped i } in
+      let begun : StandsSynced (tree.contents b) (moment_of tree b) = subst (λ (m : Moment). StandsSynced m.state.contents m) (sym same) stands in
+      reads-on tree (λ m. IsLeftToResume words now m.state.contents) a b d reads (subst (λ m. LeavesOnly (IsLeftToResume words m (tree.contents b)) (tree.stops b) (tree.stops d)) time (left begun))
+
+  -- of a rewind that was stopped, while it looks
+  pub stopped-looks : (c : Contents) (before : ℤ) (n : Needing) (plan : RewindPlan) → IsStopped c words.target words.source before n plan (tree.contents a) → StandsSynced (tree.contents a) (moment_of tree a)
+      → LeavesOnly (IsStoppedAgain c words.target words.source before n plan) (tree.stops a) (tree.stops b)
+  stopped-looks c before n plan stop stands =
+      reads-leave tree (IsStoppedAgain c words.target words.source before n plan) a b reads (λ i untouched. subst (IsStoppedAgain c words.target words.source before n plan) (sym (⊎_elim (λ is. is ∙ stands.now) (λ left. stands.left i left) untouched)) (inl stop))
+
+  -- and where it is made again
+  pub again-left : (d : F) (c : Contents) (before : ℤ) (n : Needing) (plan : RewindPlan) (stored : StoredPlan) → IsStopped c words.target words.source before n plan (tree.contents a) → StandsSynced (tree.contents a) (moment_of tree a)
+      → IsPlacedAt words.target stored.plan → stored_of (tree.contents a) words.target words.source ≡ Ok (Some (said_by stored))
+      → ((found e : Contents) → IsResumable found e stored.plan (moment_of tree b) → LeavesOnly (IsOnWayOrFinished found e stored.plan) (tree.stops b) (tree.stops d)) → LeavesOnly (IsStoppedAgain c words.target words.source before n plan) (tree.stops a) (tree.stops d)
+  again-left d c before n plan stored stop stands placed found left =
+      let said : said_by stored ≡ saying (sum_at c words.source) plan = cc (sym found ∙ stopped-stored c words.target words.source before n plan (tree.contents a) stop) in
+      let same : moment_of tree b ≡ moment_of tree a = λ i. record { state = record { contents = reads.same i; calls = reads.uncalled i }; stops = reads.unstopped i } in
+      let again = stopped-again c words.target words.source before n plan (tree.contents a) stored (moment_of tree b) stop placed said (subst (StandsSynced (tree.contents a)) (sym same) stands) in
+      let whole : Contents = with_whole_mark c plan.text stored.plan in
+      subst (λ s. LeavesOnly (IsStoppedAgain c words.target words.source before n plan) s (tree.stops d)) reads.unstopped
+      (leaves_weaker (IsOnWayOrFinished c whole stored.plan) (IsStoppedAgain c words.target words.source before n plan) (tree.stops b) (tree.stops d) again.1 (left c whole again.0))
 
   pub stored-left : (d : F) (stored : StoredPlan) → IsPlacedAt words.target stored.plan → stored_of (tree.contents a) words.target words.source ≡ Ok (Some (said_by stored))
       → LeavesOnly (IsLeftAgain words stored.plan (moment_of tree b)) (tree.stops b) (tree.stops d) → LeavesOnly (IsLeftByResume words now (moment_of tree a)) (tree.stops a) (tree.stops d)

@@ -1,11 +1,12 @@
 // A rewind that is made again, between its lines.
 ghost use Rattle.std.specs.Prelude.{◌≡◌, ◌≢◌, ◌≤◌, ◌⊎◌, Bool, Err, IfErr, IsErrOf, IsTrue, OnOk};
 ghost use Rattle.cluster_tree.specs.Causes.{Rose};
+ghost use Rattle.cluster_tree.specs.Contents.{Contents};
 ghost use Rattle.cluster_tree.specs.Frame.{Came, moment_of};
 ghost use Rattle.cluster_tree.specs.PathValue.{PathValue};
 ghost use Rattle.cluster_tree.specs.Stops.{LeavesOnly};
 ghost use Rattle.marked_runs.specs.Moments.{IsMarked, IsSafe, StandsSynced};
-ghost use Rattle.resumed_writes.specs.Again.{AreReadable, resumed_end};
+ghost use Rattle.resumed_writes.specs.Again.{AreReadable, IsOnWayOrFinished, IsResumable, resumed_end};
 ghost use Rattle.resume_core.specs.Stored.{IsStoredBetween};
 ghost use Rattle.acts.specs.Acts.{Sunk, seen, sunk};
 ghost use Rattle.run_acts.specs.Causes.{cause_of, is_of_files};
@@ -44,6 +45,9 @@ fn make<F: Tree, E: Sink>(
     ensures stops { IsTrue F.tells → LeavesOnly
         (IsSafe stored.plan.mark (moment_of F.Tree tree.old)
         (resumed_end (F.contents tree.old) stored.plan)) (F.stops tree.old) (F.stops tree.new) }
+    ensures again { IsTrue F.tells → (found c : Contents) →
+        IsResumable found c stored.plan (moment_of F.Tree tree.old) →
+        LeavesOnly (IsOnWayOrFinished found c stored.plan) (F.stops tree.old) (F.stops tree.new) }
     ensures synced { IsTrue F.tells →
         OnOk result (StandsSynced (F.contents tree.new) (moment_of F.Tree tree.new)) }
     ensures only { IfErr result (λ e. IsTrue (is_of_files e) ⊎ (e ≡ Cause.WriteFault)) }
@@ -93,6 +97,9 @@ fn make_behind<F: Tree, E: Sink>(
     ensures stops { IsTrue F.tells → LeavesOnly
         (IsSafe stored.plan.mark (moment_of F.Tree tree.old)
         (resumed_end (F.contents tree.old) stored.plan)) (F.stops tree.old) (F.stops tree.new) }
+    ensures again { IsTrue F.tells → (found c : Contents) →
+        IsResumable found c stored.plan (moment_of F.Tree tree.old) →
+        LeavesOnly (IsOnWayOrFinished found c stored.plan) (F.stops tree.old) (F.stops tree.new) }
     ensures synced { IsTrue F.tells →
         OnOk result (StandsSynced (F.contents tree.new) (moment_of F.Tree tree.new)) }
     ensures only { IfErr result (λ e. IsTrue (is_of_files e) ⊎ (e ≡ Cause.WriteFault)) }
@@ -141,6 +148,9 @@ pub(crate) fn make_told<F: Tree, E: Sink>(
     ensures stops { IsTrue F.tells → LeavesOnly
         (IsSafe stored.plan.mark (moment_of F.Tree tree.old)
         (resumed_end (F.contents tree.old) stored.plan)) (F.stops tree.old) (F.stops tree.new) }
+    ensures again { IsTrue F.tells → (found c : Contents) →
+        IsResumable found c stored.plan (moment_of F.Tree tree.old) →
+        LeavesOnly (IsOnWayOrFinished found c stored.plan) (F.stops tree.old) (F.stops tree.new) }
     ensures synced { IsTrue F.tells →
         OnOk result (StandsSynced (F.contents tree.new) (moment_of F.Tree tree.new)) }
     ensures only { IfErr result (λ e. IsTrue (is_of_files e) ⊎ (e ≡ Cause.WriteFault)) }

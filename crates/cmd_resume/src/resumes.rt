@@ -1,19 +1,23 @@
 // A rewind that is resumed.
-ghost use Rattle.std.specs.Prelude.{◌≡◌, ◌≢◌, ◌≤◌, ◌⊎◌, ℕ, Bool, false, Err, IfErr, IfOk, IsErrOf, IsTrue, None, OnOk, string_bytes};
+ghost use Rattle.std.specs.Prelude.{◌≡◌, ◌≢◌, ◌≤◌, ◌⊎◌, ℕ, ℤ, Bool, false, Err, IfErr, IfOk, IsErrOf, IsTrue, None, Ok, OnOk, string_bytes};
 ghost use Rattle.cluster_tree.specs.Causes.{Rose};
+ghost use Rattle.cluster_tree.specs.Contents.{Contents};
 ghost use Rattle.cluster_tree.specs.Frame.{Came, Reads, moment_of};
 ghost use Rattle.cluster_tree.specs.PathValue.{PathValue};
 ghost use Rattle.cluster_tree.specs.Stops.{LeavesOnly};
 ghost use Rattle.marked_runs.specs.Moments.{IsMarked, StandsSynced};
 ghost use Rattle.plan_text.specs.Text.{said_by};
-ghost use Rattle.resumed_writes.specs.Again.{AreReadable, resumed_end};
-ghost use Rattle.resume_core.specs.Stored.{IsStoredBetween};
+ghost use Rattle.resumed_writes.specs.Again.{AreReadable, IsOnWayOrFinished, IsResumable, resumed_end};
+ghost use Rattle.rewind_core.specs.Planned.{Needing};
+ghost use Rattle.rewind_core.specs.declared.outcome.Plan.{Plan};
+ghost use Rattle.stored_laws.specs.Laws.{IsStopped, IsStoppedAgain};
+ghost use Rattle.resume_core.specs.Stored.{IsStoredBetween, stored_of};
 ghost use Rattle.commands.specs.Fit.{AreFitRoots};
 ghost use Rattle.acts.specs.Acts.{Sunk, seen, sunk};
 ghost use Rattle.run_acts.specs.Answers.{Blames};
 ghost use Rattle.run_acts.specs.Causes.{cause_of, is_deep, is_of_files};
 ghost use Rattle.run_acts.specs.Unseen.{CarriesUnseen};
-ghost use Rattle.cmd_rewind.specs.Rewind.{diverged, rewinding};
+ghost use Rattle.cmd_rewind.specs.Rewind.{IsLeftToResume, diverged, rewinding};
 ghost use Rattle.cmd_resume.specs.Rests.{IsLeftAgain, again_answer};
 ghost use Rattle.cmd_resume.specs.Resume.{IsLeftByResume, IsResume, IsResumedDurably, LeavesResumed, resume_answer};
 
@@ -61,6 +65,9 @@ fn resume_stored<F: Tree, E: Sink>(
     ensures stops { IsTrue F.tells → LeavesOnly
         (IsLeftAgain words.now stored.plan (moment_of F.Tree tree.old)) (F.stops tree.old)
         (F.stops tree.new) }
+    ensures again { IsTrue F.tells → (found c : Contents) →
+        IsResumable found c stored.plan (moment_of F.Tree tree.old) →
+        LeavesOnly (IsOnWayOrFinished found c stored.plan) (F.stops tree.old) (F.stops tree.new) }
     ensures synced { IsTrue F.tells → words.now.dry_run ≡ false →
         OnOk result (StandsSynced (F.contents tree.new) (moment_of F.Tree tree.new)) }
     ensures blames { (n : ℕ) → Blames (cause_of result)
@@ -105,7 +112,8 @@ fn resume_stored<F: Tree, E: Sink>(
 /// counted, and `Changed` never where the tree tells its contents. The mark stands until it is removed,
 /// and as long as it stands the resume can be tried again; behind that, at the last sync or the last
 /// line, the target is made. A stop at any moment leaves the target untouched, with its mark, or as the
-/// changes leave it, and once it is done as it stands.
+/// changes leave it, and once it is done as it stands. Of a rewind that was stopped it leaves that rewind,
+/// stopped again, or the rewound tree, where the run begins on synced contents.
 pub fn resume<F: Tree, E: Sink>(
     alloc: Global,
     tree: &mut F,
@@ -130,6 +138,19 @@ pub fn resume<F: Tree, E: Sink>(
     ensures stops { IsTrue F.tells → LeavesOnly
         (IsLeftByResume words.now now (moment_of F.Tree tree.old)) (F.stops tree.old)
         (F.stops tree.new) }
+    // and where no complete mark stands and it begins on synced contents, these or what its plan left, for
+    // the next resume
+    ensures resumable { IsTrue F.tells →
+        stored_of (F.contents tree.old) words.now.target words.now.source ≡ Ok None →
+        StandsSynced (F.contents tree.old) (moment_of F.Tree tree.old) → LeavesOnly
+        (IsLeftToResume words.now now (F.contents tree.old)) (F.stops tree.old) (F.stops tree.new) }
+    // and of a rewind that was stopped, from synced contents on, that rewind, stopped again, or the
+    // rewound tree
+    ensures again { IsTrue F.tells → (c : Contents) (before : ℤ) (n : Needing) (plan : Plan) →
+        IsStopped c words.now.target words.now.source before n plan (F.contents tree.old) →
+        StandsSynced (F.contents tree.old) (moment_of F.Tree tree.old) →
+        LeavesOnly (IsStoppedAgain c words.now.target words.now.source before n plan)
+        (F.stops tree.old) (F.stops tree.new) }
     ensures synced { IsTrue F.tells → OnOk result
         (IsResumedDurably words.now now (F.contents tree.old) (moment_of F.Tree tree.new)) }
     ensures blames { (n : ℕ) → Blames (cause_of result)

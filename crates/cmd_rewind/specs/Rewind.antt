@@ -10,9 +10,11 @@ use Rattle.wal_base.specs.Lsn.{lsn_text}
 use Rattle.timeline_history.specs.declared.ancestor.Divergence.{Divergence}
 use Rattle.rewind_survey.specs.declared.fault.RewindFault.{RewindFault}
 use Rattle.rewind_survey.specs.declared.outcome.Told.{Told}
-use Rattle.rewind_core.specs.Fits.{IsRewound}
+use Rattle.rewind_core.specs.Fits.{IsPlanFor, IsRewound, IsSaidIn}
 use Rattle.rewind_core.specs.Planned.{AtFork, Meant, Needing, Needs, OneTimeline, planned_of}
 use Rattle.rewind_core.specs.Stops.{IsUnderway}
+use Rattle.rewind_core.specs.declared.outcome.Plan.{Plan}
+use Rattle.rewind_writes.specs.Plan.{IsResumable}
 use Rattle.rewind_paths.specs.Laws.{AreOf}
 use Rattle.commands.specs.declared.rewind.RewindWords.{RewindWords}
 use Rattle.acts.specs.Acts.{Act, Do, Report}
@@ -96,6 +98,14 @@ abbrev pub IsLeftByRewind : RewindWords → ℤ → Moment → Contents → Type
 IsLeftByRewind words now first c =
     IsUntouched first c
     ⊎ ((n : Needing) × (words.dry_run ≡ false) × (planned_of first.state.contents words.target words.source now ≡ Ok (Needs n)) × IsUnderway words.target first.state.contents n c)
+
+-- A rewind that begins on synced contents leaves these at any stop, or what a plan of just what is needed left, whose text is read as just that plan. Where its
+-- mark reads as complete, a resume completes it.
+abbrev pub IsLeftToResume : RewindWords → ℤ → Contents → Contents → Type 0
+IsLeftToResume words now c i =
+    (i ≡ c)
+    ⊎ ((n : Needing) × (plan : Plan) × (words.dry_run ≡ false) × (planned_of c words.target words.source now ≡ Ok (Needs n)) × IsPlanFor c n plan
+    × IsSaidIn c words.target words.source plan × IsResumable c plan.text plan.writes i)
 
 -- once a rewind that is needed is made, a stop leaves what stands
 abbrev pub IsDurable : RewindWords → ℤ → Contents → Moment → Type 0

@@ -6,7 +6,7 @@ use Rattle.cluster_tree.specs.PathValue.{PathValue}
 use Rattle.rewind_survey.specs.declared.fault.RewindFault.{RewindFault}
 use Rattle.rewind_writes.specs.Plan.{plan_changes}
 use Rattle.rewind_writes.specs.Steps.{AllAreFit}
-use Rattle.rewind_core.specs.Fits.{IsPlanFor}
+use Rattle.rewind_core.specs.Fits.{IsPlanFor, IsSaidIn}
 use Rattle.rewind_core.specs.Planned.{Meant, Needing, Needs}
 use Rattle.rewind_core.specs.declared.outcome.Plan.{Plan}
 use Rattle.rewind_core.specs.declared.outcome.Planned.{Planned}
@@ -57,6 +57,11 @@ IsTaskOf dry_run v (task.Rewind first second plan) = v ≡ planned.Needed plan
 abbrev pub IsTaskFor : Bool → Contents → Result Meant RewindFault → Task → Type 0
 IsTaskFor dry_run c meant (task.Tell lines) = (n : Needing) → meant ≡ Ok (Needs n) → dry_run ≡ true
 IsTaskFor dry_run c meant (task.Rewind first second plan) = (n : Needing) × (meant ≡ Ok (Needs n)) × IsPlanFor c n plan
+
+-- and the text of its plan is read as just that plan
+abbrev pub IsSaidTask : Contents → (target source : PathValue) → Task → Type 0
+IsSaidTask c target source (task.Tell lines) = Unit {0}
+IsSaidTask c target source (task.Rewind first second plan) = IsSaidIn c target source plan
 
 -- a dry run makes no rewind
 abbrev pub IsWet : Bool → Task → Type 0

@@ -5,6 +5,7 @@ ghost use Rattle.cluster_tree.specs.Frame.{Came, moment_of};
 ghost use Rattle.cluster_tree.specs.PathValue.{PathValue};
 ghost use Rattle.cluster_tree.specs.Stops.{LeavesOnly};
 ghost use Rattle.marked_runs.specs.Moments.{StandsSynced};
+ghost use Rattle.rewind_writes.specs.Plan.{IsResumable};
 ghost use Rattle.rewind_writes.specs.Steps.{AllAreFit};
 ghost use Rattle.rewind_core.specs.Fits.{IsPlanFor, IsRewound};
 ghost use Rattle.rewind_core.specs.Planned.{Needing};
@@ -34,6 +35,9 @@ fn make<F: Tree, E: Sink>(tree: &mut F, err: &mut E, plan: Plan) -> Result<(), C
         OnOk result (IsRewound (F.contents tree.old) n (F.contents tree.new)) }
     ensures stops { IsTrue F.tells → (n : Needing) → IsPlanFor (F.contents tree.old) n plan →
         LeavesOnly (IsLeftBy n (moment_of F.Tree tree.old)) (F.stops tree.old) (F.stops tree.new) }
+    ensures resumable { IsTrue F.tells → (n : Needing) → IsPlanFor (F.contents tree.old) n plan →
+        StandsSynced (F.contents tree.old) (moment_of F.Tree tree.old) → LeavesOnly
+        (IsResumable (F.contents tree.old) plan.text plan.writes) (F.stops tree.old) (F.stops tree.new) }
     ensures synced { IsTrue F.tells → (n : Needing) → IsPlanFor (F.contents tree.old) n plan →
         OnOk result (StandsSynced (F.contents tree.new) (moment_of F.Tree tree.new)) }
     ensures only { IfErr result IsOfMaking }
@@ -72,6 +76,9 @@ fn make_behind<F: Tree, E: Sink>(
         OnOk result (IsRewound (F.contents tree.old) n (F.contents tree.new)) }
     ensures stops { IsTrue F.tells → (n : Needing) → IsPlanFor (F.contents tree.old) n plan →
         LeavesOnly (IsLeftBy n (moment_of F.Tree tree.old)) (F.stops tree.old) (F.stops tree.new) }
+    ensures resumable { IsTrue F.tells → (n : Needing) → IsPlanFor (F.contents tree.old) n plan →
+        StandsSynced (F.contents tree.old) (moment_of F.Tree tree.old) → LeavesOnly
+        (IsResumable (F.contents tree.old) plan.text plan.writes) (F.stops tree.old) (F.stops tree.new) }
     ensures synced { IsTrue F.tells → (n : Needing) → IsPlanFor (F.contents tree.old) n plan →
         OnOk result (StandsSynced (F.contents tree.new) (moment_of F.Tree tree.new)) }
     ensures only { IfErr result IsOfMaking }
@@ -116,6 +123,9 @@ pub(crate) fn make_told<F: Tree, E: Sink>(
         OnOk result (IsRewound (F.contents tree.old) n (F.contents tree.new)) }
     ensures stops { IsTrue F.tells → (n : Needing) → IsPlanFor (F.contents tree.old) n plan →
         LeavesOnly (IsLeftBy n (moment_of F.Tree tree.old)) (F.stops tree.old) (F.stops tree.new) }
+    ensures resumable { IsTrue F.tells → (n : Needing) → IsPlanFor (F.contents tree.old) n plan →
+        StandsSynced (F.contents tree.old) (moment_of F.Tree tree.old) → LeavesOnly
+        (IsResumable (F.contents tree.old) plan.text plan.writes) (F.stops tree.old) (F.stops tree.new) }
     ensures synced { IsTrue F.tells → (n : Needing) → IsPlanFor (F.contents tree.old) n plan →
         OnOk result (StandsSynced (F.contents tree.new) (moment_of F.Tree tree.new)) }
     ensures only { IfErr result IsOfMaking }

@@ -7,13 +7,14 @@ ghost use Rattle.cluster_tree.specs.PathValue.{PathValue};
 ghost use Rattle.cluster_tree.specs.Stops.{LeavesOnly};
 ghost use Rattle.commands.specs.Fit.{AreFitRoots};
 ghost use Rattle.acts.specs.Acts.{Sunk, seen, sunk};
-ghost use Rattle.rewind_core.specs.Fits.{FitsMeant, IsFitPlanned, IsMadeBetween};
+ghost use Rattle.marked_runs.specs.Moments.{StandsSynced};
+ghost use Rattle.rewind_core.specs.Fits.{FitsMeant, IsFitPlanned, IsMadeBetween, IsSaidPlanned};
 ghost use Rattle.rewind_core.specs.Planned.{planned_of};
 ghost use Rattle.run_acts.specs.Answers.{Blames, does, refused};
 ghost use Rattle.run_acts.specs.Causes.{IsFree, IsOfLook, cause_of, is_deep, is_of_files};
 ghost use Rattle.run_acts.specs.Unseen.{CarriesUnseen};
-ghost use Rattle.cmd_rewind.specs.Rewind.{IsDurable, IsLeftByRewind, IsRewind, LeavesRewound, rewind_answer};
-ghost use Rattle.cmd_rewind.specs.Tasks.{IsFitTask, IsTaskFor, IsWet, task_acts};
+ghost use Rattle.cmd_rewind.specs.Rewind.{IsDurable, IsLeftByRewind, IsLeftToResume, IsRewind, LeavesRewound, rewind_answer};
+ghost use Rattle.cmd_rewind.specs.Tasks.{IsFitTask, IsSaidTask, IsTaskFor, IsWet, task_acts};
 
 use crate::makes::make_told;
 use crate::reports::report;
@@ -38,6 +39,8 @@ fn look<F: Tree>(
         (planned_of (F.contents tree.old) words.now.target words.now.source now))
         (λ e. IsFree e ⊎ (rewind_answer (F.contents tree.old) words.now now ≡ refused e)) }
     ensures made { IfOk result (IsMadeBetween words.now.target words.now.source) }
+    ensures said { IsTrue F.tells → IfOk result
+        (IsSaidPlanned (F.contents tree.old) words.now.target words.now.source) }
     ensures fit { IfOk result IsFitPlanned }
     ensures look { IfErr result IsOfLook }
     ensures only { IfErr result (λ e. IsTrue (is_of_files e) ⊎ IsTrue (is_deep e)) }
@@ -63,6 +66,8 @@ fn check<F: Tree>(alloc: Global, tree: &mut F, words: &RewindWords, now: i64) ->
         IsRewind words.now (does (task_acts task c))) }
     ensures planned { IsTrue F.tells → IfOk result (IsTaskFor words.now.dry_run (F.contents tree.old)
         (planned_of (F.contents tree.old) words.now.target words.now.source now)) }
+    ensures said { IsTrue F.tells → IfOk result
+        (IsSaidTask (F.contents tree.old) words.now.target words.now.source) }
     ensures fit { IfOk result IsFitTask }
     ensures wet { IfOk result (IsWet words.now.dry_run) }
     ensures look { IfErr result IsOfLook }
@@ -88,7 +93,8 @@ fn check<F: Tree>(alloc: Global, tree: &mut F, words: &RewindWords, now: i64) ->
 /// where a call of that device failed, which it has counted, and `Changed` never where the tree tells
 /// its contents. Where a change failed the target has its mark, and a later run answers `Unfinished`;
 /// a first line that failed leaves it untouched, and a last one rewound. A stop at any moment leaves it
-/// untouched, with its mark, or rewound, and once a rewind is done as it stands.
+/// untouched, with its mark, or rewound, and once a rewind is done as it stands. Where the run begins on
+/// synced contents and the mark reads as complete, a resume completes what the stop left.
 pub fn rewind<F: Tree, E: Sink>(
     alloc: Global,
     tree: &mut F,
@@ -113,6 +119,10 @@ pub fn rewind<F: Tree, E: Sink>(
     ensures stops { IsTrue F.tells → LeavesOnly
         (IsLeftByRewind words.now now (moment_of F.Tree tree.old)) (F.stops tree.old)
         (F.stops tree.new) }
+    // and where it begins on synced contents, these or what its plan left, for a resume
+    ensures resumable { IsTrue F.tells →
+        StandsSynced (F.contents tree.old) (moment_of F.Tree tree.old) → LeavesOnly
+        (IsLeftToResume words.now now (F.contents tree.old)) (F.stops tree.old) (F.stops tree.new) }
     ensures synced { IsTrue F.tells → OnOk result
         (IsDurable words.now now (F.contents tree.old) (moment_of F.Tree tree.new)) }
     ensures blames { (n : ℕ) → Blames (cause_of result)

@@ -7,6 +7,7 @@ pub mod PathLemmas
 pub mod PlanReadLemmas
 pub mod ReadingLemmas
 pub mod StepBackLemmas
+pub mod HeldLemmas
 pub mod StepLemmas
 pub mod StepReadLemmas
 pub mod SumLemmas

@@ -58,6 +58,19 @@ is_text root step = is_utf8 (way_of root (changed_by step))
 abbrev pub are_texts : PathValue → List Step → Bool
 are_texts root steps = list_all (is_text root) steps
 
+-- sizes of 64 bits
+abbrev pub IsSized : Step → Type 0
+IsSized (Folder path) = Unit {0}
+IsSized (Whole from to size) = size < 2 ^ 64
+IsSized (Cut path size) = size < 2 ^ 64
+IsSized (Range from to at size) = Unit {0}
+IsSized (Remove path) = Unit {0}
+
+-- .. and so they are of each step
+abbrev pub AllAreSized : List Step → Type 0
+AllAreSized [] = Unit {0}
+AllAreSized (step ∷ steps) = IsSized step × AllAreSized steps
+
 -- turns that don't fall
 abbrev pub InTurn : ℕ → List Step → Type 0
 InTurn least [] = Unit {0}
@@ -69,6 +82,15 @@ pub record IsTold (told : Told) : Type 0 where
   pub at : told.fork.at.0 < 2 ^ 64
   pub checkpoint : told.checkpoint.0 < 2 ^ 64
   pub theirs : told.tli < 2 ^ 32
+
+-- what a plan says that a program holds: numbers of their widths, ways in UTF-8, and bytes
+pub record IsHeld (target : PathValue) (said : Saying) : Type 0 where
+  pub sum : said.source < 2 ^ 32
+  pub told : IsTold said.told
+  pub sizes : AllAreSized said.steps
+  pub texts : are_texts target said.steps ≡ true
+  pub label : IsBytes said.label
+  pub control : IsBytes said.control
 
 -- what a plan between two roots says
 pub record IsSaid (target source : PathValue) (said : Saying) : Type 0 where

@@ -1,9 +1,10 @@
 // The text of a plan.
-ghost use Rattle.std.specs.Prelude.{◌≡◌, ◌+◌, ◌++◌, ◌<◌, ◌≤◌, [], ◌∷◌, codes, decimal, length, slice_range, string_bytes, true, IfOk, OnOk};
+ghost use Rattle.std.specs.Prelude.{◌≡◌, ◌+◌, ◌++◌, ◌<◌, ◌≤◌, ◌^◌, [], ◌∷◌, codes, decimal, length, slice_range, string_bytes, true, IfOk, OnOk};
 ghost use Rattle.std.specs.List.{join_with_byte};
 ghost use Rattle.std.specs.Str.{is_utf8};
 ghost use Rattle.plan_text.specs.Words.{line};
-ghost use Rattle.plan_text.specs.Laws.{are_texts, is_text};
+ghost use Rattle.hex.specs.Hex.{IsBytes};
+ghost use Rattle.plan_text.specs.Laws.{AllAreSized, IsHeld, IsSized, IsTold, are_texts, is_text};
 ghost use Rattle.plan_text.specs.Paths.{path_word, way_of};
 ghost use Rattle.plan_text.specs.Steps.{step_words};
 ghost use Rattle.plan_text.specs.Text.{bytes_line, plan_text, said_by, source_line, step_lines, told_line};
@@ -114,6 +115,7 @@ fn add_step(alloc: Global, text: &mut String, root: &Path, step: &Step) -> Resul
     ensures line { OnOk result (string_bytes text.new
         ≡ string_bytes text.old ++ line (step_words root.now step.now)) }
     ensures text { OnOk result (is_text root.now step.now ≡ true) }
+    ensures size { IsSized step.now }
 {
     match step {
         Step::Folder(path) => add_pathed(alloc, text, "folder", root, path),
@@ -134,6 +136,7 @@ fn add_steps(
     ensures lines { OnOk result (string_bytes text.new
         ≡ string_bytes text.old ++ step_lines root.now steps.now.items) }
     ensures texts { OnOk result (are_texts root.now steps.now.items ≡ true) }
+    ensures sizes { OnOk result (AllAreSized steps.now.items) }
 {
     for step in steps {
         add_step(alloc, text, root, step)?;
@@ -143,7 +146,8 @@ fn add_steps(
 
 /// Adds the first line.
 fn add_source(text: &mut String, source: u32) -> Result<(), OutOfMemory>
-    ensures { OnOk result (string_bytes text.new ≡ string_bytes text.old ++ source_line source) }
+    ensures line { OnOk result (string_bytes text.new ≡ string_bytes text.old ++ source_line source) }
+    ensures sum { source < 2 ^ 32 }
 {
     writeln!(text, "source {source:08X}")?;
     Ok(())
@@ -151,7 +155,8 @@ fn add_source(text: &mut String, source: u32) -> Result<(), OutOfMemory>
 
 /// Adds the second line.
 fn add_told(text: &mut String, told: Told) -> Result<(), OutOfMemory>
-    ensures { OnOk result (string_bytes text.new ≡ string_bytes text.old ++ told_line told) }
+    ensures line { OnOk result (string_bytes text.new ≡ string_bytes text.old ++ told_line told) }
+    ensures told { IsTold told }
 {
     let (tli, at) = (told.fork.tli, told.fork.at);
     let (checkpoint, theirs) = (told.checkpoint, told.tli);
@@ -161,8 +166,9 @@ fn add_told(text: &mut String, told: Told) -> Result<(), OutOfMemory>
 
 /// Adds the line of some bytes.
 fn add_bytes(alloc: Global, text: &mut String, name: &str, bytes: &[u8]) -> Result<(), OutOfMemory>
-    ensures { OnOk result (string_bytes text.new
+    ensures line { OnOk result (string_bytes text.new
         ≡ string_bytes text.old ++ bytes_line name.now bytes.now) }
+    ensures bytes { IsBytes bytes.now }
 {
     let digits = hex::encode(alloc, bytes)?;
     writeln!(text, "{name} {digits}")?;
@@ -173,7 +179,8 @@ fn add_bytes(alloc: Global, text: &mut String, name: &str, bytes: &[u8]) -> Resu
 #[tactic(auto, unfolding(crate::specs::Text::plan_text))]
 pub fn plan_text(alloc: Global, target: &Path, stored: &StoredPlan) -> Result<Text, OutOfMemory>
     ensures value { IfOk result (λ text. text ≡ plan_text target.now (said_by stored.now)) }
-    ensures texts { OnOk result (are_texts target.now stored.now.plan.steps.items ≡ true) }
+    // what a program holds has numbers of their widths, ways in UTF-8, and bytes
+    ensures held { OnOk result (IsHeld target.now (said_by stored.now)) }
 {
     let mut text = String::new(alloc);
     add_source(&mut text, stored.source)?;

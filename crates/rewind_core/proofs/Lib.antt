@@ -2,6 +2,7 @@ pub mod FaultLemmas
 pub mod SumLemmas
 pub mod ControlLemmas
 pub mod CheckLemmas
+pub mod SaidLemmas
 pub mod PlanLemmas
 pub mod SurveyLemmas
 pub mod PerformLemmas

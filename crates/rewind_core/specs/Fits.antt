@@ -8,6 +8,7 @@ use Rattle.control_file.specs.declared.control.Control.{Control}
 use Rattle.file_walk.specs.declared.pair.Pair.{Pair}
 use Rattle.marked_runs.specs.Runs.{Runs}
 use Rattle.rewound_tree.specs.Rewound.{rewound}
+use Rattle.plan_text.specs.Laws.{IsSaid}
 use Rattle.plan_text.specs.Text.{plan_text}
 use Rattle.rewind_writes.specs.Plan.{plan_changes}
 use Rattle.rewind_writes.specs.Steps.{AllAreFit}
@@ -63,6 +64,15 @@ pub record FitsMeant (c : Contents) (meant : Result Meant RewindFault) (v : Plan
   pub meaning : Meant
   pub found : meant ≡ Ok meaning
   pub fits : Fits c meaning v
+
+-- the text of a plan, with the CRC of the source's control file, is read as just that plan
+abbrev pub IsSaidIn : Contents → (target source : PathValue) → Plan → Type 0
+IsSaidIn c target source plan = IsSaid target source (saying (sum_at c source) plan)
+
+abbrev pub IsSaidPlanned : Contents → (target source : PathValue) → Planned → Type 0
+IsSaidPlanned c target source planned.SameTimeline = Unit {0}
+IsSaidPlanned c target source (planned.EndsAtFork at) = Unit {0}
+IsSaidPlanned c target source (planned.Needed plan) = IsSaidIn c target source plan
 
 -- the same of a rewind that is needed
 abbrev pub PlansNeeded : Contents → Result Meant RewindFault → Result Plan RewindFault → Type 0

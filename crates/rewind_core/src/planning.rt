@@ -10,10 +10,11 @@ ghost use Rattle.rewind_writes.specs.Steps.{AllAreFit};
 ghost use Rattle.rewind_plan.specs.PlanOf.{IsPlanOf};
 ghost use Rattle.rewind_survey.specs.Faults.{IsFree};
 ghost use Rattle.rewind_survey.specs.Survey.{HoldsParted, Parting};
-ghost use Rattle.rewind_core.specs.Fits.{IsFitPlanned, IsMadeBetween, IsPlanBetween, Plans, PlansNeeded};
+ghost use Rattle.rewind_core.specs.Fits.{IsFitPlanned, IsMadeBetween, IsPlanBetween, IsSaidIn, IsSaidPlanned, Plans, PlansNeeded};
 ghost use Rattle.rewind_core.specs.Planned.{from_parting, from_walks, pairs_refusal, planned_of};
 ghost use Rattle.rewind_core.specs.Rooted.{IsRooted, aim};
 ghost use Rattle.rewind_core.specs.Text.{saying, sum_at};
+ghost use Rattle.plan_text.specs.Laws.{IsHeld};
 ghost use Rattle.plan_text.specs.Text.{plan_text};
 ghost use Rattle.clusters.specs.declared.fault.ClusterFault.TheVariants as cluster;
 
@@ -47,6 +48,7 @@ fn with_text(alloc: Global, target: &Path, stored: StoredPlan) -> Result<Plan, R
     ensures told { IfOk result (λ plan. plan.told ≡ stored.told) }
     ensures writes { IfOk result (λ plan. plan.writes ≡ stored.plan) }
     ensures text { IfOk result (λ plan. plan.text ≡ plan_text target.now (saying stored.source plan)) }
+    ensures held { IfOk result (λ plan. IsHeld target.now (saying stored.source plan)) }
     ensures memory { IfErr result (λ e. e ≡ RewindFault.Cluster cluster.OutOfMemory) }
 {
     let text = plan_text(alloc, target, &stored)?;
@@ -74,6 +76,8 @@ fn plan_pairs(alloc: Global, rewinding: &Rewinding<'_>, pairs: &[Pair]) -> Resul
         rewinding.now.control.now rewinding.now.label plan.writes) }
     ensures text { IfOk result (λ plan. plan.text
         ≡ plan_text rewinding.now.clusters.target.now (saying rewinding.now.sum plan)) }
+    ensures held { IfOk result (λ plan.
+        IsHeld rewinding.now.clusters.target.now (saying rewinding.now.sum plan)) }
     ensures fit { IfOk result (λ plan. AllAreFit plan.writes.steps.items) }
     ensures read { result ≢ Err (RewindFault.Cluster cluster.ReadFault) }
     ensures changed { (p : PathValue) → result ≢ Err (RewindFault.Cluster (cluster.Changed p)) }
@@ -119,6 +123,8 @@ fn plan_walked<F: Tree>(
         (from_walks (F.contents tree.old) (aim rewinding.now)) result }
     ensures made { IfOk result (IsPlanBetween rewinding.now.clusters.target.now
         rewinding.now.clusters.source.now) }
+    ensures said { IsTrue F.tells → IfOk result (IsSaidIn (F.contents tree.old)
+        rewinding.now.clusters.target.now rewinding.now.clusters.source.now) }
     ensures fit { IfOk result (λ plan. AllAreFit plan.writes.steps.items) }
     ensures reads { Reads F.Tree tree.old tree.new }
     ensures read_fault { IsErrOf result (RewindFault.Cluster cluster.ReadFault) →
@@ -151,6 +157,8 @@ fn plan_parted<F: Tree>(
         PlansNeeded (F.contents tree.old)
         (from_parting (F.contents tree.old) target.now source.now now part) result }
     ensures made { IfOk result (IsPlanBetween target.now source.now) }
+    ensures said { IsTrue F.tells →
+        IfOk result (IsSaidIn (F.contents tree.old) target.now source.now) }
     ensures fit { IfOk result (λ plan. AllAreFit plan.writes.steps.items) }
     ensures reads { Reads F.Tree tree.old tree.new }
     ensures read_fault { IsErrOf result (RewindFault.Cluster cluster.ReadFault) →
@@ -208,6 +216,9 @@ pub fn plan<F: Tree>(
         (planned_of (F.contents tree.old) target.now source.now now) result }
     // over every tree a plan is one between these two roots
     ensures made { IfOk result (IsMadeBetween target.now source.now) }
+    // and its text is read as just that plan
+    ensures said { IsTrue F.tells →
+        IfOk result (IsSaidPlanned (F.contents tree.old) target.now source.now) }
     ensures fit { IfOk result IsFitPlanned }
     ensures reads { Reads F.Tree tree.old tree.new }
     ensures read_fault { IsErrOf result (RewindFault.Cluster cluster.ReadFault) →

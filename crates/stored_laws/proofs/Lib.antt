@@ -6,3 +6,4 @@ pub mod MarkLemmas
 pub mod StoredLemmas
 pub mod ResumeLemmas
 pub mod PlanLemmas
+pub mod AgainLemmas

@@ -33,7 +33,7 @@ use Rattle.stored_laws.proofs.AimLemmas.{needed-aimed}
 -- ---- plans that say the same
 
 -- what a resume reads of a plan
-record IsSame (one other : Plan) : Type 0 where
+pub record IsSame (one other : Plan) : Type 0 where
   pub mark : one.mark ≡ other.mark
   pub steps : one.steps.items ≡ other.steps.items
   pub label_at : one.label.path ≡ other.label.path
@@ -49,7 +49,7 @@ changes-same : (c : Contents) (one other : Plan) → IsSame one other → resume
 changes-same c one other same = λ k. again c (same.mark k) (same.steps k) (same.label_at k) (same.label_says k) (same.control_at k) (same.control_says k)
 
 -- one that says the same as the plan of a rewind, and has its files at the same root
-plan-same : (target : PathValue) (sum : ℕ) (n : Needing) (plan : RewindPlan) (stored : StoredPlan) → IsPlanOf n.aim.between n.pairs n.aim.control n.aim.label plan.writes → n.aim.between.target ≡ target
+pub plan-same : (target : PathValue) (sum : ℕ) (n : Needing) (plan : RewindPlan) (stored : StoredPlan) → IsPlanOf n.aim.between n.pairs n.aim.control n.aim.label plan.writes → n.aim.between.target ≡ target
     → IsPlacedAt target stored.plan → said_by stored ≡ saying sum plan → IsSame stored.plan plan.writes
 plan-same target sum n plan stored of root placed said = record {
   mark = placed.mark ∙ ap (λ r. below r mark_parts) (sym root) ∙ sym of.mark;

@@ -5,8 +5,10 @@ use Rattle.cluster_tree.specs.Apart.{AreApart}
 use Rattle.cluster_tree.specs.Change.{all_changed, first_refusal, is_on}
 use Rattle.cluster_tree.specs.Contents.{Contents}
 use Rattle.cluster_tree.specs.PathValue.{PathValue}
+use Rattle.cluster_tree.specs.Run.{Moment}
 use Rattle.cluster_tree.specs.Tree.{bytes_at}
 use Rattle.gated_marks.specs.Gates.{IsComplete}
+use Rattle.marked_runs.specs.Moments.{StandsSynced}
 use Rattle.plan_text.specs.Laws.{IsSaid}
 use Rattle.plan_text.specs.Stored.{IsPlacedAt}
 use Rattle.plan_text.specs.Text.{said_by}
@@ -15,7 +17,8 @@ use Rattle.rewind_writes.specs.Plan.{IsResumable, mark_gate, mark_head}
 use Rattle.resumed_laws.specs.Between.{IsBetween}
 use Rattle.resumed_laws.specs.Resumed.{resumed_body, resumed_changes}
 use Rattle.resumed_laws.specs.Sound.{with_whole_mark}
-use Rattle.resumed_writes.specs.Again.{AreReadable}
+use Rattle.resumed_writes.specs.Again.{AreReadable, IsOnWayOrFinished}
+use Rattle.resumed_writes.specs.Again.{IsResumable as MayBeResumed}
 use Rattle.rewind_core.specs.Fits.{IsPlanFor, IsRewound}
 use Rattle.rewind_core.specs.Planned.{Needing, Needs, planned_of}
 use Rattle.rewind_core.specs.Text.{saying, sum_at}
@@ -47,6 +50,17 @@ pub record IsResumed (c i : Contents) (n : Needing) (stored : StoredPlan) : Type
 abbrev pub StoppedRewindsAreResumed : Type 0
 StoppedRewindsAreResumed = (c : Contents) (target source : PathValue) (now : ℤ) (n : Needing) (plan : Plan) (i : Contents) (stored : StoredPlan) →
     IsStopped c target source now n plan i → IsPlacedAt target stored.plan → said_by stored ≡ saying (sum_at c source) plan → IsResumed c i n stored
+
+-- What a stop of a resume of it leaves: that rewind, stopped again, which the next resume takes up; or the rewound tree.
+abbrev pub IsStoppedAgain : Contents → (target source : PathValue) → ℤ → Needing → Plan → Contents → Type 0
+IsStoppedAgain c target source now n plan d = IsStopped c target source now n plan d ⊎ IsRewound c n d
+
+-- where it begins on what the stop left, synced, with a plan that was so read
+abbrev pub StoppedResumesAreResumed : Type 0
+StoppedResumesAreResumed = (c : Contents) (target source : PathValue) (now : ℤ) (n : Needing) (plan : Plan) (i : Contents) (stored : StoredPlan) (moment : Moment) →
+    IsStopped c target source now n plan i → IsPlacedAt target stored.plan → said_by stored ≡ saying (sum_at c source) plan → StandsSynced i moment →
+    MayBeResumed c (with_whole_mark c plan.text stored.plan) stored.plan moment
+    × ((d : Contents) → IsOnWayOrFinished c (with_whole_mark c plan.text stored.plan) stored.plan d → IsStoppedAgain c target source now n plan d)
 
 -- ---- of any plan that a mark holds
 

@@ -1,5 +1,5 @@
 // What follows from the definitions: the functions' contracts are laws.
-ghost use Rattle.stored_laws.specs.Laws.{StoppedRewindsAreResumed, StoppedRewindsAreStored, StoredPlansAreReadable, StoredPlansKeepTheMark, StoredPlansStayInTheTarget};
+ghost use Rattle.stored_laws.specs.Laws.{StoppedResumesAreResumed, StoppedRewindsAreResumed, StoppedRewindsAreStored, StoredPlansAreReadable, StoredPlansKeepTheMark, StoredPlansStayInTheTarget};
 
 /// Where a stop of a rewind left a mark that reads as complete, what is read from it is the plan of that
 /// rewind, and nothing refuses it.
@@ -10,6 +10,12 @@ pub fn stopped_rewinds_are_stored()
 /// And that plan, done again, isn't refused and ends with the rewound tree of the first run.
 pub fn stopped_rewinds_are_resumed()
     ensures { StoppedRewindsAreResumed }
+{}
+
+/// A stop of that resume leaves what is on its way again, so that the next one takes it up, or the
+/// rewound tree.
+pub fn stopped_resumes_are_resumed()
+    ensures { StoppedResumesAreResumed }
 {}
 
 /// What a resume changes by a plan that a mark holds is of the target, and not its mark before that is

@@ -3,4 +3,7 @@
 
 mod laws;
 
-pub use laws::{stopped_rewinds_are_resumed, stopped_rewinds_are_stored, stored_plans_are_sound};
+pub use laws::{
+    stopped_resumes_are_resumed, stopped_rewinds_are_resumed, stopped_rewinds_are_stored,
+    stored_plans_are_sound,
+};

@@ -6,6 +6,7 @@ use Rattle.resumed_writes.specs.Again.{resumed_end}
 use Rattle.stored_laws.proofs.PlanLemmas.{stored-of_target}
 use Rattle.cmd_resume.proofs.CarryLemmas.{rest-form}
 use Rattle.cmd_resume.proofs.MakeLemmas.{still-left}
+use Rattle.cmd_resume.proofs.ResumeLemmas.{still-again}
 use Rattle.cmd_resume.proofs.RestLemmas.{unseen_line, unseen_line_broken}
 use Rattle.cmd_resume.proofs.makes.make_behind.Goals as goal
 
@@ -23,3 +24,6 @@ pub returns-in-Err-clause-stops : goal.returns-in-Err-clause-stops
 returns-in-Err-clause-stops g c told =
     let first = moment_of g.F.Tree c.args.tree.now in
     still-left (IsSafe c.args.stored.plan.mark first (resumed_end (g.F.Tree.contents c.args.tree.now) c.args.stored.plan)) first (λ d untouched. inl untouched)
+
+pub returns-in-Err-clause-again : goal.returns-in-Err-clause-again
+returns-in-Err-clause-again g c told found e may = still-again found e c.args.stored.plan (moment_of g.F.Tree c.args.tree.now) may

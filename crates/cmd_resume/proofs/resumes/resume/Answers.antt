@@ -1,11 +1,13 @@
-use Rattle.std.proofs.Common.{Err, FitsSigned, inl, inr, refl, rules, w64, ap}
+use Rattle.std.proofs.Common.{Err, FitsSigned, inl, inr, refl, rules, w64, ap, sym, ◌∙◌}
 use Rattle.std.proofs.lemmas.Int.{to_z-of_z}
 use Rattle.cluster_tree.specs.Frame.{moment_of}
 use Rattle.plan_text.specs.Text.{said_by}
 use Rattle.run_acts.proofs.AnswerSteps.{carries_look}
 use Rattle.run_acts.proofs.UnseenSteps.{unseen_still}
 use Rattle.cmd_resume.proofs.LookLemmas.{looks-only, refused-passes, resume-form, resume-looks}
-use Rattle.cmd_resume.proofs.ResumeLemmas.{asked-readable, blames-on, exact_as, fresh-durable, fresh-leaves, fresh-left, fresh-meant, looks-left, made_as, stored-durable, stored-leaves, stored-left, stored-meant, unseen_as}
+use Rattle.cmd_resume.proofs.ResumeLemmas.{again-left, asked-readable, blames-on, exact_as, fresh-durable, fresh-leaves, fresh-left, fresh-meant, fresh-resumable, looks-left, made_as, stored-durable, stored-leaves, stored-left, stored-meant, stopped-looks, unseen_as}
+use Rattle.stored_laws.proofs.StoredLemmas.{stopped-stored}
+use Rattle.cmd_rewind.proofs.StopLemmas.{looks-same}
 use Rattle.cmd_resume.proofs.resumes.resume.Goals as goal
 
 pub resume_stored-requires-clause-readable : goal.resume_stored-requires-clause-readable
@@ -80,3 +82,26 @@ returns-in-Err-clause-carries g c out_tells out =
 
 pub returns-in-Err-clause-stops : goal.returns-in-Err-clause-stops
 returns-in-Err-clause-stops g c t = looks-left g.F.Tree c.args.words.now c.args.now _ _ c.stored_rewind.ensures.reads
+
+pub returns-in-Err-clause-resumable : goal.returns-in-Err-clause-resumable
+returns-in-Err-clause-resumable g c t none stands = looks-same g.F.Tree c.args.words.now c.args.now _ _ c.stored_rewind.ensures.reads stands
+
+pub returns-in-Ok-None-clause-resumable : goal.returns-in-Ok-None-clause-resumable
+returns-in-Ok-None-clause-resumable g c t none stands =
+    let fits : FitsSigned w64 c.args.now = search rules in
+    fresh-resumable g.F.Tree c.args.words.now c.args.now c.args.tree.now c.stored_rewind.new.tree c.stored_rewind.ensures.reads c.rewind.new.tree (to_z-of_z w64 c.args.now fits) stands (c.rewind.ensures.resumable t)
+
+pub returns-in-Ok-Some-clause-resumable : goal.returns-in-Ok-Some-clause-resumable
+returns-in-Ok-Some-clause-resumable g c t none stands = absurd (cc (sym none ∙ exact_as c.in-Ok-Some.field-0-is (c.in-Ok-Some.ensures.exact t)))
+
+pub returns-in-Err-clause-again : goal.returns-in-Err-clause-again
+returns-in-Err-clause-again g c t first before n plan stop stands = stopped-looks g.F.Tree c.args.words.now c.args.now _ _ c.stored_rewind.ensures.reads first before n plan stop stands
+
+pub returns-in-Ok-None-clause-again : goal.returns-in-Ok-None-clause-again
+returns-in-Ok-None-clause-again g c t first before n plan stop stands =
+    absurd (cc (sym (exact_as c.in-Ok-None.field-0-is (c.in-Ok-None.ensures.exact t)) ∙ stopped-stored first c.args.words.now.target c.args.words.now.source before n plan (g.F.Tree.contents c.args.tree.now) stop))
+
+pub returns-in-Ok-Some-clause-again : goal.returns-in-Ok-Some-clause-again
+returns-in-Ok-Some-clause-again g c t first before n plan stop stands =
+    again-left g.F.Tree c.args.words.now c.args.now c.args.tree.now c.stored_rewind.new.tree c.stored_rewind.ensures.reads c.resume_stored.new.tree first before n plan c.in-Ok-Some.stored stop stands
+    (made_as c.args.words.now.target c.args.words.now.source c.in-Ok-Some.field-0-is c.in-Ok-Some.ensures.made).placed (exact_as c.in-Ok-Some.field-0-is (c.in-Ok-Some.ensures.exact t)) (c.resume_stored.ensures.again t)

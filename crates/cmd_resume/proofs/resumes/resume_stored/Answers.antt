@@ -1,11 +1,12 @@
 use Rattle.std.proofs.Common.{inl, inr, refl, subst, sym, ◌∙◌}
+use Rattle.cluster_tree.specs.Frame.{moment_of}
 use Rattle.cmd_rewind.specs.Tasks.{reported}
 use Rattle.cmd_rewind.specs.declared.lines.Lines.TheVariants as lines
 use Rattle.run_acts.proofs.AnswerSteps.{carries_acts, carries_fault, last_exact}
 use Rattle.run_acts.proofs.UnseenSteps.{told_wet, unseen_by, unseen_still}
 use Rattle.cmd_resume.specs.Resume.{IsResume}
 use Rattle.cmd_resume.proofs.RestLemmas.{unseen_looked}
-use Rattle.cmd_resume.proofs.ResumeLemmas.{again-form, again-looks, dry-answer, lines_as, wet-answer, whole-form}
+use Rattle.cmd_resume.proofs.ResumeLemmas.{again-form, again-looks, dry-answer, lines_as, still-again, wet-answer, whole-form}
 use Rattle.cmd_resume.proofs.resumes.resume_stored.Goals as goal
 
 pub returns-in-Err-clause-carries : goal.returns-in-Err-clause-carries
@@ -31,3 +32,9 @@ returns-else-words-clause-carries g c out_tells out =
     unseen_by (told_wet words.dry_run c.if-words.false) (λ t. inl t)
     (unseen_looked (λ t. t) (wet-answer words contents c.args.stored c.if-words.false) (whole-form words c.args.stored.told c.if-words.false)
     (lines_as (c.as_str.ensures.value ∙ c.in-Ok.ensures.first) (c.as_str-else-words.ensures.value ∙ c.in-Ok.ensures.second) (c.make_told.ensures.carries out_tells out)))
+
+pub returns-in-Err-clause-again : goal.returns-in-Err-clause-again
+returns-in-Err-clause-again g c told found e may = still-again found e c.args.stored.plan (moment_of g.F.Tree c.args.tree.now) may
+
+pub returns-then-words-clause-again : goal.returns-then-words-clause-again
+returns-then-words-clause-again g c told found e may = still-again found e c.args.stored.plan (moment_of g.F.Tree c.args.tree.now) may

@@ -5,11 +5,12 @@ use Rattle.run_acts.proofs.UnseenSteps.{told_wet, unseen_acts, unseen_by, unseen
 use Rattle.cluster_tree.specs.Contents.{Contents}
 use Rattle.cluster_tree.specs.Frame.{moment_of}
 use Rattle.rewind_core.specs.Fits.{IsPlanFor}
-use Rattle.cmd_rewind.specs.Tasks.{reported, task_acts}
+use Rattle.cmd_rewind.specs.Tasks.{IsSaidTask, reported, task_acts}
+use Rattle.cmd_rewind.specs.declared.tasks.Task.{Task}
 use Rattle.cmd_rewind.specs.declared.tasks.Task.TheVariants as task
 use Rattle.cmd_rewind.proofs.FormLemmas.{answer-form, answer-looks, form_as, known_as, passes_at, task_as, wet_as}
 use Rattle.cmd_rewind.proofs.MakeLemmas.{leaves, lines_as}
-use Rattle.cmd_rewind.proofs.StopLemmas.{durable-by, looks-left, makes-left}
+use Rattle.cmd_rewind.proofs.StopLemmas.{durable-by, looks-left, looks-same, makes-left, makes-resumable}
 use Rattle.cmd_rewind.proofs.rewinds.rewind.Goals as goal
 
 pub returns-in-Err-clause-carries : goal.returns-in-Err-clause-carries
@@ -80,3 +81,20 @@ returns-in-Ok-Rewind-clause-synced g c told =
     let P : Contents → Type 0 = λ x. IsPlanFor x found.0 c.in-Ok-Rewind.plan in
     durable-by c.make_told.result c.args.words.now c.args.now contents (moment_of g.F.Tree c.make_told.new.tree)
     (c.make_told.ensures.synced told found.0 (subst P (sym c.check.ensures.reads.same) found.2))
+
+pub returns-in-Err-clause-resumable : goal.returns-in-Err-clause-resumable
+returns-in-Err-clause-resumable g c told stands = looks-same g.F.Tree c.args.words.now c.args.now _ _ c.check.ensures.reads stands
+
+pub returns-in-Ok-Tell-clause-resumable : goal.returns-in-Ok-Tell-clause-resumable
+returns-in-Ok-Tell-clause-resumable g c told stands = looks-same g.F.Tree c.args.words.now c.args.now _ _ c.check.ensures.reads stands
+
+pub returns-in-Ok-Rewind-clause-resumable : goal.returns-in-Ok-Rewind-clause-resumable
+returns-in-Ok-Rewind-clause-resumable g c told stands =
+    let fits : FitsSigned w64 c.args.now = search rules in
+    let contents = g.F.Tree.contents c.args.tree.now in
+    let P : Task → Type 0 = IsSaidTask contents c.args.words.now.target c.args.words.now.source in
+    makes-resumable g.F.Tree c.args.words.now c.args.now c.args.tree.now c.check.new.tree c.check.ensures.reads stands c.make_told.new.tree c.in-Ok-Rewind.plan
+    (wet_as c.args.words.now.dry_run c.in-Ok-Rewind.field-0-is c.in-Ok-Rewind.ensures.wet)
+    (task_as contents c.args.words.now (to_z-of_z w64 c.args.now fits) c.in-Ok-Rewind.field-0-is (c.in-Ok-Rewind.ensures.planned told))
+    (subst P c.in-Ok-Rewind.field-0-is (c.in-Ok-Rewind.ensures.said told))
+    (c.make_told.ensures.resumable told)

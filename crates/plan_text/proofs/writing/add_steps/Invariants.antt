@@ -1,5 +1,5 @@
 use Rattle.std.proofs.Common.{◌≡◌, ◌++◌, true, map, string_bytes}
-use Rattle.plan_text.specs.Laws.{are_texts}
+use Rattle.plan_text.specs.Laws.{AllAreSized, are_texts}
 use Rattle.plan_text.specs.Text.{step_lines}
 use Rattle.plan_text.proofs.writing.add_steps.Given as goal
 
@@ -7,4 +7,5 @@ abbrev pub invariant-loop-step : goal.invariant-loop-step
 invariant-loop-step l = record {
   lines : string_bytes l.text ≡ string_bytes l.initial.text ++ step_lines l.root (map (λ step. step.now) l.yielded);
   texts : are_texts l.root (map (λ step. step.now) l.yielded) ≡ true;
+  sizes : AllAreSized (map (λ step. step.now) l.yielded);
 }

@@ -5,6 +5,7 @@ use Rattle.cluster_tree.specs.Frame.{moment_of}
 use Rattle.run_acts.specs.Causes.{cause_of}
 use Rattle.wal_tools.proofs.RunLemmas.{at_time, beside_at, dried_cleanup, dried_reset, dried_rewind, of_archivecleanup, of_controldata, of_pair, of_resetwal, of_rewind, of_waldump, of_walcompare, of_walreplay, pair_may, paired_at, replay_may, replayed_at, rewound_at, same_at, stays_at}
 use Rattle.wal_tools.proofs.ResumeLemmas.{dried_resume, durable_resume, left_of_resume, of_resume, resumed_at}
+use Rattle.wal_tools.proofs.ResumableLemmas.{again_resume, resumable_resume, resumable_rewind}
 use Rattle.wal_tools.proofs.StopLemmas.{durable_replay, durable_reset, durable_rewind, left_of_cleanup, left_of_pair, left_of_replay, left_of_reset, left_of_rewind, read_left}
 use Rattle.wal_tools.proofs.commanded.carry_out.Goals as goal
 
@@ -182,3 +183,18 @@ pub returns-in-Resume-clause-durable : goal.returns-in-Resume-clause-durable
 returns-in-Resume-clause-durable g c t =
     let fits : FitsSigned w64 c.args.now = search rules in
     durable_resume c.in-Resume.is (to_z-of_z w64 c.args.now fits) c.resume.result (g.F.Tree.contents c.args.tree.now) (moment_of g.F.Tree c.resume.new.tree) (c.resume.ensures.synced t)
+
+pub returns-in-Rewind-clause-resumable : goal.returns-in-Rewind-clause-resumable
+returns-in-Rewind-clause-resumable g c t rewind asked stands =
+    let fits : FitsSigned w64 c.args.now = search rules in
+    resumable_rewind (g.F.Tree.contents c.args.tree.now) (g.F.Tree.stops c.args.tree.now) (g.F.Tree.stops c.rewind.new.tree) c.in-Rewind.is (to_z-of_z w64 c.args.now fits) (c.rewind.ensures.resumable t stands) rewind asked
+
+pub returns-in-Resume-clause-fresh : goal.returns-in-Resume-clause-fresh
+returns-in-Resume-clause-fresh g c t resume asked none stands =
+    let fits : FitsSigned w64 c.args.now = search rules in
+    resumable_resume (g.F.Tree.contents c.args.tree.now) (g.F.Tree.stops c.args.tree.now) (g.F.Tree.stops c.resume.new.tree) c.in-Resume.is (to_z-of_z w64 c.args.now fits) (λ free. c.resume.ensures.resumable t free stands) resume asked none
+
+pub returns-in-Resume-clause-again : goal.returns-in-Resume-clause-again
+returns-in-Resume-clause-again g c t resume asked first before n plan stop stands =
+    again_resume (g.F.Tree.contents c.args.tree.now) (g.F.Tree.stops c.args.tree.now) (g.F.Tree.stops c.resume.new.tree) c.in-Resume.is (λ first before n plan stop. c.resume.ensures.again t first before n plan stop stands)
+    resume asked first before n plan stop

@@ -1,9 +1,11 @@
-use Rattle.std.proofs.Common.{FitsSigned, Ok, map, rules, string_bytes, subst, w64}
+use Rattle.std.proofs.Common.{◌≡◌, FitsSigned, Ok, map, rules, string_bytes, subst, w64}
 use Rattle.std.proofs.lemmas.Int.{to_z-of_z}
 use Rattle.cluster_tree.specs.Frame.{moment_of}
+use Rattle.commands.specs.declared.command.Command.TheVariants as command
 use Rattle.tool_words.specs.Command.{command_of}
 use Rattle.wal_tools.specs.Words.{MayChange}
 use Rattle.wal_tools.proofs.RunLemmas.{at_time, no_words, of_command, stays_refused, stays_unmade, words_refused}
+use Rattle.wal_tools.proofs.ResumableLemmas.{again_still, resumable_at, resumable_still}
 use Rattle.wal_tools.proofs.StopLemmas.{durable_command, left_at, left_of_command, still_left}
 use Rattle.wal_tools.proofs.program.answer.Goals as goal
 
@@ -45,3 +47,40 @@ returns-in-Ok-clause-durable g c t =
 
 pub returns-in-Ok-clause-reads : goal.returns-in-Ok-clause-reads
 returns-in-Ok-clause-reads g c unmade = c.carry_out.ensures.reads (subst (λ asked. MayChange asked → ⊥) c.in-Ok.ensures.answer unmade)
+
+pub returns-in-Ok-clause-resumable : goal.returns-in-Ok-clause-resumable
+returns-in-Ok-clause-resumable g c t rewind asked stands =
+    let fits : FitsSigned w64 c.args.now = search rules in
+    let is : c.in-Ok.command ≡ command.Rewind rewind = cc (c.in-Ok.ensures.answer, asked) in
+    resumable_at rewind (g.F.Tree.contents c.args.tree.now) (g.F.Tree.stops c.args.tree.now) (g.F.Tree.stops c.carry_out.new.tree) (to_z-of_z w64 c.args.now fits) (c.carry_out.ensures.resumable t rewind is stands)
+
+pub returns-in-Err-OutOfMemory-clause-resumable : goal.returns-in-Err-OutOfMemory-clause-resumable
+returns-in-Err-OutOfMemory-clause-resumable g c t rewind asked stands = resumable_still rewind c.args.now (g.F.Tree.contents c.args.tree.now) (moment_of g.F.Tree c.args.tree.now) stands
+
+pub returns-in-Err-clause-resumable : goal.returns-in-Err-clause-resumable
+returns-in-Err-clause-resumable g c t rewind asked stands = resumable_still rewind c.args.now (g.F.Tree.contents c.args.tree.now) (moment_of g.F.Tree c.args.tree.now) stands
+
+pub returns-in-Ok-clause-fresh : goal.returns-in-Ok-clause-fresh
+returns-in-Ok-clause-fresh g c t resume asked none stands =
+    let fits : FitsSigned w64 c.args.now = search rules in
+    let is : c.in-Ok.command ≡ command.Resume resume = cc (c.in-Ok.ensures.answer, asked) in
+    resumable_at resume (g.F.Tree.contents c.args.tree.now) (g.F.Tree.stops c.args.tree.now) (g.F.Tree.stops c.carry_out.new.tree) (to_z-of_z w64 c.args.now fits) (c.carry_out.ensures.fresh t resume is none stands)
+
+pub returns-in-Err-OutOfMemory-clause-fresh : goal.returns-in-Err-OutOfMemory-clause-fresh
+returns-in-Err-OutOfMemory-clause-fresh g c t resume asked none stands = resumable_still resume c.args.now (g.F.Tree.contents c.args.tree.now) (moment_of g.F.Tree c.args.tree.now) stands
+
+pub returns-in-Err-clause-fresh : goal.returns-in-Err-clause-fresh
+returns-in-Err-clause-fresh g c t resume asked none stands = resumable_still resume c.args.now (g.F.Tree.contents c.args.tree.now) (moment_of g.F.Tree c.args.tree.now) stands
+
+pub returns-in-Ok-clause-again : goal.returns-in-Ok-clause-again
+returns-in-Ok-clause-again g c t resume asked first before n plan stop stands =
+    let is : c.in-Ok.command ≡ command.Resume resume = cc (c.in-Ok.ensures.answer, asked) in
+    c.carry_out.ensures.again t resume is first before n plan stop stands
+
+pub returns-in-Err-OutOfMemory-clause-again : goal.returns-in-Err-OutOfMemory-clause-again
+returns-in-Err-OutOfMemory-clause-again g c t resume asked first before n plan stop stands =
+    again_still first resume.target resume.source before n plan (g.F.Tree.contents c.args.tree.now) (moment_of g.F.Tree c.args.tree.now) stop stands
+
+pub returns-in-Err-clause-again : goal.returns-in-Err-clause-again
+returns-in-Err-clause-again g c t resume asked first before n plan stop stands =
+    again_still first resume.target resume.source before n plan (g.F.Tree.contents c.args.tree.now) (moment_of g.F.Tree c.args.tree.now) stop stands

@@ -8,6 +8,7 @@ use Rattle.cause_lines.specs.Lines.{line_of}
 use Rattle.wal_tools.specs.Runs.{Says}
 use Rattle.wal_tools.proofs.ConvergeLemmas.{converges_left}
 use Rattle.wal_tools.proofs.RunLemmas.{at_time, exact_told, leaves_done, stays_told}
+use Rattle.wal_tools.proofs.ResumableLemmas.{resumable_at}
 use Rattle.wal_tools.proofs.StopLemmas.{durable_done, left_at}
 use Rattle.wal_tools.proofs.program.run.Goals as goal
 
@@ -62,3 +63,13 @@ returns-clause-durable g c t done =
     let fits : FitsSigned w64 c.args.now = search rules in
     durable_done c.answer-outcome.result (command_of (map string_bytes c.args.words.now)) (g.F.Tree.contents c.args.tree.now) (moment_of g.F.Tree c.answer-outcome.new.tree) c.answer-outcome.ensures.undone c.cause_of.ensures c.finish.ensures.cause done
     (to_z-of_z w64 c.args.now fits) (c.answer-outcome.ensures.durable t)
+
+pub returns-clause-resumable : goal.returns-clause-resumable
+returns-clause-resumable g c t rewind asked stands =
+    let fits : FitsSigned w64 c.args.now = search rules in
+    resumable_at rewind (g.F.Tree.contents c.args.tree.now) (g.F.Tree.stops c.args.tree.now) (g.F.Tree.stops c.answer-outcome.new.tree) (to_z-of_z w64 c.args.now fits) (c.answer-outcome.ensures.resumable t rewind asked stands)
+
+pub returns-clause-fresh : goal.returns-clause-fresh
+returns-clause-fresh g c t resume asked none stands =
+    let fits : FitsSigned w64 c.args.now = search rules in
+    resumable_at resume (g.F.Tree.contents c.args.tree.now) (g.F.Tree.stops c.args.tree.now) (g.F.Tree.stops c.answer-outcome.new.tree) (to_z-of_z w64 c.args.now fits) (c.answer-outcome.ensures.fresh t resume asked none stands)
