@@ -4,10 +4,8 @@ use Rattle.cluster_tree.specs.Change.{Change}
 use Rattle.cluster_tree.specs.Contents.{Contents}
 use Rattle.cluster_tree.specs.PathValue.{PathValue}
 use Rattle.cluster_tree.specs.Run.{Moment}
-use Rattle.cluster_tree.specs.Stops.{LeavesOnly}
 use Rattle.cluster_tree.specs.declared.tree.ChangeCall.{ChangeCall}
-use Rattle.cluster_tree.proofs.Images.{holds_first, leaves_only}
-use Rattle.marked_runs.specs.Moments.{IsUntouched, StandsSynced}
+use Rattle.marked_runs.specs.Moments.{StandsSynced}
 use Rattle.resumed_writes.specs.Tried.{Tried}
 use Rattle.resumed_writes.specs.declared.faults.StoredPerformFault.{StoredPerformFault}
 use Rattle.resumed_writes.specs.declared.faults.StoredPerformFault.TheVariants as stored
@@ -65,7 +63,3 @@ on_ok (Err e) p = tt
 -- what stands once all was made
 pub stands_by : (moment : Moment) (end : Contents) → moment.state.contents ≡ end → StandsSynced end moment → StandsSynced moment.state.contents moment
 stands_by moment end same stands = subst (λ c. StandsSynced c moment) (sym same) stands
-
--- no call at all leaves all untouched
-pub still-left : (P : Contents → Type 0) (first : Moment) → ((d : Contents) → IsUntouched first d → P d) → LeavesOnly P first.stops first.stops
-still-left P first within = leaves_only P (IsUntouched first) first first (holds_first P (IsUntouched first) first (inl refl) (λ c image. inr image)) within

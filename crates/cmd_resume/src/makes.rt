@@ -72,53 +72,6 @@ fn make<F: Tree, E: Sink>(
     }
 }
 
-// The same behind a line.
-fn make_behind<F: Tree, E: Sink>(
-    alloc: Global,
-    tree: &mut F,
-    err: &mut E,
-    line: &str,
-    target: &Path,
-    stored: StoredPlan,
-) -> Result<(), Cause>
-    requires between { (source : PathValue) × IsStoredBetween target.now source stored }
-    requires readable { IsTrue F.tells → AreReadable (F.contents tree.old) stored.plan.steps.items }
-    requires marked { IsTrue F.tells → IsMarked stored.plan.mark (F.contents tree.old) }
-    ensures carries { (out_tells : Bool) (out : Sunk) → CarriesUnseen (IsTrue F.tells)
-        (IsTrue F.tells)
-        (behind_line line.now (again_rest target.now (F.contents tree.old) stored.plan))
-        (IsBehind line.now (IsRest target.now)) out_tells E.tells (cause_of result)
-        (seen (F.contents tree.old) (F.calls tree.old) out
-        (sunk (E.written err.old) (E.failed_writes err.old)))
-        (seen (F.contents tree.new) (F.calls tree.new) out
-        (sunk (E.written err.new) (E.failed_writes err.new))) }
-    ensures resumed { IsTrue F.tells →
-        OnOk result (F.contents tree.new ≡ resumed_end (F.contents tree.old) stored.plan) }
-    ensures stops { IsTrue F.tells → LeavesOnly
-        (IsSafe stored.plan.mark (moment_of F.Tree tree.old)
-        (resumed_end (F.contents tree.old) stored.plan)) (F.stops tree.old) (F.stops tree.new) }
-    ensures again { IsTrue F.tells → (found c : Contents) →
-        IsResumable found c stored.plan (moment_of F.Tree tree.old) →
-        LeavesOnly (IsOnWayOrFinished found c stored.plan) (F.stops tree.old) (F.stops tree.new) }
-    ensures synced { IsTrue F.tells →
-        OnOk result (StandsSynced (F.contents tree.new) (moment_of F.Tree tree.new)) }
-    ensures only { IfErr result (λ e. IsTrue (is_of_files e) ⊎ (e ≡ Cause.WriteFault)) }
-    ensures changed { IsTrue F.tells → (p : PathValue) → result ≢ Err (Cause.Changed p) }
-    ensures frame { Came F.Tree tree.old tree.new }
-    ensures read_fault { IsErrOf result Cause.ReadFault →
-        Rose (F.failed_reads tree.old) (F.failed_reads tree.new) }
-    ensures write_fault { IsErrOf result Cause.WriteFault →
-        Rose (F.failed_changes tree.old) (F.failed_changes tree.new) }
-    ensures later { E.failed_writes err.old ≤ E.failed_writes err.new }
-    ensures sink_fault { IsErrOf result Cause.SinkFault →
-        Rose (E.failed_writes err.old) (E.failed_writes err.new) }
-{
-    match tell(err, line) {
-        Ok(()) => make(alloc, tree, err, target, stored),
-        Err(e) => Err(e),
-    }
-}
-
 /// Makes what is stored again, behind two lines on `err` and before the last one; with the answers of
 /// `again_cause`, and `SinkFault` where a line failed.
 pub(crate) fn make_told<F: Tree, E: Sink>(
@@ -164,8 +117,7 @@ pub(crate) fn make_told<F: Tree, E: Sink>(
     ensures sink_fault { IsErrOf result Cause.SinkFault →
         Rose (E.failed_writes err.old) (E.failed_writes err.new) }
 {
-    match tell(err, first) {
-        Ok(()) => make_behind(alloc, tree, err, second, target, stored),
-        Err(e) => Err(e),
-    }
+    tell(err, first)?;
+    tell(err, second)?;
+    make(alloc, tree, err, target, stored)
 }

@@ -19,10 +19,6 @@ use Rattle.rewind_writes.specs.Plan.{IsResumable}
 use Rattle.cmd_rewind.specs.Rewind.{IsDurable, IsLeftByRewind, IsLeftToResume}
 use Rattle.rewind_paths.proofs.BelowLemmas.{Aims, planned-aims}
 
--- no call at all leaves all untouched
-pub still-left : (first : Moment) (n : Needing) → LeavesOnly (IsLeftBy n first) first.stops first.stops
-still-left first n = leaves_only (IsLeftBy n first) (IsUntouched first) first first (holds_first (IsLeftBy n first) (IsUntouched first) first (inl refl) (λ c image. inr image)) (λ c untouched. inl untouched)
-
 module _ {F : Type 0} (tree : Ghosts F) (words : RewindWords) (now : ℤ) (a b : F) (reads : Reads tree a b) where
   -- while it looks, and where it changes nothing
   pub looks-left : LeavesOnly (IsLeftByRewind words now (moment_of tree a)) (tree.stops a) (tree.stops b)

@@ -57,47 +57,6 @@ fn make<F: Tree, E: Sink>(tree: &mut F, err: &mut E, plan: Plan) -> Result<(), C
     }
 }
 
-// The same behind a line.
-fn make_behind<F: Tree, E: Sink>(
-    tree: &mut F,
-    err: &mut E,
-    line: &str,
-    plan: Plan,
-) -> Result<(), Cause>
-    requires fit { AllAreFit plan.writes.steps.items }
-    requires planned { IsTrue F.tells → (n : Needing) × IsPlanFor (F.contents tree.old) n plan }
-    ensures performs { (out_tells : Bool) (out : Sunk) → PerformsUnseen (IsTrue F.tells)
-        out_tells E.tells (cause_of result) (λ c. Report line.now ∷ made_of plan c)
-        (seen (F.contents tree.old) (F.calls tree.old) out
-        (sunk (E.written err.old) (E.failed_writes err.old)))
-        (seen (F.contents tree.new) (F.calls tree.new) out
-        (sunk (E.written err.new) (E.failed_writes err.new))) }
-    ensures rewound { IsTrue F.tells → (n : Needing) → IsPlanFor (F.contents tree.old) n plan →
-        OnOk result (IsRewound (F.contents tree.old) n (F.contents tree.new)) }
-    ensures stops { IsTrue F.tells → (n : Needing) → IsPlanFor (F.contents tree.old) n plan →
-        LeavesOnly (IsLeftBy n (moment_of F.Tree tree.old)) (F.stops tree.old) (F.stops tree.new) }
-    ensures resumable { IsTrue F.tells → (n : Needing) → IsPlanFor (F.contents tree.old) n plan →
-        StandsSynced (F.contents tree.old) (moment_of F.Tree tree.old) → LeavesOnly
-        (IsResumable (F.contents tree.old) plan.text plan.writes) (F.stops tree.old) (F.stops tree.new) }
-    ensures synced { IsTrue F.tells → (n : Needing) → IsPlanFor (F.contents tree.old) n plan →
-        OnOk result (StandsSynced (F.contents tree.new) (moment_of F.Tree tree.new)) }
-    ensures only { IfErr result IsOfMaking }
-    ensures changed { IsTrue F.tells → (p : PathValue) → result ≢ Err (Cause.Changed p) }
-    ensures frame { Came F.Tree tree.old tree.new }
-    ensures read_fault { IsErrOf result Cause.ReadFault →
-        Rose (F.failed_reads tree.old) (F.failed_reads tree.new) }
-    ensures write_fault { IsErrOf result Cause.WriteFault →
-        Rose (F.failed_changes tree.old) (F.failed_changes tree.new) }
-    ensures later { E.failed_writes err.old ≤ E.failed_writes err.new }
-    ensures sink_fault { IsErrOf result Cause.SinkFault →
-        Rose (E.failed_writes err.old) (E.failed_writes err.new) }
-{
-    match tell(err, line) {
-        Ok(()) => make(tree, err, plan),
-        Err(e) => Err(e),
-    }
-}
-
 /// Carries out a plan, behind two lines on `err` and before the last one. All memory is taken.
 ///
 /// Answers `SinkFault` where a line failed, before the changes or behind them; `ReadFault` and
@@ -139,8 +98,7 @@ pub(crate) fn make_told<F: Tree, E: Sink>(
     ensures sink_fault { IsErrOf result Cause.SinkFault →
         Rose (E.failed_writes err.old) (E.failed_writes err.new) }
 {
-    match tell(err, first) {
-        Ok(()) => make_behind(tree, err, second, plan),
-        Err(e) => Err(e),
-    }
+    tell(err, first)?;
+    tell(err, second)?;
+    make(tree, err, plan)
 }

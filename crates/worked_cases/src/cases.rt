@@ -87,6 +87,7 @@ fn rewinds_of_clusters(rt: HostRuntime) {
     let texts = [
         NAMES,
         CLUSTERS,
+        rewinds::EXAMPLE,
         rewinds::REPORTS,
         rewinds::HISTORIES,
         rewinds::FAULTS,

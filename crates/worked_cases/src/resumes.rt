@@ -1,40 +1,13 @@
 // Rewinds that were stopped under their mark and are resumed. Positions and bytes are worked out by hand from the
 // formats, and which call of a device fails by the order of looks and changes.
 
-/// Both runs; the example pair, what stands once it is rewound by the time of the first run, and the first and
+/// Both runs; what stands once the example pair is rewound by the time of the first run, and the first and
 /// the last changes of its resume; the changes of a resume of the part `two` behind its log.
 pub(crate) const RESUMED: &str = "name first pg_rewind -D t --source-pgdata s
 name again pg_rewind -D t --source-pgdata s --resume
 name unmade pg_rewind: error: WriteFault
 name unread pg_rewind: error: ReadFault
 name dry pg_rewind -D t --source-pgdata s --resume -n
-part example
-control $target
-folder t/base
-folder t/base/5
-zeros t/base/5/16384 24576
-put t/base/5/16384 8192 AA
-put t/base/5/16384 16384 A2
-file t/base/5/PG_VERSION 31360A
-folder t/pg_wal
-log t/pg_wal
-record $checkpoint
-record $insert
-record $second
-end
-control $source
-folder s/base
-folder s/base/5
-zeros s/base/5/16384 24576
-put s/base/5/16384 8192 BB
-put s/base/5/16384 16384 B2
-file s/base/5/PG_VERSION 31360A
-folder s/pg_wal
-zeros s/pg_wal/000000010000000000000001 1048576
-file $promoted
-zeros s/pg_wal/000000020000000000000001 1048576
-put s/pg_wal/000000020000000000000001 1048575 5A
-whole
 part lines
 err $parted
 err $rewinding

@@ -3,31 +3,7 @@
 
 // What is changed, call by call, and what stands there then.
 pub(crate) const MADE: &str = "case the example pair
-control $target
-folder t/base
-folder t/base/5
-zeros t/base/5/16384 24576
-put t/base/5/16384 8192 AA
-put t/base/5/16384 16384 A2
-file t/base/5/PG_VERSION 31360A
-folder t/pg_wal
-log t/pg_wal
-record $checkpoint
-record $insert
-record $second
-end
-control $source
-folder s/base
-folder s/base/5
-zeros s/base/5/16384 24576
-put s/base/5/16384 8192 BB
-put s/base/5/16384 16384 B2
-file s/base/5/PG_VERSION 31360A
-folder s/pg_wal
-zeros s/pg_wal/000000010000000000000001 1048576
-file $promoted
-zeros s/pg_wal/000000020000000000000001 1048576
-put s/pg_wal/000000020000000000000001 1048575 5A
+take example
 run pg_rewind -D t --source-pgdata s -n
 err $parted
 err $rewinding

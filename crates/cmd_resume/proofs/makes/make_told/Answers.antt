@@ -1,32 +1,42 @@
-use Rattle.std.proofs.Common.{inl, refl}
+use Rattle.std.proofs.Common.{◌∙◌, ap, refl}
+use Rattle.std.proofs.lemmas.Result.{err_from_is_err_and}
 use Rattle.cluster_tree.specs.Frame.{moment_of}
-use Rattle.marked_runs.specs.Moments.{IsSafe}
 use Rattle.resumed_laws.specs.Resumed.{resumed_changes}
-use Rattle.resumed_writes.specs.Again.{resumed_end}
 use Rattle.stored_laws.proofs.PlanLemmas.{stored-of_target}
+use Rattle.run_acts.specs.Causes.{cause_of}
 use Rattle.cmd_resume.specs.Rests.{again_rest}
 use Rattle.cmd_resume.proofs.CarryLemmas.{rest-form}
-use Rattle.cmd_resume.proofs.MakeLemmas.{still-left}
 use Rattle.cmd_resume.proofs.ResumeLemmas.{still-again}
 use Rattle.cmd_resume.proofs.RestLemmas.{unseen_line, unseen_line_broken}
 use Rattle.cmd_resume.proofs.makes.make_told.Goals as goal
 
-pub returns-in-Ok-clause-carries : goal.returns-in-Ok-clause-carries
-returns-in-Ok-clause-carries g c out_tells out = unseen_line c.in-Ok.ensures.whole refl (c.make_behind.ensures.carries out_tells out)
+pub returns-clause-carries : goal.returns-clause-carries
+returns-clause-carries g c out_tells out =
+    unseen_line c.in_ok-tell.ensures.whole refl (unseen_line c.in_ok-tell-2.ensures.whole refl (c.make.ensures.carries out_tells out))
 
-pub returns-in-Err-clause-carries : goal.returns-in-Err-clause-carries
-returns-in-Err-clause-carries g c out_tells out =
+pub returns-in_err-tell-clause-carries : goal.returns-in_err-tell-clause-carries
+returns-in_err-tell-clause-carries g c out_tells out =
     let contents = g.F.Tree.contents c.args.tree.now in
     let stored = c.args.stored in
     let target = c.args.target.now in
-    unseen_line_broken
+    let why = err_from_is_err_and c.from_residual.result c.from_residual.ensures.1 in
+    unseen_line_broken {ended = cause_of c.from_residual.result}
     (again_rest target contents stored.plan, rest-form target contents (resumed_changes contents stored.plan) (stored-of_target contents target c.requires.between.0 stored c.requires.between.1), refl)
-    c.in-Err.ensures.part refl c.in-Err.ensures.only
+    c.in_err-tell.ensures.part refl (ap cause_of why.1 ∙ why.2 ∙ c.in_err-tell.ensures.only)
 
-pub returns-in-Err-clause-stops : goal.returns-in-Err-clause-stops
-returns-in-Err-clause-stops g c told =
-    let first = moment_of g.F.Tree c.args.tree.now in
-    still-left (IsSafe c.args.stored.plan.mark first (resumed_end (g.F.Tree.contents c.args.tree.now) c.args.stored.plan)) first (λ d untouched. inl untouched)
+pub returns-in_err-tell-2-clause-carries : goal.returns-in_err-tell-2-clause-carries
+returns-in_err-tell-2-clause-carries g c out_tells out =
+    let contents = g.F.Tree.contents c.args.tree.now in
+    let stored = c.args.stored in
+    let target = c.args.target.now in
+    let why = err_from_is_err_and c.from_residual-in_err-tell-2.result c.from_residual-in_err-tell-2.ensures.1 in
+    unseen_line c.in_ok-tell.ensures.whole refl
+    (unseen_line_broken {ended = cause_of c.from_residual-in_err-tell-2.result}
+    (rest-form target contents (resumed_changes contents stored.plan) (stored-of_target contents target c.requires.between.0 stored c.requires.between.1))
+    c.in_err-tell-2.ensures.part refl (ap cause_of why.1 ∙ why.2 ∙ c.in_err-tell-2.ensures.only))
 
-pub returns-in-Err-clause-again : goal.returns-in-Err-clause-again
-returns-in-Err-clause-again g c told found e may = still-again found e c.args.stored.plan (moment_of g.F.Tree c.args.tree.now) may
+pub returns-in_err-tell-clause-again : goal.returns-in_err-tell-clause-again
+returns-in_err-tell-clause-again g c told found e may = still-again found e c.args.stored.plan (moment_of g.F.Tree c.args.tree.now) may
+
+pub returns-in_err-tell-2-clause-again : goal.returns-in_err-tell-2-clause-again
+returns-in_err-tell-2-clause-again g c told found e may = still-again found e c.args.stored.plan (moment_of g.F.Tree c.args.tree.now) may
