@@ -1,10 +1,11 @@
 -- That what a stopped rewind leaves can be resumed, from the words on.
-use Rattle.std.proofs.Common.{◌≡◌, ℤ, inl, None, Ok, subst, sym}
+use Rattle.std.proofs.Common.{◌≡◌, ℤ, inl, None, Result, Ok, subst, sym}
 use Rattle.cluster_tree.specs.Contents.{Contents}
 use Rattle.cluster_tree.specs.Run.{Moment}
 use Rattle.cluster_tree.specs.Stops.{LeavesOnly, Stops}
 use Rattle.commands.specs.declared.command.Command.{Command}
 use Rattle.commands.specs.declared.command.Command.TheVariants as command
+use Rattle.commands.specs.declared.fault.CommandFault.{CommandFault}
 use Rattle.commands.specs.declared.rewind.RewindWords.{RewindWords}
 use Rattle.cluster_tree.specs.PathValue.{PathValue}
 use Rattle.marked_runs.specs.Moments.{StandsSynced}
@@ -21,14 +22,14 @@ resumable_at words c a b same left = subst (λ x. LeavesOnly (IsLeftToResume wor
 
 -- of pg_rewind
 pub resumable_rewind : {k : Command} {words : RewindWords} {n m : ℤ} (c : Contents) (a b : Stops) → k ≡ command.Rewind words → n ≡ m → LeavesOnly (IsLeftToResume words n c) a b
-    → (rewind : RewindWords) → k ≡ command.Rewind rewind → LeavesOnly (IsLeftToResume rewind m c) a b
+    → (rewind : RewindWords) → ◌≡◌ {A = Result Command CommandFault} (Ok k) (Ok (command.Rewind rewind)) → LeavesOnly (IsLeftToResume rewind m c) a b
 resumable_rewind {k} {words} {n} {m} c a b is same left rewind asked =
     let own : words ≡ rewind = cc (is, asked) in
     subst (λ w. LeavesOnly (IsLeftToResume w m c) a b) own (resumable_at words c a b same left)
 
 -- and of its resume
 pub resumable_resume : {k : Command} {words : RewindWords} {n m : ℤ} (c : Contents) (a b : Stops) → k ≡ command.Resume words → n ≡ m → (stored_of c words.target words.source ≡ Ok None → LeavesOnly (IsLeftToResume words n c) a b)
-    → (resume : RewindWords) → k ≡ command.Resume resume → stored_of c resume.target resume.source ≡ Ok None → LeavesOnly (IsLeftToResume resume m c) a b
+    → (resume : RewindWords) → ◌≡◌ {A = Result Command CommandFault} (Ok k) (Ok (command.Resume resume)) → stored_of c resume.target resume.source ≡ Ok None → LeavesOnly (IsLeftToResume resume m c) a b
 resumable_resume {k} {words} {n} {m} c a b is same left resume asked none =
     let own : words ≡ resume = cc (is, asked) in
     subst (λ w. LeavesOnly (IsLeftToResume w m c) a b) own (resumable_at words c a b same (left (subst (λ (w : RewindWords). stored_of c w.target w.source ≡ Ok None) (sym own) none)))
@@ -40,7 +41,7 @@ resumable_still words now c first stands = still-same (IsLeftToResume words now 
 -- of a resume of a rewind that was stopped
 pub again_resume : {k : Command} {words : RewindWords} (i : Contents) (a b : Stops) → k ≡ command.Resume words
     → ((c : Contents) (before : ℤ) (n : Needing) (plan : Plan) → IsStopped c words.target words.source before n plan i → LeavesOnly (IsStoppedAgain c words.target words.source before n plan) a b)
-    → (resume : RewindWords) → k ≡ command.Resume resume → (c : Contents) (before : ℤ) (n : Needing) (plan : Plan) → IsStopped c resume.target resume.source before n plan i
+    → (resume : RewindWords) → ◌≡◌ {A = Result Command CommandFault} (Ok k) (Ok (command.Resume resume)) → (c : Contents) (before : ℤ) (n : Needing) (plan : Plan) → IsStopped c resume.target resume.source before n plan i
     → LeavesOnly (IsStoppedAgain c resume.target resume.source before n plan) a b
 again_resume {k} {words} i a b is left resume asked =
     let own : words ≡ resume = cc (is, asked) in

@@ -5,3 +5,4 @@ pub mod Resumed
 pub mod Converges
 pub mod Runs
 pub mod Stopped
+pub mod Resumable

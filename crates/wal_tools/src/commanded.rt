@@ -1,23 +1,16 @@
 // A command, carried out.
-ghost use Rattle.std.specs.Prelude.{◌≡◌, ◌≢◌, ◌⊎◌, ℤ, Err, IfErr, IsTrue, None, Ok, OnOk, Some};
-ghost use Rattle.cluster_tree.specs.Contents.{Contents};
+ghost use Rattle.std.specs.Prelude.{◌≡◌, ◌≢◌, ◌⊎◌, Err, IfErr, IsTrue, Ok, OnOk, Some};
 ghost use Rattle.cluster_tree.specs.Frame.{Came, Reads, moment_of};
 ghost use Rattle.cluster_tree.specs.PathValue.{PathValue};
 ghost use Rattle.cluster_tree.specs.Stops.{LeavesOnly};
 ghost use Rattle.commands.specs.Fit.{IsFit};
-ghost use Rattle.commands.specs.declared.rewind.RewindWords.{RewindWords};
-ghost use Rattle.cmd_rewind.specs.Rewind.{IsLeftToResume};
-ghost use Rattle.marked_runs.specs.Moments.{StandsSynced};
-ghost use Rattle.resume_core.specs.Stored.{stored_of};
-ghost use Rattle.rewind_core.specs.Planned.{Needing};
-ghost use Rattle.rewind_core.specs.declared.outcome.Plan.{Plan};
-ghost use Rattle.stored_laws.specs.Laws.{IsStopped, IsStoppedAgain};
 ghost use Rattle.acts.specs.Acts.{seen, sunk};
 ghost use Rattle.run_acts.specs.Answers.{Blames};
 ghost use Rattle.run_acts.specs.Causes.{cause_of, is_deep, is_of_files};
 ghost use Rattle.run_acts.specs.Unseen.{CarriesUnseen};
 ghost use Rattle.wal_tools.specs.Answers.{IsAnswer, answered};
 ghost use Rattle.wal_tools.specs.Leaves.{LeavesAsked, StaysAsked};
+ghost use Rattle.wal_tools.specs.Resumable.{LeavesFresh, LeavesStopped, LeavesToResume};
 ghost use Rattle.wal_tools.specs.Stopped.{IsDurableAsked, IsLeftAsked};
 ghost use Rattle.wal_tools.specs.Words.{AreFaulty, IsSeen, MayChange, NeedsNoTree, Walks, refused_by_words};
 
@@ -77,24 +70,10 @@ pub(crate) fn carry_out<F: Tree, O: Sink, E: Sink>(
     ensures stops { IsTrue F.tells →
         LeavesOnly (IsLeftAsked (Ok command.now) now (moment_of F.Tree tree.old))
         (F.stops tree.old) (F.stops tree.new) }
-    ensures resumable { IsTrue F.tells → (rewind : RewindWords) →
-        command.now ≡ Command.Rewind rewind →
-        StandsSynced (F.contents tree.old) (moment_of F.Tree tree.old) →
-        LeavesOnly (IsLeftToResume rewind now (F.contents tree.old))
-        (F.stops tree.old) (F.stops tree.new) }
-    ensures fresh { IsTrue F.tells → (resume : RewindWords) →
-        command.now ≡ Command.Resume resume →
-        stored_of (F.contents tree.old) resume.target resume.source ≡ Ok None →
-        StandsSynced (F.contents tree.old) (moment_of F.Tree tree.old) →
-        LeavesOnly (IsLeftToResume resume now (F.contents tree.old))
-        (F.stops tree.old) (F.stops tree.new) }
-    ensures again { IsTrue F.tells → (resume : RewindWords) →
-        command.now ≡ Command.Resume resume →
-        (c : Contents) (before : ℤ) (n : Needing) (plan : Plan) →
-        IsStopped c resume.target resume.source before n plan (F.contents tree.old) →
-        StandsSynced (F.contents tree.old) (moment_of F.Tree tree.old) →
-        LeavesOnly (IsStoppedAgain c resume.target resume.source before n plan)
-        (F.stops tree.old) (F.stops tree.new) }
+    ensures resumable { IsTrue F.tells →
+        LeavesToResume F.Tree (Ok command.now) now tree.old tree.new }
+    ensures fresh { IsTrue F.tells → LeavesFresh F.Tree (Ok command.now) now tree.old tree.new }
+    ensures again { IsTrue F.tells → LeavesStopped F.Tree (Ok command.now) tree.old tree.new }
     ensures durable { IsTrue F.tells → OnOk result (IsDurableAsked
         (Ok command.now) now (F.contents tree.old) (moment_of F.Tree tree.new)) }
 {

@@ -1,17 +1,9 @@
 // The top call.
-ghost use Rattle.std.specs.Prelude.{◌≡◌, ◌≢◌, ◌⊎◌, ℤ, Err, IsTrue, None, Ok, OnOk, Some, map, string_bytes};
-ghost use Rattle.cluster_tree.specs.Contents.{Contents};
+ghost use Rattle.std.specs.Prelude.{◌≡◌, ◌≢◌, ◌⊎◌, Err, IsTrue, None, OnOk, Some, map, string_bytes};
 ghost use Rattle.cluster_tree.specs.Frame.{Came, Reads, moment_of};
 ghost use Rattle.cluster_tree.specs.PathValue.{PathValue};
 ghost use Rattle.cluster_tree.specs.Stops.{LeavesOnly};
 ghost use Rattle.commands.specs.Name.{name_of};
-ghost use Rattle.commands.specs.declared.rewind.RewindWords.{RewindWords};
-ghost use Rattle.cmd_rewind.specs.Rewind.{IsLeftToResume};
-ghost use Rattle.marked_runs.specs.Moments.{StandsSynced};
-ghost use Rattle.resume_core.specs.Stored.{stored_of};
-ghost use Rattle.rewind_core.specs.Planned.{Needing};
-ghost use Rattle.rewind_core.specs.declared.outcome.Plan.{Plan};
-ghost use Rattle.stored_laws.specs.Laws.{IsStopped, IsStoppedAgain};
 ghost use Rattle.tool_words.specs.Command.{command_of};
 ghost use Rattle.acts.specs.Acts.{seen, sunk};
 ghost use Rattle.run_acts.specs.Answers.{Blames, cause_in};
@@ -22,6 +14,7 @@ ghost use Rattle.wal_tools.specs.Answers.{IsAnswer, answered};
 ghost use Rattle.wal_tools.specs.Converges.{ConvergesAsked};
 ghost use Rattle.wal_tools.specs.Leaves.{LeavesAsked, StaysAsked};
 ghost use Rattle.wal_tools.specs.Runs.{Runs};
+ghost use Rattle.wal_tools.specs.Resumable.{LeavesFresh, LeavesStopped, LeavesToResume};
 ghost use Rattle.wal_tools.specs.Stopped.{IsDurableAsked, IsLeftAsked};
 ghost use Rattle.wal_tools.specs.Words.{AreFaulty, IsSeen, MayChange, NeedsNoTree, Walks, refused_by_words};
 
@@ -29,7 +22,7 @@ use crate::commanded::carry_out;
 use crate::ending::finish;
 use crate::words::{command_of, words_cause};
 use cluster_tree::{Sink, Tree};
-use commands::{Command, CommandFault, name_of};
+use commands::{CommandFault, name_of};
 use run_acts::{Cause, Exit, PathCause};
 use std::alloc::Global;
 
@@ -80,24 +73,12 @@ fn answer<F: Tree, O: Sink, E: Sink>(
     ensures stops { IsTrue F.tells → LeavesOnly (IsLeftAsked
         (command_of (map string_bytes words.now)) now (moment_of F.Tree tree.old))
         (F.stops tree.old) (F.stops tree.new) }
-    ensures resumable { IsTrue F.tells → (rewind : RewindWords) →
-        command_of (map string_bytes words.now) ≡ Ok (Command.Rewind rewind) →
-        StandsSynced (F.contents tree.old) (moment_of F.Tree tree.old) →
-        LeavesOnly (IsLeftToResume rewind now (F.contents tree.old))
-        (F.stops tree.old) (F.stops tree.new) }
-    ensures fresh { IsTrue F.tells → (resume : RewindWords) →
-        command_of (map string_bytes words.now) ≡ Ok (Command.Resume resume) →
-        stored_of (F.contents tree.old) resume.target resume.source ≡ Ok None →
-        StandsSynced (F.contents tree.old) (moment_of F.Tree tree.old) →
-        LeavesOnly (IsLeftToResume resume now (F.contents tree.old))
-        (F.stops tree.old) (F.stops tree.new) }
-    ensures again { IsTrue F.tells → (resume : RewindWords) →
-        command_of (map string_bytes words.now) ≡ Ok (Command.Resume resume) →
-        (c : Contents) (before : ℤ) (n : Needing) (plan : Plan) →
-        IsStopped c resume.target resume.source before n plan (F.contents tree.old) →
-        StandsSynced (F.contents tree.old) (moment_of F.Tree tree.old) →
-        LeavesOnly (IsStoppedAgain c resume.target resume.source before n plan)
-        (F.stops tree.old) (F.stops tree.new) }
+    ensures resumable { IsTrue F.tells → LeavesToResume F.Tree
+        (command_of (map string_bytes words.now)) now tree.old tree.new }
+    ensures fresh { IsTrue F.tells → LeavesFresh F.Tree
+        (command_of (map string_bytes words.now)) now tree.old tree.new }
+    ensures again { IsTrue F.tells → LeavesStopped F.Tree
+        (command_of (map string_bytes words.now)) tree.old tree.new }
     ensures durable { IsTrue F.tells → OnOk result (IsDurableAsked
         (command_of (map string_bytes words.now)) now (F.contents tree.old)
         (moment_of F.Tree tree.new)) }
@@ -181,27 +162,15 @@ pub fn run<F: Tree, O: Sink, E: Sink>(
         (F.stops tree.old) (F.stops tree.new) }
     // a rewind that begins on synced contents leaves these at any stop, or what a plan of just what is
     // needed left, which a resume completes where its mark reads as complete
-    ensures resumable { IsTrue F.tells → (rewind : RewindWords) →
-        command_of (map string_bytes words.now) ≡ Ok (Command.Rewind rewind) →
-        StandsSynced (F.contents tree.old) (moment_of F.Tree tree.old) →
-        LeavesOnly (IsLeftToResume rewind now (F.contents tree.old))
-        (F.stops tree.old) (F.stops tree.new) }
+    ensures resumable { IsTrue F.tells → LeavesToResume F.Tree
+        (command_of (map string_bytes words.now)) now tree.old tree.new }
     // so does a resume where no complete mark stands
-    ensures fresh { IsTrue F.tells → (resume : RewindWords) →
-        command_of (map string_bytes words.now) ≡ Ok (Command.Resume resume) →
-        stored_of (F.contents tree.old) resume.target resume.source ≡ Ok None →
-        StandsSynced (F.contents tree.old) (moment_of F.Tree tree.old) →
-        LeavesOnly (IsLeftToResume resume now (F.contents tree.old))
-        (F.stops tree.old) (F.stops tree.new) }
+    ensures fresh { IsTrue F.tells → LeavesFresh F.Tree
+        (command_of (map string_bytes words.now)) now tree.old tree.new }
     // and a resume of a rewind that was stopped, from synced contents on, leaves that rewind, stopped again,
     // or the rewound tree
-    ensures again { IsTrue F.tells → (resume : RewindWords) →
-        command_of (map string_bytes words.now) ≡ Ok (Command.Resume resume) →
-        (c : Contents) (before : ℤ) (n : Needing) (plan : Plan) →
-        IsStopped c resume.target resume.source before n plan (F.contents tree.old) →
-        StandsSynced (F.contents tree.old) (moment_of F.Tree tree.old) →
-        LeavesOnly (IsStoppedAgain c resume.target resume.source before n plan)
-        (F.stops tree.old) (F.stops tree.new) }
+    ensures again { IsTrue F.tells → LeavesStopped F.Tree
+        (command_of (map string_bytes words.now)) tree.old tree.new }
     // and once it is done, what stands
     ensures durable { IsTrue F.tells → result.cause ≡ Cause.Done → IsDurableAsked
         (command_of (map string_bytes words.now)) now (F.contents tree.old)

@@ -1,7 +1,6 @@
-use Rattle.std.proofs.Common.{◌≡◌, FitsSigned, Ok, map, rules, string_bytes, subst, w64}
+use Rattle.std.proofs.Common.{◌∙◌, FitsSigned, Ok, map, rules, string_bytes, subst, sym, w64}
 use Rattle.std.proofs.lemmas.Int.{to_z-of_z}
 use Rattle.cluster_tree.specs.Frame.{moment_of}
-use Rattle.commands.specs.declared.command.Command.TheVariants as command
 use Rattle.tool_words.specs.Command.{command_of}
 use Rattle.wal_tools.specs.Words.{MayChange}
 use Rattle.wal_tools.proofs.RunLemmas.{at_time, no_words, of_command, stays_refused, stays_unmade, words_refused}
@@ -51,7 +50,7 @@ returns-in-Ok-clause-reads g c unmade = c.carry_out.ensures.reads (subst (λ ask
 pub returns-in-Ok-clause-resumable : goal.returns-in-Ok-clause-resumable
 returns-in-Ok-clause-resumable g c t rewind asked stands =
     let fits : FitsSigned w64 c.args.now = search rules in
-    let is : c.in-Ok.command ≡ command.Rewind rewind = cc (c.in-Ok.ensures.answer, asked) in
+    let is = sym c.in-Ok.ensures.answer ∙ asked in
     resumable_at rewind (g.F.Tree.contents c.args.tree.now) (g.F.Tree.stops c.args.tree.now) (g.F.Tree.stops c.carry_out.new.tree) (to_z-of_z w64 c.args.now fits) (c.carry_out.ensures.resumable t rewind is stands)
 
 pub returns-in-Err-OutOfMemory-clause-resumable : goal.returns-in-Err-OutOfMemory-clause-resumable
@@ -63,7 +62,7 @@ returns-in-Err-clause-resumable g c t rewind asked stands = resumable_still rewi
 pub returns-in-Ok-clause-fresh : goal.returns-in-Ok-clause-fresh
 returns-in-Ok-clause-fresh g c t resume asked none stands =
     let fits : FitsSigned w64 c.args.now = search rules in
-    let is : c.in-Ok.command ≡ command.Resume resume = cc (c.in-Ok.ensures.answer, asked) in
+    let is = sym c.in-Ok.ensures.answer ∙ asked in
     resumable_at resume (g.F.Tree.contents c.args.tree.now) (g.F.Tree.stops c.args.tree.now) (g.F.Tree.stops c.carry_out.new.tree) (to_z-of_z w64 c.args.now fits) (c.carry_out.ensures.fresh t resume is none stands)
 
 pub returns-in-Err-OutOfMemory-clause-fresh : goal.returns-in-Err-OutOfMemory-clause-fresh
@@ -74,7 +73,7 @@ returns-in-Err-clause-fresh g c t resume asked none stands = resumable_still res
 
 pub returns-in-Ok-clause-again : goal.returns-in-Ok-clause-again
 returns-in-Ok-clause-again g c t resume asked first before n plan stop stands =
-    let is : c.in-Ok.command ≡ command.Resume resume = cc (c.in-Ok.ensures.answer, asked) in
+    let is = sym c.in-Ok.ensures.answer ∙ asked in
     c.carry_out.ensures.again t resume is first before n plan stop stands
 
 pub returns-in-Err-OutOfMemory-clause-again : goal.returns-in-Err-OutOfMemory-clause-again
