@@ -1,8 +1,9 @@
 //! Pages before redo, and what it changed.
-use crate::texts::{byte, bytes_of, cut_at, number};
+use crate::fault::RowFault;
+use crate::texts::{byte, bytes_of, cut_at, narrow, number};
 use crate::trees::zero_page;
-use page_layout::{Line, Page, RedoWhy};
-use std::process::Abort;
+use page_layout::{Line, Page, PageRefusal, RedoWhy};
+use std::alloc::{AllocError, Global};
 
 /// xmin 600, xmax 7, command id 9, an address with the mark of a speculative insertion, infomask2
 /// 4001, infomask DD22, hoff 24, and a value of eight bytes.
@@ -20,126 +21,111 @@ fn index_tuple(n: u8) -> [u8; 16] {
 }
 
 /// A place on a page.
-fn place<R: Abort>(rt: &R, text: &str) -> u16 {
-    u16::try_from(number(rt, text)).expect(rt, "no place")
+fn place(text: &str) -> Result<u16, RowFault> {
+    narrow(text)
 }
 
 /// Adds an item behind the others.
-fn add<R: Abort>(rt: &R, page: &mut Page, item: &[u8]) {
-    let count = page.count().expect(rt, "no page");
-    page.add_item(item, count.saturating_add(1), true)
-        .expect(rt, "no room");
+fn add(page: &mut Page, item: &[u8]) -> Result<(), RowFault> {
+    let count = page.count().ok_or(PageRefusal::BadPage)?;
+    page.add_item(item, count.saturating_add(1), true)?;
+    Ok(())
 }
 
 /// Lays bytes over those of the page.
-fn lay<R: Abort>(rt: &R, page: &mut [u8], at: usize, bytes: &[u8]) {
-    assert!(rt;
-        at <= page.len() && bytes.len() <= page.len() - at,
-        "past the page"
-    );
+fn lay(page: &mut [u8], at: usize, bytes: &[u8]) -> Result<(), RowFault> {
+    if at > page.len() || bytes.len() > page.len() - at {
+        return Err(RowFault::PastTheEnd);
+    }
     page[at..at + bytes.len()].copy_from_slice(bytes);
-}
-
-/// Sets a line.
-fn set<R: Abort>(rt: &R, page: &mut Page, place: u16, line: Line) {
-    page.set_line(place, line).expect(rt, "no line");
+    Ok(())
 }
 
 /// Adds dead lines up to so many.
-fn add_lines<R: Abort>(rt: &R, page: &mut Page, lines: u16) {
+fn add_lines(page: &mut Page, lines: u16) -> Result<(), RowFault> {
     for place in 1..lines.saturating_add(1) {
         if page.line(place).is_none() {
             let lower = 24 + 4 * u32::from(place);
-            lay(rt, page.bytes_mut(), 12, &lower.to_le_bytes()[..2]);
-            set(rt, page, place, Line::Dead { at: 0, len: 0 });
+            lay(page.bytes_mut(), 12, &lower.to_le_bytes()[..2])?;
+            page.set_line(place, Line::Dead { at: 0, len: 0 })?;
         }
     }
+    Ok(())
 }
 
 /// What a line becomes by a command.
-fn line_of<R: Abort>(rt: &R, verb: &str, to: &str) -> Line {
+fn line_of(verb: &str, to: &str) -> Result<Line, RowFault> {
     match verb {
-        "unused" => Line::Unused,
-        "dead" => Line::Dead { at: 0, len: 0 },
-        "redirect" => Line::Redirect(place(rt, to)),
-        _ => rt.panic("no such command"),
+        "unused" => Ok(Line::Unused),
+        "dead" => Ok(Line::Dead { at: 0, len: 0 }),
+        "redirect" => Ok(Line::Redirect(place(to)?)),
+        _ => Err(RowFault::NotACommand),
     }
 }
 
 /// One command: what it does to the page.
-fn change<R: AllocGlobal + Abort>(rt: &R, page: &mut Page, command: &str) {
+fn change(alloc: Global, page: &mut Page, command: &str) -> Result<(), RowFault> {
     let (verb, words) = cut_at(command, " ");
     let (first, second) = cut_at(words, " ");
     match verb {
         "zeros" => {}
-        "empty" => page.init(0).expect(rt, "no page"),
-        "index" => page.init(16).expect(rt, "no page"),
-        "tuple" => add(rt, page, &TUPLE),
-        "key" => add(rt, page, &index_tuple(byte(rt, first))),
-        "add" => add(rt, page, &bytes_of(rt, first)),
-        "at" => lay(
-            rt,
-            page.bytes_mut(),
-            number(rt, first) as usize,
-            &bytes_of(rt, second),
-        ),
-        "lines" => add_lines(rt, page, place(rt, first)),
-        _ => set(rt, page, place(rt, first), line_of(rt, verb, second)),
+        "empty" => page.init(0)?,
+        "index" => page.init(16)?,
+        "tuple" => add(page, &TUPLE)?,
+        "key" => add(page, &index_tuple(byte(first)?))?,
+        "add" => add(page, &bytes_of(alloc, first)?)?,
+        "at" => {
+            let bytes = bytes_of(alloc, second)?;
+            lay(page.bytes_mut(), number(first)? as usize, &bytes)?;
+        }
+        "lines" => add_lines(page, place(first)?)?,
+        _ => page.set_line(place(first)?, line_of(verb, second)?)?,
     }
-}
-
-/// What all commands do to the page.
-fn change_all<R: AllocGlobal + Abort>(rt: &R, page: &mut Page, commands: &str) {
-    for command in commands.split(", ") {
-        change(rt, page, command);
-    }
+    Ok(())
 }
 
 /// The page that commands make.
-pub(crate) fn made<R: AllocGlobal + Abort>(rt: &R, commands: &str) -> Page {
-    let mut page = zero_page(rt);
-    change_all(rt, &mut page, commands);
-    page
+pub(crate) fn made(alloc: Global, commands: &str) -> Result<Page, RowFault> {
+    let mut page = zero_page(alloc)?;
+    for command in commands.split(", ") {
+        change(alloc, &mut page, command)?;
+    }
+    Ok(page)
 }
 
 /// Adds a byte to the runs, and where its run begins.
-fn add_byte<R: Abort>(rt: &R, runs: &mut String, at: usize, byte: u8, begins: bool) {
+fn add_byte(runs: &mut String, at: usize, byte: u8, begins: bool) -> Result<(), AllocError> {
     if begins {
         let gap = if runs.is_empty() { "" } else { " " };
-        write!(runs, "{gap}{at} ").expect(rt, "no memory");
+        write!(runs, "{gap}{at} ")?;
     }
-    write!(runs, "{byte:02X}").expect(rt, "no memory");
+    write!(runs, "{byte:02X}")
 }
 
-/// Adds each run of bytes of the second page that differ.
-fn add_runs<R: Abort>(rt: &R, runs: &mut String, old: &[u8], new: &[u8]) {
+/// Each run of bytes that differ: where it begins, and its bytes in the second page.
+pub(crate) fn changes(alloc: Global, old: &[u8], new: &[u8]) -> Result<String, RowFault> {
+    let mut runs = String::new(alloc);
     let mut running = false;
     for (at, &byte) in new.iter().enumerate() {
         let differs = old.get(at) != Some(&byte);
         if differs {
-            add_byte(rt, runs, at, byte, !running);
+            add_byte(&mut runs, at, byte, !running)?;
         }
         running = differs;
     }
-}
-
-/// Each run of bytes that differ: where it begins, and its bytes in the second page.
-pub(crate) fn changes<R: AllocGlobal + Abort>(rt: &R, old: &[u8], new: &[u8]) -> String {
-    let mut runs = String::new(rt.alloc());
-    add_runs(rt, &mut runs, old, new);
-    runs
+    Ok(runs)
 }
 
 /// What redo says of a page, and what it left of the page.
-pub(crate) fn left<R: AllocGlobal + Abort>(
-    rt: &R,
+pub(crate) fn left(
+    alloc: Global,
     answer: Result<(), RedoWhy>,
     before: &Page,
     page: &Page,
-) -> String {
-    let left = changes(rt, before.bytes(), page.bytes());
+) -> Result<String, RowFault> {
+    let left = changes(alloc, before.bytes(), page.bytes())?;
     match answer {
-        Ok(()) => left,
-        Err(why) => format!(in rt.alloc(); "{why:?}{left}").expect(rt, "no memory"),
+        Ok(()) => Ok(left),
+        Err(why) => Ok(format!(in alloc; "{why:?}{left}")?),
     }
 }

@@ -1,53 +1,34 @@
 //! Which records replay takes, and which of their layouts are short.
-mod fields;
-mod operations;
-mod references;
-mod short;
-
+use crate::fault::RowFault;
 use crate::logs::START;
-use crate::rows::{Rows, check};
 use crate::texts::owned;
 use block_refs::{Parts, split_record};
 use replay_profile::{ProfileFault, is_short, judge};
-use std::process::Abort;
+use std::alloc::Global;
 use wal_records::Record;
 
 /// What `judge` says of a record.
-pub(crate) fn judged<R: AllocGlobal + Abort>(rt: &R, rec: &Record) -> String {
+pub(crate) fn judged(alloc: Global, rec: &Record) -> Result<String, RowFault> {
     let mut parts = Parts::new();
     match judge(rec, &mut parts) {
-        Ok(()) => owned(rt, "in"),
+        Ok(()) => owned(alloc, "in"),
         Err(fault) => {
             let header = rec.header();
             if fault == ProfileFault::NotInProfile(START, header.manager, header.info) {
-                owned(rt, "outside")
+                owned(alloc, "outside")
             } else {
-                format!(in rt.alloc(); "{fault:?}").expect(rt, "no memory")
+                Ok(format!(in alloc; "{fault:?}")?)
             }
         }
     }
 }
 
 /// Whether a record is short.
-pub(crate) fn measured<R: Abort>(rt: &R, rec: &Record) -> &'static str {
-    let parts = split_record(rec).expect(rt, "no parts");
+pub(crate) fn measured(rec: &Record) -> Result<&'static str, RowFault> {
+    let parts = split_record(rec)?;
     if is_short(rec, &parts) {
-        "short"
+        Ok("short")
     } else {
-        "whole"
+        Ok("whole")
     }
-}
-
-#[test]
-fn replay_takes_the_records_that_it_knows(rt: HostRuntime) {
-    check(
-        &rt,
-        Rows::Record,
-        &[
-            fields::FIELDS,
-            operations::OPERATIONS,
-            references::REFERENCES,
-            short::LENGTHS,
-        ],
-    );
 }

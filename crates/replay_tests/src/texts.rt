@@ -1,5 +1,6 @@
 //! The words of rows.
-use std::process::Abort;
+use crate::fault::RowFault;
+use std::alloc::Global;
 use wal_base::decimal_u32;
 
 /// What stands before a mark, and what behind it.
@@ -21,47 +22,58 @@ pub(crate) fn undashed(text: &str) -> &str {
 }
 
 /// A text of one's own.
-pub(crate) fn owned<R: AllocGlobal + Abort>(rt: &R, text: &str) -> String {
-    String::from_str(rt.alloc(), text).expect(rt, "no memory")
+pub(crate) fn owned(alloc: Global, text: &str) -> Result<String, RowFault> {
+    Ok(String::from_str(alloc, text)?)
 }
 
 /// A number below 2^32.
-pub(crate) fn number<R: Abort>(rt: &R, text: &str) -> u32 {
-    decimal_u32(text.as_bytes()).expect(rt, "no number")
+pub(crate) fn number(text: &str) -> Result<u32, RowFault> {
+    decimal_u32(text.as_bytes()).ok_or(RowFault::NotANumber)
 }
 
 /// A size or an offset below 2^32.
-pub(crate) fn long<R: Abort>(rt: &R, text: &str) -> u64 {
-    u64::from(number(rt, text))
+pub(crate) fn long(text: &str) -> Result<u64, RowFault> {
+    Ok(u64::from(number(text)?))
+}
+
+/// A number of a narrower type.
+pub(crate) fn narrow<N: TryFrom<u32>>(text: &str) -> Result<N, RowFault>
+where
+    <N as TryFrom<u32>>::Error: Drop,
+{
+    match N::try_from(number(text)?) {
+        Ok(number) => Ok(number),
+        Err(_) => Err(RowFault::NotANumber),
+    }
 }
 
 /// A number below 256.
-pub(crate) fn byte<R: Abort>(rt: &R, text: &str) -> u8 {
-    u8::try_from(number(rt, text)).expect(rt, "no byte")
+pub(crate) fn byte(text: &str) -> Result<u8, RowFault> {
+    narrow(text)
 }
 
 /// The bytes of digits so many times.
-fn repeated<R: AllocGlobal + Abort>(rt: &R, digits: &str, times: u32) -> Vec<u8> {
-    let bytes = hex::decode(rt.alloc(), digits).expect(rt, "no digits");
-    let mut all = Vec::new(rt.alloc());
+fn repeated(alloc: Global, digits: &str, times: u32) -> Result<Vec<u8>, RowFault> {
+    let bytes = hex::decode(alloc, digits)?;
+    let mut all = Vec::new(alloc);
     for _ in 0..times {
-        all.extend_from_slice(&bytes).expect(rt, "no memory");
+        all.extend_from_slice(&bytes)?;
     }
-    all
+    Ok(all)
 }
 
 /// Bytes by their digits, none for a dash; behind a plus so many zeros, behind a star how often.
-pub(crate) fn bytes_of<R: AllocGlobal + Abort>(rt: &R, text: &str) -> Vec<u8> {
+pub(crate) fn bytes_of(alloc: Global, text: &str) -> Result<Vec<u8>, RowFault> {
     let (text, zeros) = text.split_once("+").unwrap_or((text, "0"));
     let (digits, times) = text.split_once("*").unwrap_or((text, "1"));
-    let mut bytes = repeated(rt, undashed(digits), number(rt, times));
-    let size = bytes.len() + number(rt, zeros) as usize;
-    bytes.resize(size, 0).expect(rt, "no memory");
-    bytes
+    let mut bytes = repeated(alloc, undashed(digits), number(times)?)?;
+    let size = bytes.len() + number(zeros)? as usize;
+    bytes.resize(size, 0)?;
+    Ok(bytes)
 }
 
 /// A count, and one byte so many times.
-pub(crate) fn filled<R: AllocGlobal + Abort>(rt: &R, words: &str) -> Vec<u8> {
+pub(crate) fn filled(alloc: Global, words: &str) -> Result<Vec<u8>, RowFault> {
     let (count, filling) = cut_at(words, " ");
-    vec![in rt.alloc(); byte(rt, filling); number(rt, count) as usize].expect(rt, "no memory")
+    Ok(vec![in alloc; byte(filling)?; number(count)? as usize]?)
 }

@@ -1,192 +1,201 @@
 //! Trees in memory from short descriptions, and what stands in them. README.md has the words.
+use crate::fault::RowFault;
 use crate::pages::changes;
-use crate::texts::{byte, bytes_of, cut_at, filled, long, number, undashed};
-use cluster_tree::{Kind, Names, Path, Tree};
+use crate::texts::{bytes_of, cut_at, filled, long, number, owned, undashed};
+use cluster_tree::{Kind, Names, Path, Tree, TreeFault};
 use memory_tree::MemoryTree;
 use page_layout::Page;
-use std::process::Abort;
+use std::alloc::Global;
 use wal_base::Lsn;
 
 /// How many bytes a block has.
 const BLOCK: u64 = 8192;
 
 /// The path of a text.
-pub(crate) fn path_of<R: AllocGlobal + Abort>(rt: &R, text: &str) -> Path {
-    Path::parse(rt.alloc(), text).expect(rt, "no path")
+pub(crate) fn path_of(alloc: Global, text: &str) -> Result<Path, RowFault> {
+    Ok(Path::parse(alloc, text)?)
 }
 
 // Makes a folder that isn't there.
-fn put_folder<R: Abort>(rt: &R, tree: &mut MemoryTree, folder: &Path) {
+fn put_folder(tree: &mut MemoryTree, folder: &Path) -> Result<(), TreeFault> {
     if tree.kind(folder) == Ok(Kind::Absent) {
-        tree.make_folder(folder).expect(rt, "no folder");
+        tree.make_folder(folder)?;
     }
+    Ok(())
 }
 
 // Makes the folders of a path's first parts.
-fn put_way<R: AllocGlobal + Abort>(rt: &R, tree: &mut MemoryTree, path: &Path) {
+fn put_way(alloc: Global, tree: &mut MemoryTree, path: &Path) -> Result<(), RowFault> {
     for parts in 1..path.len() {
-        let folder = path.front(rt.alloc(), parts).expect(rt, "no memory");
-        put_folder(rt, tree, &folder);
+        put_folder(tree, &path.front(alloc, parts)?)?;
     }
+    Ok(())
 }
 
 /// Makes a file of these bytes.
-pub(crate) fn put_file<R: Abort>(rt: &R, tree: &mut MemoryTree, path: &Path, bytes: &[u8]) {
-    tree.make_file(path).expect(rt, "no file");
-    tree.write_at(path, 0, bytes).expect(rt, "no bytes");
+pub(crate) fn put_file(tree: &mut MemoryTree, path: &Path, bytes: &[u8]) -> Result<(), TreeFault> {
+    tree.make_file(path)?;
+    tree.write_at(path, 0, bytes)
 }
 
 // Files of one byte.
-fn put_files<R: AllocGlobal + Abort>(rt: &R, tree: &mut MemoryTree, folder: &Path, names: &str) {
-    put_folder(rt, tree, folder);
+fn put_files(
+    alloc: Global,
+    tree: &mut MemoryTree,
+    folder: &Path,
+    names: &str,
+) -> Result<(), RowFault> {
+    put_folder(tree, folder)?;
     for name in names.split(' ') {
-        let path = folder.join(rt.alloc(), name).expect(rt, "no path");
-        put_file(rt, tree, &path, b"x");
+        put_file(tree, &folder.join(alloc, name)?, b"x")?;
     }
+    Ok(())
 }
 
 // A folder that holds a name that isn't UTF-8.
-fn put_bad_name<R: Abort>(rt: &R, tree: &mut MemoryTree, path: &Path) {
-    put_folder(rt, tree, path);
-    tree.add_bad_name(path).expect(rt, "no folder");
+fn put_bad_name(tree: &mut MemoryTree, path: &Path) -> Result<(), TreeFault> {
+    put_folder(tree, path)?;
+    tree.add_bad_name(path)
 }
 
 // Adds a block to the end of a file, which is made where it isn't there.
-fn add_block<R: Abort>(rt: &R, tree: &mut MemoryTree, path: &Path, page: &Page) {
+fn add_block(tree: &mut MemoryTree, path: &Path, page: &Page) -> Result<(), TreeFault> {
     if tree.kind(path) == Ok(Kind::Absent) {
-        tree.make_file(path).expect(rt, "no file");
+        tree.make_file(path)?;
     }
-    let size = tree.size(path).expect(rt, "no file");
+    let size = tree.size(path)?;
     tree.write_at(path, size, page.bytes())
-        .expect(rt, "no bytes");
 }
 
 /// A page of zeros.
-pub(crate) fn zero_page<R: AllocGlobal + Abort>(rt: &R) -> Page {
-    Page::zero(rt.alloc()).expect(rt, "no memory")
+pub(crate) fn zero_page(alloc: Global) -> Result<Page, RowFault> {
+    Ok(Page::zero(alloc)?)
 }
 
 // An empty page with an LSN.
-fn page_at<R: AllocGlobal + Abort>(rt: &R, lsn: u64) -> Page {
-    let mut page = zero_page(rt);
-    page.init(0).expect(rt, "no page");
+fn page_at(alloc: Global, lsn: u64) -> Result<Page, RowFault> {
+    let mut page = zero_page(alloc)?;
+    page.init(0)?;
     page.set_lsn(Lsn(lsn));
-    page
+    Ok(page)
 }
 
 // What an entry's verb and words put at its path.
-fn put_at<R: AllocGlobal + Abort>(
-    rt: &R,
+fn put_at(
+    alloc: Global,
     tree: &mut MemoryTree,
     verb: &str,
     path: &Path,
     words: &str,
-) {
+) -> Result<(), RowFault> {
     match verb {
-        "folder" => put_folder(rt, tree, path),
-        "file" => put_file(rt, tree, path, &bytes_of(rt, words)),
-        "filled" => put_file(rt, tree, path, &filled(rt, words)),
-        "files" => put_files(rt, tree, path, words),
-        "zeros" => add_block(rt, tree, path, &zero_page(rt)),
-        "page" => add_block(rt, tree, path, &page_at(rt, long(rt, words))),
-        "link" => tree.add_link(path).expect(rt, "no link"),
-        _ => put_bad_name(rt, tree, path),
+        "folder" => put_folder(tree, path)?,
+        "file" => put_file(tree, path, &bytes_of(alloc, words)?)?,
+        "filled" => put_file(tree, path, &filled(alloc, words)?)?,
+        "files" => put_files(alloc, tree, path, words)?,
+        "zeros" => add_block(tree, path, &zero_page(alloc)?)?,
+        "page" => add_block(tree, path, &page_at(alloc, long(words)?)?)?,
+        "link" => tree.add_link(path)?,
+        "bad" => put_bad_name(tree, path)?,
+        _ => return Err(RowFault::NotAnEntry),
     }
+    Ok(())
 }
 
 // One entry, with the folders on its way.
-fn put<R: AllocGlobal + Abort>(rt: &R, tree: &mut MemoryTree, entry: &str) {
+fn put(alloc: Global, tree: &mut MemoryTree, entry: &str) -> Result<(), RowFault> {
     let (verb, behind) = cut_at(entry, " ");
     let (text, words) = cut_at(behind, " ");
-    let path = path_of(rt, text);
-    put_way(rt, tree, &path);
-    put_at(rt, tree, verb, &path, words);
+    let path = path_of(alloc, text)?;
+    put_way(alloc, tree, &path)?;
+    put_at(alloc, tree, verb, &path, words)
 }
 
-fn put_all<R: AllocGlobal + Abort>(rt: &R, tree: &mut MemoryTree, entries: &str) {
+fn put_all(alloc: Global, tree: &mut MemoryTree, entries: &str) -> Result<(), RowFault> {
     for entry in entries.split(", ") {
         if !entry.is_empty() {
-            put(rt, tree, entry);
+            put(alloc, tree, entry)?;
         }
     }
+    Ok(())
 }
 
 /// A tree with the entries of both texts.
-pub(crate) fn tree_of<R: AllocGlobal + Abort>(rt: &R, first: &str, then: &str) -> MemoryTree {
-    let mut tree = MemoryTree::new(rt.alloc());
-    put_all(rt, &mut tree, first);
-    put_all(rt, &mut tree, then);
-    tree
+pub(crate) fn tree_of(alloc: Global, first: &str, then: &str) -> Result<MemoryTree, RowFault> {
+    let mut tree = MemoryTree::new(alloc);
+    put_all(alloc, &mut tree, first)?;
+    put_all(alloc, &mut tree, then)?;
+    Ok(tree)
 }
 
-// So many bytes of a file from an offset on.
-fn bytes_at<R: AllocGlobal + Abort>(
-    rt: &R,
+// Whether a file has these bytes from an offset on.
+fn has_bytes(
+    alloc: Global,
     tree: &mut MemoryTree,
     path: &Path,
     at: u64,
-    count: usize,
-) -> Vec<u8> {
-    let mut into = vec![in rt.alloc(); 0; count].expect(rt, "no memory");
-    tree.read_at(path, at, &mut into).expect(rt, "no bytes");
-    into
-}
-
-fn has_bytes<R: AllocGlobal + Abort>(
-    rt: &R,
-    tree: &mut MemoryTree,
-    path: &Path,
-    at: &str,
     bytes: &[u8],
-) -> bool {
-    bytes_at(rt, tree, path, long(rt, at), bytes.len()).as_slice() == bytes
+) -> Result<bool, RowFault> {
+    let mut found = vec![in alloc; 0; bytes.len()]?;
+    let read = tree.read_at(path, at, &mut found);
+    Ok(read.is_ok() && found.as_slice() == bytes)
 }
 
 /// Each name with a mark behind it.
-pub(crate) fn joined<R: AllocGlobal + Abort>(rt: &R, names: &Names, mark: char) -> String {
-    let mut text = String::new(rt.alloc());
+pub(crate) fn joined(alloc: Global, names: &Names, mark: char) -> Result<String, RowFault> {
+    let mut text = String::new(alloc);
     for at in 0..names.len() {
         let name = names.get(at).unwrap_or("");
-        write!(text, "{name}{mark}").expect(rt, "no memory");
+        write!(text, "{name}{mark}")?;
     }
-    text
+    Ok(text)
 }
 
-// The bytes of a block of a file.
-fn block_of<R: AllocGlobal + Abort>(
-    rt: &R,
+// The bytes of a block of a file, or `None` where it has no such block.
+fn block_of(
+    alloc: Global,
     tree: &mut MemoryTree,
     path: &Path,
     block: u32,
-) -> Vec<u8> {
-    bytes_at(rt, tree, path, u64::from(block) * BLOCK, 8192)
+) -> Result<Option<Vec<u8>>, RowFault> {
+    let mut page = vec![in alloc; 0; 8192]?;
+    match tree.read_at(path, u64::from(block) * BLOCK, &mut page) {
+        Ok(()) => Ok(Some(page)),
+        Err(_) => Ok(None),
+    }
 }
 
 // Whether a block of a file has these runs of bytes that aren't zeros.
-fn has_runs<R: AllocGlobal + Abort>(
-    rt: &R,
+fn has_runs(
+    alloc: Global,
     tree: &mut MemoryTree,
     path: &Path,
     words: &str,
-) -> bool {
+) -> Result<bool, RowFault> {
     let (block, expected) = cut_at(words, " ");
-    let found = block_of(rt, tree, path, number(rt, block));
-    changes(rt, zero_page(rt).bytes(), &found).as_str() == expected
+    match block_of(alloc, tree, path, number(block)?)? {
+        Some(found) => {
+            let runs = changes(alloc, zero_page(alloc)?.bytes(), &found)?;
+            Ok(runs.as_str() == expected)
+        }
+        None => Ok(false),
+    }
 }
 
 // The file of a block of relation 16384 of database 5, where a file has two blocks.
-fn file_of<R: AllocGlobal + Abort>(rt: &R, fork: &str, block: u32) -> Path {
+fn file_of(alloc: Global, fork: &str, block: u32) -> Result<Path, RowFault> {
     let suffix = match fork {
         "main" => "",
         "fsm" => "_fsm",
         "vm" => "_vm",
-        _ => "_init",
+        "init" => "_init",
+        _ => return Err(RowFault::NotAFork),
     };
-    let mut text = format!(in rt.alloc(); "base/5/16384{suffix}").expect(rt, "no memory");
+    let mut text = format!(in alloc; "base/5/16384{suffix}")?;
     if block >= 2 {
-        write!(text, ".{}", block / 2).expect(rt, "no memory");
+        write!(text, ".{}", block / 2)?;
     }
-    path_of(rt, &text)
+    path_of(alloc, &text)
 }
 
 // The one byte that all are.
@@ -200,72 +209,81 @@ fn one_of(bytes: &[u8]) -> Option<u8> {
     Some(first)
 }
 
-// Whether this lies at the place of a block of that relation: nothing, one byte 8192 times, or bytes of several kinds.
-fn is_state<R: AllocGlobal + Abort>(
-    rt: &R,
+// What lies at the place of a block of that relation: nothing, one byte 8192 times, or bytes of several kinds.
+fn state_of(
+    alloc: Global,
     tree: &mut MemoryTree,
     fork: &str,
     block: u32,
-    state: &str,
-) -> bool {
-    let path = file_of(rt, fork, block);
-    let place = block % 2;
-    let end = (u64::from(place) + 1) * BLOCK;
-    let is_absent = tree.size(&path).unwrap_or(0) < end;
-    if is_absent || state == "absent" {
-        return is_absent == (state == "absent");
-    }
-    let found = one_of(&block_of(rt, tree, &path, place));
-    if state == "mixed" {
-        found.is_none()
-    } else {
-        found == Some(byte(rt, state))
+) -> Result<String, RowFault> {
+    let path = file_of(alloc, fork, block)?;
+    let Some(bytes) = block_of(alloc, tree, &path, block % 2)? else {
+        return owned(alloc, "absent");
+    };
+    match one_of(&bytes) {
+        Some(byte) => Ok(format!(in alloc; "{byte}")?),
+        None => owned(alloc, "mixed"),
     }
 }
 
+// Whether this lies there.
+fn is_state(
+    alloc: Global,
+    tree: &mut MemoryTree,
+    fork: &str,
+    words: &str,
+) -> Result<bool, RowFault> {
+    let (block, expected) = cut_at(words, " ");
+    let state = state_of(alloc, tree, fork, number(block)?)?;
+    Ok(state.as_str() == expected)
+}
+
 // Whether the names of a folder are these.
-fn holds<R: AllocGlobal + Abort>(
-    rt: &R,
+fn holds(
+    alloc: Global,
     tree: &mut MemoryTree,
     path: &Path,
     expected: &str,
-) -> bool {
-    let names = tree.list(rt.alloc(), path).expect(rt, "no folder");
-    joined(rt, &names, ' ').as_str().trim_end() == undashed(expected)
+) -> Result<bool, RowFault> {
+    match tree.list(alloc, path) {
+        Ok(names) => {
+            let text = joined(alloc, &names, ' ')?;
+            Ok(text.as_str().trim_end() == undashed(expected))
+        }
+        Err(_) => Ok(false),
+    }
 }
 
 // Whether it is so: no entry, a folder, a size in bytes or in blocks, bytes from an offset on, one byte so many times,
 // or the names of a folder.
-fn is_entry_so<R: AllocGlobal + Abort>(
-    rt: &R,
+fn is_entry_so(
+    alloc: Global,
     tree: &mut MemoryTree,
     verb: &str,
     path: &Path,
     words: &str,
-) -> bool {
+) -> Result<bool, RowFault> {
     let (at, behind) = cut_at(words, " ");
     match verb {
-        "none" => tree.kind(path) == Ok(Kind::Absent),
-        "folder" => tree.kind(path) == Ok(Kind::Folder),
-        "size" => tree.size(path) == Ok(long(rt, words)),
-        "blocks" => tree.size(path) == Ok(u64::from(number(rt, words)) * BLOCK),
-        "at" => has_bytes(rt, tree, path, at, &bytes_of(rt, behind)),
-        "run" => has_bytes(rt, tree, path, at, &filled(rt, behind)),
-        "block" => has_runs(rt, tree, path, words),
-        _ => holds(rt, tree, path, words),
+        "none" => Ok(tree.kind(path) == Ok(Kind::Absent)),
+        "folder" => Ok(tree.kind(path) == Ok(Kind::Folder)),
+        "size" => Ok(tree.size(path) == Ok(long(words)?)),
+        "blocks" => Ok(tree.size(path) == Ok(u64::from(number(words)?) * BLOCK)),
+        "at" => has_bytes(alloc, tree, path, long(at)?, &bytes_of(alloc, behind)?),
+        "run" => has_bytes(alloc, tree, path, long(at)?, &filled(alloc, behind)?),
+        "block" => has_runs(alloc, tree, path, words),
+        "holds" => holds(alloc, tree, path, words),
+        _ => Err(RowFault::NotAFact),
     }
 }
 
 /// Whether a fact is so, of an entry or of the place of a block; or nothing is asked.
-pub(crate) fn is_so<R: AllocGlobal + Abort>(rt: &R, tree: &mut MemoryTree, fact: &str) -> bool {
+pub(crate) fn is_so(alloc: Global, tree: &mut MemoryTree, fact: &str) -> Result<bool, RowFault> {
     let (verb, behind) = cut_at(fact, " ");
     let (text, words) = cut_at(behind, " ");
     match verb {
-        "" => true,
-        "state" => {
-            let (block, state) = cut_at(words, " ");
-            is_state(rt, tree, text, number(rt, block), state)
-        }
-        _ => is_entry_so(rt, tree, verb, &path_of(rt, text), words),
+        "" => Ok(true),
+        "state" => is_state(alloc, tree, text, words),
+        _ => is_entry_so(alloc, tree, verb, &path_of(alloc, text)?, words),
     }
 }

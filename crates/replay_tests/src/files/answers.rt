@@ -1,37 +1,38 @@
 // Answers as texts.
+use crate::fault::RowFault;
 use crate::texts::owned;
 use cluster_tree::FileFault;
-use std::process::Abort;
+use std::alloc::Global;
 
 /// A word, or the text of a fault.
-pub(crate) fn word<R: AllocGlobal + Abort>(rt: &R, found: Result<&str, FileFault>) -> String {
+pub(crate) fn word(alloc: Global, found: Result<&str, FileFault>) -> Result<String, RowFault> {
     match found {
-        Ok(word) => owned(rt, word),
-        Err(fault) => format!(in rt.alloc(); "{fault}").expect(rt, "no memory"),
+        Ok(word) => owned(alloc, word),
+        Err(fault) => Ok(format!(in alloc; "{fault}")?),
     }
 }
 
 /// `done`, or the text of a fault.
-pub(crate) fn ended<R: AllocGlobal + Abort>(rt: &R, done: Result<(), FileFault>) -> String {
+pub(crate) fn ended(alloc: Global, done: Result<(), FileFault>) -> Result<String, RowFault> {
     match done {
-        Ok(()) => owned(rt, "done"),
-        Err(fault) => word(rt, Err(fault)),
+        Ok(()) => owned(alloc, "done"),
+        Err(fault) => word(alloc, Err(fault)),
     }
 }
 
 /// `done` of a whole layout, `short` of another, or the text of a fault.
-pub(crate) fn whole<R: AllocGlobal + Abort>(rt: &R, done: Result<bool, FileFault>) -> String {
+pub(crate) fn whole(alloc: Global, done: Result<bool, FileFault>) -> Result<String, RowFault> {
     match done {
-        Ok(false) => owned(rt, "short"),
-        Ok(true) => owned(rt, "done"),
-        Err(fault) => word(rt, Err(fault)),
+        Ok(false) => owned(alloc, "short"),
+        Ok(true) => owned(alloc, "done"),
+        Err(fault) => word(alloc, Err(fault)),
     }
 }
 
 /// A number, or the text of a fault.
-pub(crate) fn count<R: AllocGlobal + Abort>(rt: &R, found: Result<u64, FileFault>) -> String {
+pub(crate) fn count(alloc: Global, found: Result<u64, FileFault>) -> Result<String, RowFault> {
     match found {
-        Ok(count) => format!(in rt.alloc(); "{count}").expect(rt, "no memory"),
-        Err(fault) => word(rt, Err(fault)),
+        Ok(count) => Ok(format!(in alloc; "{count}")?),
+        Err(fault) => word(alloc, Err(fault)),
     }
 }

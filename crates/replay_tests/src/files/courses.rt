@@ -1,11 +1,12 @@
 // A device that fails at each call in turn: the answer is of that call's own count, and the changes made are the first.
-use crate::files::{answer, faults, storage_faults};
-use crate::rows::{Rows, check};
+use crate::fault::RowFault;
+use crate::files::answer;
 use crate::texts::{cut_at, owned, undashed};
+use crate::told::Told;
 use crate::trees::tree_of;
 use cluster_tree::ChangeCall;
 use memory_tree::{FailPlan, FailingTree, MemoryTree};
-use std::process::Abort;
+use std::alloc::{AllocError, Global};
 
 /// A call, and what it changes.
 #[derive(Clone, Copy)]
@@ -17,111 +18,101 @@ struct Course<'a> {
     changes: &'a str,
 }
 
-fn change_text<R: AllocGlobal + Abort>(rt: &R, call: &ChangeCall) -> String {
+// Adds a change to those of a list.
+fn add_change(list: &mut String, change: &str) -> Result<(), AllocError> {
+    let gap = if list.is_empty() { "" } else { ", " };
+    write!(list, "{gap}{change}")
+}
+
+fn change_text(alloc: Global, call: &ChangeCall) -> Result<String, RowFault> {
     let (verb, path) = match call {
         ChangeCall::Write(path, _, _) => ("write", path),
         ChangeCall::Cut(path, _) => ("cut", path),
         ChangeCall::MakeFile(path) => ("file", path),
         ChangeCall::MakeFolder(path) => ("folder", path),
         ChangeCall::Remove(path) => ("remove", path),
-        ChangeCall::Sync => return owned(rt, "sync"),
+        ChangeCall::Sync => return owned(alloc, "sync"),
     };
-    format!(in rt.alloc(); "{verb} {path}").expect(rt, "no memory")
+    Ok(format!(in alloc; "{verb} {path}")?)
 }
 
-// Whether this is the tree's change at a place.
-fn is_change<R: AllocGlobal + Abort>(rt: &R, tree: &MemoryTree, at: usize, expected: &str) -> bool {
-    match tree.change(at) {
-        Some(call) => change_text(rt, call).as_str() == expected,
-        None => false,
-    }
-}
-
-// Whether the changes from a place on are so many, and the first of these.
-fn are_first<R: AllocGlobal + Abort>(
-    rt: &R,
-    tree: &MemoryTree,
-    from: usize,
-    count: usize,
-    changes: &str,
-) -> bool {
-    let mut at = from;
-    for expected in changes.split(", ").take(count) {
-        if !is_change(rt, tree, at, expected) {
-            return false;
+// The tree's changes from a place on.
+fn changes_from(alloc: Global, tree: &MemoryTree, from: usize) -> Result<String, RowFault> {
+    let mut list = String::new(alloc);
+    for at in from..tree.changes() {
+        if let Some(call) = tree.change(at) {
+            add_change(&mut list, &change_text(alloc, call)?)?;
         }
-        at = at.saturating_add(1);
     }
-    at == from.saturating_add(count) && at == tree.changes()
+    Ok(list)
 }
 
-// Whether the call goes so where the device's call of a number fails: this answer, and so many changes.
-fn goes<R: AllocGlobal + Abort>(
-    rt: &R,
-    course: &Course<'_>,
-    number: u64,
-    ends: &str,
-    count: usize,
-) -> bool {
-    let within = tree_of(rt, course.had, "");
+// So many of the first of some changes.
+fn first_of(alloc: Global, changes: &str, count: usize) -> Result<String, RowFault> {
+    let mut list = String::new(alloc);
+    for change in changes.split(", ").take(count) {
+        add_change(&mut list, change)?;
+    }
+    Ok(list)
+}
+
+// How the call ends where the device's call of a number fails: an answer, and changes.
+fn end(alloc: Global, number: u64, answer: &str, changes: &str) -> Result<String, RowFault> {
+    let gap = if changes.is_empty() { "" } else { ": " };
+    Ok(format!(in alloc; "call {number} {answer}{gap}{changes}")?)
+}
+
+// How the call ends so.
+fn end_found(alloc: Global, course: &Course<'_>, number: u64) -> Result<String, RowFault> {
+    let within = tree_of(alloc, course.had, "")?;
     let from = within.changes();
     let mut tree = FailingTree::new(within, FailPlan::At(number));
-    let told = answer(rt, &mut tree, course.call);
-    let within = tree.into_inner();
-    told.as_str() == ends && are_first(rt, &within, from, count, course.changes)
+    let told = answer(alloc, &mut tree, course.call)?;
+    let changes = changes_from(alloc, &tree.into_inner(), from)?;
+    end(alloc, number, &told, &changes)
 }
 
-// The number of the first of the device's calls at which it goes otherwise: the calls are `r` reads and `w` changes, and
-// where none fails it ends so.
-fn first_wrong<R: AllocGlobal + Abort>(
-    rt: &R,
+// Tells how the call ends so, if it isn't by this answer and with so many of the changes.
+fn run_end(
+    alloc: Global,
+    told: &mut Told,
     course: &Course<'_>,
-    device: &str,
-    ends: &str,
-) -> Option<u64> {
-    let mut number = 1;
-    let mut count = 0;
-    for &kind in device.as_bytes() {
-        let failed = if kind == b'w' {
-            "a write failed"
-        } else {
-            "a read failed"
-        };
-        if !goes(rt, course, number, failed, count) {
-            return Some(number);
-        }
-        count = usize::saturating_add(count, usize::from(kind == b'w'));
-        number = u64::saturating_add(number, 1);
-    }
-    if goes(rt, course, number, ends, count) {
-        None
-    } else {
-        Some(number)
+    number: u64,
+    answer: &str,
+    count: usize,
+) -> Result<(), RowFault> {
+    let changes = first_of(alloc, course.changes, count)?;
+    let wanted = end(alloc, number, answer, &changes)?;
+    told.compare(&end_found(alloc, course, number)?, &wanted)?;
+    Ok(())
+}
+
+// What the call answers where one of the device's calls fails that reads, `r`, or that changes, `w`.
+fn failed(kind: u8) -> Result<&'static str, RowFault> {
+    match kind {
+        b'r' => Ok("a read failed"),
+        b'w' => Ok("a write failed"),
+        _ => Err(RowFault::NotARow),
     }
 }
 
-/// A row's call goes as the row says, whichever of the device's calls fails.
-pub(crate) fn check_course<R: AllocGlobal + Abort>(rt: &R, row: &str, meant: &str) {
+/// Runs a row's call once for each of the device's calls, which fails then, and once where none does.
+pub(crate) fn run_course(
+    alloc: Global,
+    told: &mut Told,
+    row: &str,
+    meant: &str,
+) -> Result<(), RowFault> {
     let (call, had) = cut_at(row, ": ");
-    let (told, changes) = cut_at(meant, ": ");
-    let (device, ends) = cut_at(told, " ");
+    let (ends, changes) = cut_at(meant, ": ");
+    let (device, answer) = cut_at(ends, " ");
     let course = Course { call, had, changes };
-    if let Some(number) = first_wrong(rt, &course, undashed(device), ends) {
-        panic!(rt; "{row}: not at call {number}");
+    let mut number: u64 = 1;
+    let mut count: usize = 0;
+    for &kind in undashed(device).as_bytes() {
+        run_end(alloc, told, &course, number, failed(kind)?, count)?;
+        count = count.saturating_add(usize::from(kind == b'w'));
+        number = number.saturating_add(1);
     }
-}
-
-#[test]
-fn each_call_of_the_device_may_fail(rt: HostRuntime) {
-    check(
-        &rt,
-        Rows::Failing,
-        &[
-            faults::READS,
-            faults::EDITS,
-            faults::AREAS,
-            storage_faults::FORKS,
-            storage_faults::DATABASES,
-        ],
-    );
+    run_end(alloc, told, &course, number, answer, count)
 }
