@@ -1,11 +1,11 @@
 // The lines that say what is run, and what it has to do.
-use super::line::{add, first_word, narrow, number, owned, plan};
+use super::fault::LineFault;
+use super::line::{first_word, narrow, number, plan};
 use memory_tree::FailPlan;
 use std::alloc::Global;
-use std::process::Abort;
 
 /// Which calls of a run fail.
-#[derive(Drop)]
+#[derive(Clone, Copy)]
 pub(crate) struct Fails {
     pub(crate) tree: FailPlan,
     pub(crate) out: FailPlan,
@@ -32,13 +32,17 @@ pub(crate) struct Asked {
     pub(crate) now: i64,
     pub(crate) fails: Fails,
     pub(crate) wanted: Wanted,
+    /// The words of each run that the mark of a stopped run has to refuse.
+    pub(crate) refused: Vec<Vec<String>>,
+    /// The words of the run that has to complete a stopped one, or none.
+    pub(crate) resumed: Vec<String>,
 }
 
 impl Fails {
-    // None fails.
-    fn none() -> Fails {
+    /// Of the tree's calls these, and no others.
+    pub(crate) fn of_tree(tree: FailPlan) -> Fails {
         Fails {
-            tree: FailPlan::Never,
+            tree,
             out: FailPlan::Never,
             err: FailPlan::Never,
             reads: 0,
@@ -46,28 +50,45 @@ impl Fails {
     }
 
     // `failing tree|out|err at|from N`: which calls fail.
-    fn add<R: Abort>(&mut self, rt: &R, behind: &str) {
+    fn add(&mut self, behind: &str) -> Result<(), LineFault> {
         let (what, behind) = first_word(behind);
-        let plan = plan(rt, behind);
+        let plan = plan(behind)?;
         match what {
             "tree" => self.tree = plan,
             "out" => self.out = plan,
             "err" => self.err = plan,
-            _ => panic!(rt; "what fails?"),
+            _ => return Err(LineFault::NotCalls),
         }
+        Ok(())
     }
 
     // `reads N`: each of the first N reads fails once, and then the one behind them, if there is one.
-    fn add_reads(&mut self, reads: u64) {
-        self.reads = reads;
-        self.tree = FailPlan::At(reads.saturating_add(1));
+    fn add_reads(&mut self, behind: &str) -> Result<(), LineFault> {
+        self.reads = number(behind)?;
+        self.tree = FailPlan::At(self.reads.saturating_add(1));
+        Ok(())
     }
 }
 
+// Adds a text.
+fn add_text(alloc: Global, texts: &mut Vec<String>, text: &str) -> Result<(), LineFault> {
+    texts.push(String::from_str(alloc, text)?)?;
+    Ok(())
+}
+
+// Adds the words of a text, of which none is empty or has a blank.
+fn add_words(alloc: Global, words: &mut Vec<String>, text: &str) -> Result<(), LineFault> {
+    for word in text.split(' ') {
+        add_text(alloc, words, word)?;
+    }
+    Ok(())
+}
+
 // Adds a line to a text.
-fn add_line<R: Abort>(rt: &R, text: &mut String, line: &str) {
-    add(rt, text, line);
-    add(rt, text, "\n");
+fn add_line(text: &mut String, line: &str) -> Result<(), LineFault> {
+    text.push_str(line)?;
+    text.push_str("\n")?;
+    Ok(())
 }
 
 impl Wanted {
@@ -82,16 +103,15 @@ impl Wanted {
         }
     }
 
-    // Takes a line that says what is wanted, if it is one.
-    fn take<R: Abort>(&mut self, rt: &R, verb: &str, behind: &str) -> bool {
+    // Takes a line that says what is wanted.
+    fn take(&mut self, verb: &str, behind: &str) -> Result<(), LineFault> {
         match verb {
-            "out" => add_line(rt, &mut self.out, behind),
-            "err" => add_line(rt, &mut self.err, behind),
-            "has" => add_line(rt, &mut self.has, behind),
-            "call" => add_line(rt, &mut self.calls, behind),
-            _ => return false,
+            "out" => add_line(&mut self.out, behind),
+            "err" => add_line(&mut self.err, behind),
+            "has" => add_line(&mut self.has, behind),
+            "call" => add_line(&mut self.calls, behind),
+            _ => Err(LineFault::NotALine),
         }
-        true
     }
 }
 
@@ -101,46 +121,51 @@ impl Asked {
         Asked {
             words: Vec::new(alloc),
             now: 1700000000,
-            fails: Fails::none(),
+            fails: Fails::of_tree(FailPlan::Never),
             wanted: Wanted::new(alloc),
+            refused: Vec::new(alloc),
+            resumed: Vec::new(alloc),
         }
     }
 
-    // A word of the run.
-    fn add_word<R: AllocGlobal + Abort>(&mut self, rt: &R, word: &str) {
-        self.words.push(owned(rt, word)).expect(rt, "no memory");
+    // `now N`: the time of the run.
+    fn add_now(&mut self, behind: &str) -> Result<(), LineFault> {
+        self.now = narrow(behind)?;
+        Ok(())
     }
 
-    // `run WORD ..`: the words of the run, of which none is empty or has a blank.
-    fn add_words<R: AllocGlobal + Abort>(&mut self, rt: &R, behind: &str) {
-        for word in behind.split(' ') {
-            self.add_word(rt, word);
-        }
+    // `refused WORD ..`: the words of a run that the mark has to refuse.
+    fn add_refused(&mut self, alloc: Global, behind: &str) -> Result<(), LineFault> {
+        let mut words = Vec::new(alloc);
+        add_words(alloc, &mut words, behind)?;
+        self.refused.push(words)?;
+        Ok(())
     }
 
-    /// Takes a line that says what is run or wanted, if it is one.
-    pub(crate) fn take<R: AllocGlobal + Abort>(
+    /// Takes a line that says what is run or wanted. Answers `NotALine` where it says something else.
+    pub(crate) fn take(
         &mut self,
-        rt: &R,
+        alloc: Global,
         verb: &str,
         behind: &str,
-    ) -> bool {
+    ) -> Result<(), LineFault> {
         match verb {
-            "run" => self.add_words(rt, behind),
-            "word" => self.add_word(rt, behind),
-            "now" => self.now = narrow(rt, behind),
-            "failing" => self.fails.add(rt, behind),
-            "reads" => self.fails.add_reads(number(rt, behind)),
-            _ => return self.wanted.take(rt, verb, behind),
+            "run" => add_words(alloc, &mut self.words, behind),
+            "word" => add_text(alloc, &mut self.words, behind),
+            "now" => self.add_now(behind),
+            "failing" => self.fails.add(behind),
+            "reads" => self.fails.add_reads(behind),
+            "refused" => self.add_refused(alloc, behind),
+            "resumed" => add_words(alloc, &mut self.resumed, behind),
+            _ => self.wanted.take(verb, behind),
         }
-        true
     }
+}
 
-    /// The command's name, as it stands in the line of a cause.
-    pub(crate) fn command(&self) -> &str {
-        match self.words.first() {
-            Some(word) => word.as_str(),
-            None => "",
-        }
+/// The command's name, as it stands in the line of a cause.
+pub(crate) fn command_of(words: &[String]) -> &str {
+    match words.first() {
+        Some(word) => word.as_str(),
+        None => "",
     }
 }

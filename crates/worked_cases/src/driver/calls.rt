@@ -1,7 +1,7 @@
 // The changing calls of a run, a line each, but one line for writes to one file that lie next to each other.
 use cluster_tree::ChangeCall;
 use memory_tree::MemoryTree;
-use std::process::Abort;
+use std::alloc::{AllocError, Global};
 
 // Whether a changing call behind another is a write that goes on where that one ends.
 fn goes_on(tree: &MemoryTree, at: usize) -> bool {
@@ -28,8 +28,8 @@ fn end_of(tree: &MemoryTree, first: usize) -> u64 {
 }
 
 // Adds the line of a changing call.
-fn add_call<R: Abort>(rt: &R, lines: &mut String, call: &ChangeCall, end: u64) {
-    let added = match call {
+fn add_call(lines: &mut String, call: &ChangeCall, end: u64) -> Result<(), AllocError> {
+    match call {
         ChangeCall::Write(path, at, _) => {
             writeln!(lines, "write {path} {at} {}", end.saturating_sub(*at))
         }
@@ -38,24 +38,23 @@ fn add_call<R: Abort>(rt: &R, lines: &mut String, call: &ChangeCall, end: u64) {
         ChangeCall::MakeFolder(path) => writeln!(lines, "folder {path}"),
         ChangeCall::Remove(path) => writeln!(lines, "remove {path}"),
         ChangeCall::Sync => writeln!(lines, "sync"),
-    };
-    added.expect(rt, "no memory");
+    }
 }
 
 /// The changing calls from this one on.
-pub(crate) fn calls_from<R: AllocGlobal + Abort>(
-    rt: &R,
+pub(crate) fn calls_from(
+    alloc: Global,
     tree: &MemoryTree,
     first: usize,
-) -> String {
-    let mut lines = String::new(rt.alloc());
+) -> Result<String, AllocError> {
+    let mut lines = String::new(alloc);
     for at in first..tree.changes() {
         if at > first && goes_on(tree, at) {
             continue;
         }
         if let Some(call) = tree.change(at) {
-            add_call(rt, &mut lines, call, end_of(tree, at));
+            add_call(&mut lines, call, end_of(tree, at))?;
         }
     }
-    lines
+    Ok(lines)
 }

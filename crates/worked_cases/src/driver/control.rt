@@ -1,9 +1,10 @@
 // Control files.
+use super::fault::LineFault;
 use super::line::number;
-use std::process::Abort;
 use wal_base::Crc32c;
 
-const SIZE: usize = 8192;
+/// How many bytes a control file has.
+pub(crate) const SIZE: usize = 8192;
 
 const CRC_AT: usize = 288;
 
@@ -44,35 +45,39 @@ const SHUT_DOWN: &str =
     "sysid=7300000000000000001 version=1300 catalog=202307071 state=1 cp.tli=1 cp.prevTli=1 \
 walLogHints=1 maxAlign=8 floatFormat=4698053236609777664 blcksz=8192 relseg=131072 walBlcksz=8192 walSegSize=1048576";
 
-fn put<R: Abort>(rt: &R, file: &mut [u8; SIZE], at: usize, width: usize, value: u64) {
-    assert!(rt; at <= CRC_AT && width <= 8, "no place of a field");
+fn put(file: &mut [u8; SIZE], at: usize, width: usize, value: u64) -> Result<(), LineFault> {
+    if at > CRC_AT || width > 8 {
+        return Err(LineFault::NotAField);
+    }
     file[at..at + width].copy_from_slice(&value.to_le_bytes()[..width]);
+    Ok(())
 }
 
 // The offset and the width of a field.
 fn place_of(name: &str) -> Option<(usize, usize)> {
-    for (known, at, width) in FIELDS {
-        if known == name {
-            return Some((at, width));
+    for (known, at, width) in &FIELDS {
+        if *known == name {
+            return Some((*at, *width));
         }
     }
     None
 }
 
 // `NAME=VALUE`.
-fn put_field<R: Abort>(rt: &R, file: &mut [u8; SIZE], field: &str) {
-    let (name, value) = field.split_once('=').expect(rt, "no value of a field");
-    let (at, width) = place_of(name).expect(rt, "no such field");
-    put(rt, file, at, width, number(rt, value));
+fn put_field(file: &mut [u8; SIZE], field: &str) -> Result<(), LineFault> {
+    let (name, value) = field.split_once('=').ok_or(LineFault::NotAField)?;
+    let (at, width) = place_of(name).ok_or(LineFault::NotAField)?;
+    put(file, at, width, number(value)?)
 }
 
 // `NAME=VALUE ..`.
-fn put_fields<R: Abort>(rt: &R, file: &mut [u8; SIZE], fields: &str) {
+fn put_fields(file: &mut [u8; SIZE], fields: &str) -> Result<(), LineFault> {
     for field in fields.split(' ') {
         if !field.is_empty() {
-            put_field(rt, file, field);
+            put_field(file, field)?;
         }
     }
+    Ok(())
 }
 
 fn checksum(file: &[u8; SIZE]) -> u32 {
@@ -81,13 +86,11 @@ fn checksum(file: &[u8; SIZE]) -> u32 {
     sum.value()
 }
 
-/// The bytes of the control file of a cluster that was shut down on timeline 1, with these fields
-/// changed (`NAME=VALUE ..`) and the checksum of them.
-pub(crate) fn control_bytes<R: Abort>(rt: &R, fields: &str) -> [u8; SIZE] {
-    let mut file = [0; SIZE];
-    put_fields(rt, &mut file, SHUT_DOWN);
-    put_fields(rt, &mut file, fields);
-    let crc = checksum(&file);
-    put(rt, &mut file, CRC_AT, 4, u64::from(crc));
-    file
+/// Lays into zeros the control file of a cluster that was shut down on timeline 1, with these fields changed
+/// (`NAME=VALUE ..`) and the checksum of them.
+pub(crate) fn lay_control(file: &mut [u8; SIZE], fields: &str) -> Result<(), LineFault> {
+    put_fields(file, SHUT_DOWN)?;
+    put_fields(file, fields)?;
+    let crc = checksum(file);
+    put(file, CRC_AT, 4, u64::from(crc))
 }

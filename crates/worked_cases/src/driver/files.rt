@@ -1,28 +1,30 @@
 // The lines that say what the tree has to hold.
+use super::fault::LineFault;
 use super::line::{bytes, first_word, number, zeros};
 use cluster_tree::{Kind, Path, Tree};
 use memory_tree::MemoryTree;
-use std::process::Abort;
+use std::alloc::Global;
 
 // `bytes PATH AT HEX`: whether a file has these bytes from a place on.
-fn has_bytes<R: AllocGlobal + Abort>(
-    rt: &R,
+fn has_bytes(
+    alloc: Global,
     tree: &mut MemoryTree,
     file: &Path,
     words: &str,
-) -> bool {
+) -> Result<bool, LineFault> {
     let (at, hex) = first_word(words);
-    let wanted = bytes(rt, hex);
-    let mut found = zeros(rt, wanted.len());
-    let read = tree.read_at(file, number(rt, at), &mut found);
-    read.is_ok() && found.as_slice() == wanted.as_slice()
+    let wanted = bytes(alloc, hex)?;
+    let mut found = zeros(alloc, wanted.len())?;
+    let read = tree.read_at(file, number(at)?, &mut found);
+    Ok(read.is_ok() && found.as_slice() == wanted.as_slice())
 }
 
 // `size PATH N`: whether a file has this size.
-fn has_size<R: Abort>(rt: &R, tree: &mut MemoryTree, file: &Path, size: &str) -> bool {
+fn has_size(tree: &mut MemoryTree, file: &Path, size: &str) -> Result<bool, LineFault> {
+    let wanted = number(size)?;
     match tree.size(file) {
-        Ok(found) => found == number(rt, size),
-        Err(_) => false,
+        Ok(found) => Ok(found == wanted),
+        Err(_) => Ok(false),
     }
 }
 
@@ -32,17 +34,17 @@ fn is_absent(tree: &mut MemoryTree, file: &Path) -> bool {
 }
 
 /// Whether the tree holds what a line says of a path, if it is one of what it has to hold.
-pub(crate) fn holds<R: AllocGlobal + Abort>(
-    rt: &R,
+pub(crate) fn holds(
+    alloc: Global,
     tree: &mut MemoryTree,
     verb: &str,
     file: &Path,
     words: &str,
-) -> Option<bool> {
+) -> Result<bool, LineFault> {
     match verb {
-        "bytes" => Some(has_bytes(rt, tree, file, words)),
-        "size" => Some(has_size(rt, tree, file, words)),
-        "absent" => Some(is_absent(tree, file)),
-        _ => None,
+        "bytes" => has_bytes(alloc, tree, file, words),
+        "size" => has_size(tree, file, words),
+        "absent" => Ok(is_absent(tree, file)),
+        _ => Err(LineFault::NotALine),
     }
 }

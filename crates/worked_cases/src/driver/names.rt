@@ -1,7 +1,7 @@
 // Names for what many lines say, and for lines that many cases have.
-use super::line::{add, first_word, owned};
-use std::alloc::Global;
-use std::process::Abort;
+use super::fault::LineFault;
+use super::line::first_word;
+use std::alloc::{AllocError, Global};
 
 /// Names, each with what it stands for: a text, or the lines of a part.
 #[derive(Drop)]
@@ -10,6 +10,16 @@ pub(crate) struct Named {
     entries: Vec<String>,
     /// Whether the last one is a part whose lines are being told.
     is_open: bool,
+}
+
+// A text of one's own, in which a sign for a blank at the end is the blank.
+fn ended(alloc: Global, text: &str) -> Result<String, AllocError> {
+    let Some(head) = text.strip_suffix('␣') else {
+        return String::from_str(alloc, text);
+    };
+    let mut ended = String::from_str(alloc, head)?;
+    ended.push(' ')?;
+    Ok(ended)
 }
 
 impl Named {
@@ -22,49 +32,55 @@ impl Named {
     }
 
     /// `name NAME TEXT`: the name stands for the text.
-    pub(crate) fn add<R: AllocGlobal + Abort>(&mut self, rt: &R, entry: &str) {
-        self.entries.push(owned(rt, entry)).expect(rt, "no memory");
+    pub(crate) fn add(&mut self, alloc: Global, entry: &str) -> Result<(), LineFault> {
+        self.entries.push(String::from_str(alloc, entry)?)?;
+        Ok(())
     }
 
     // `part NAME`: what follows up to `whole` are the lines of that part.
-    fn begin<R: AllocGlobal + Abort>(&mut self, rt: &R, name: &str) {
-        self.add(rt, name);
-        self.keep_text(rt, " ");
+    fn begin(&mut self, alloc: Global, name: &str) -> Result<(), LineFault> {
+        self.add(alloc, name)?;
         self.is_open = true;
+        self.keep_text(" ")
     }
 
     // Adds to the last entry.
-    fn keep_text<R: Abort>(&mut self, rt: &R, text: &str) {
-        add(rt, self.entries.last_mut().expect(rt, "no part"), text);
+    fn keep_text(&mut self, text: &str) -> Result<(), LineFault> {
+        let last = self.entries.last_mut().ok_or(LineFault::NotNamed)?;
+        last.push_str(text)?;
+        Ok(())
     }
 
     // Keeps a line of the part that is being told. It may take another one's lines.
-    fn keep_in<R: AllocGlobal + Abort>(&mut self, rt: &R, line: &str) {
+    fn keep_in(&mut self, alloc: Global, line: &str) -> Result<(), LineFault> {
         let (verb, behind) = first_word(line);
         match verb {
-            "whole" => self.is_open = false,
+            "whole" => {
+                self.is_open = false;
+                Ok(())
+            }
             "take" => {
-                let lines = self.lines_of(rt, behind);
-                self.keep_text(rt, &lines);
+                let lines = self.lines_of(alloc, behind)?;
+                self.keep_text(&lines)
             }
             _ => {
-                self.keep_text(rt, line);
-                self.keep_text(rt, "\n");
+                self.keep_text(line)?;
+                self.keep_text("\n")
             }
         }
     }
 
     /// Keeps a line that belongs to a part, if it does.
-    pub(crate) fn keep<R: AllocGlobal + Abort>(&mut self, rt: &R, line: &str) -> bool {
+    pub(crate) fn keep(&mut self, alloc: Global, line: &str) -> Result<bool, LineFault> {
         if self.is_open {
-            self.keep_in(rt, line);
-            return true;
+            self.keep_in(alloc, line)?;
+            return Ok(true);
         }
         match line.strip_prefix("part ") {
-            Some(name) => self.begin(rt, name),
-            None => return false,
+            Some(name) => self.begin(alloc, name)?,
+            None => return Ok(false),
         }
-        true
+        Ok(true)
     }
 
     // What a name stands for, if it was given.
@@ -78,18 +94,19 @@ impl Named {
         None
     }
 
-    /// What `$NAME` stands for; every other text is itself.
-    pub(crate) fn text_of<R: AllocGlobal + Abort>(&self, rt: &R, text: &str) -> String {
-        match text.strip_prefix('$') {
-            Some(name) => owned(rt, self.meant(name).expect(rt, "no such name")),
-            None => owned(rt, text),
-        }
+    /// What `$NAME` stands for; every other text is itself, but that `␣` at its end is a blank.
+    pub(crate) fn text_of(&self, alloc: Global, text: &str) -> Result<String, LineFault> {
+        let Some(name) = text.strip_prefix('$') else {
+            return Ok(ended(alloc, text)?);
+        };
+        let meant = self.meant(name).ok_or(LineFault::NotNamed)?;
+        Ok(String::from_str(alloc, meant)?)
     }
 
     /// `take NAME ROOT`: the lines of a part, with a root in the place of each `%`.
-    pub(crate) fn lines_of<R: AllocGlobal + Abort>(&self, rt: &R, behind: &str) -> String {
+    pub(crate) fn lines_of(&self, alloc: Global, behind: &str) -> Result<String, LineFault> {
         let (name, root) = first_word(behind);
-        let lines = self.meant(name).expect(rt, "no such part");
-        lines.replace(rt.alloc(), '%', root).expect(rt, "no memory")
+        let lines = self.meant(name).ok_or(LineFault::NotNamed)?;
+        Ok(lines.replace(alloc, '%', root)?)
     }
 }

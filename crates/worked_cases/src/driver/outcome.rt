@@ -1,34 +1,33 @@
 // A run, and what differs in it.
-use super::asked::{Asked, Wanted};
+use super::asked::{Asked, Fails, Wanted, command_of};
 use super::calls::calls_from;
-use super::line::{add, owned};
+use super::fault::LineFault;
 use super::told::Told;
 use memory_tree::{FailPlan, FailingTree, MemorySink, MemoryTree};
 use std::alloc::Global;
-use std::process::Abort;
 use wal_tools::run;
 
 /// What a run left.
 #[derive(Drop)]
-struct Ran {
-    tree: MemoryTree,
-    status: u8,
-    out: MemorySink,
-    err: MemorySink,
+pub(crate) struct Ran {
+    pub(crate) tree: MemoryTree,
+    pub(crate) status: u8,
+    pub(crate) out: MemorySink,
+    pub(crate) err: MemorySink,
 }
 
-fn run_on(alloc: Global, tree: MemoryTree, asked: &Asked, fails: FailPlan) -> Ran {
-    let mut tree = FailingTree::new(tree, fails);
-    let mut out = MemorySink::new(alloc, asked.fails.out);
-    let mut err = MemorySink::new(alloc, asked.fails.err);
-    let exit = run(
-        alloc,
-        &asked.words,
-        &mut tree,
-        &mut out,
-        &mut err,
-        asked.now,
-    );
+/// Runs these words on a tree at a time, with some calls failing.
+pub(crate) fn run_on(
+    alloc: Global,
+    tree: MemoryTree,
+    words: &[String],
+    now: i64,
+    fails: Fails,
+) -> Ran {
+    let mut tree = FailingTree::new(tree, fails.tree);
+    let mut out = MemorySink::new(alloc, fails.out);
+    let mut err = MemorySink::new(alloc, fails.err);
+    let exit = run(alloc, words, &mut tree, &mut out, &mut err, now);
     Ran {
         tree: tree.into_inner(),
         status: exit.status,
@@ -48,19 +47,25 @@ fn has_line(text: &str, line: &str) -> bool {
 }
 
 // Tells the lines that standard output lacks.
-fn compare_lines<R: AllocGlobal + Abort>(rt: &R, lines: &str, out: &[u8], told: &mut Told) {
-    let out = String::from_utf8_lossy(rt.alloc(), out).expect(rt, "no memory");
+fn compare_lines(alloc: Global, lines: &str, out: &[u8], told: &mut Told) -> Result<(), LineFault> {
+    let out = String::from_utf8_lossy(alloc, out)?;
     for line in lines.split('\n') {
         if !has_line(&out, line) {
-            told.tell(rt, &["standard output lacks a line"]);
+            told.tell(&["standard output lacks a line"])?;
         }
     }
+    Ok(())
 }
 
-fn compare_out<R: AllocGlobal + Abort>(rt: &R, wanted: &Wanted, out: &[u8], told: &mut Told) {
+fn compare_out(
+    alloc: Global,
+    wanted: &Wanted,
+    out: &[u8],
+    told: &mut Told,
+) -> Result<(), LineFault> {
     match wanted.has.strip_suffix('\n') {
-        Some(lines) => compare_lines(rt, lines, out, told),
-        None => told.compare(rt, "standard output", out, &wanted.out),
+        Some(lines) => compare_lines(alloc, lines, out, told),
+        None => told.compare(alloc, "standard output", out, &wanted.out),
     }
 }
 
@@ -70,64 +75,77 @@ fn are_first_lines(bytes: &[u8], text: &str) -> bool {
 }
 
 // A run in which a read fails ends so, with the first lines of what is wanted.
-fn compare_faulty<R: AllocGlobal + Abort>(rt: &R, asked: &Asked, ran: &Ran, told: &mut Told) {
-    let mut said = owned(rt, asked.command());
-    add(rt, &mut said, ": error: ReadFault\n");
-    told.compare(rt, "standard error", ran.err.bytes(), &said);
+fn compare_faulty(
+    alloc: Global,
+    asked: &Asked,
+    ran: &Ran,
+    told: &mut Told,
+) -> Result<(), LineFault> {
+    let mut said = String::from_str(alloc, command_of(&asked.words))?;
+    said.push_str(": error: ReadFault\n")?;
+    told.compare(alloc, "standard error", ran.err.bytes(), &said)?;
     if ran.status != 3 {
-        told.tell(rt, &["the status after a read that failed isn't 3"]);
+        told.tell(&["the status after a read that failed isn't 3"])?;
     }
     if !are_first_lines(ran.out.bytes(), &asked.wanted.out) {
-        told.tell(
-            rt,
-            &["standard output has no first lines after a read that failed"],
-        );
+        told.tell(&["standard output has no first lines after a read that failed"])?;
     }
+    Ok(())
 }
 
 // Lets each read fail in turn. A run that makes fewer reads ends as it is wanted to. None of these runs may change
 // anything.
-fn fail_in_turn<R: AllocGlobal + Abort>(
-    rt: &R,
+fn fail_in_turn(
+    alloc: Global,
     mut tree: MemoryTree,
     asked: &Asked,
     told: &mut Told,
-) -> MemoryTree {
+) -> Result<MemoryTree, LineFault> {
     let before = tree.changes();
     for n in 1..=asked.fails.reads {
-        let ran = run_on(rt.alloc(), tree, asked, FailPlan::At(n));
+        let fails = Fails {
+            tree: FailPlan::At(n),
+            ..asked.fails
+        };
+        let ran = run_on(alloc, tree, &asked.words, asked.now, fails);
         if ran.status != asked.wanted.status {
-            compare_faulty(rt, asked, &ran, told);
+            compare_faulty(alloc, asked, &ran, told)?;
         }
         tree = ran.tree;
     }
     if tree.changes() != before {
-        told.tell(rt, &["a run changed something after a read that failed"]);
+        told.tell(&["a run changed something after a read that failed"])?;
     }
-    tree
+    Ok(tree)
+}
+
+// Tells what differs in a run from what is wanted of it. What it changed are the calls from this one on.
+fn compare_ran(
+    alloc: Global,
+    wanted: &Wanted,
+    ran: &Ran,
+    first: usize,
+    told: &mut Told,
+) -> Result<(), LineFault> {
+    told.compare(alloc, "standard error", ran.err.bytes(), &wanted.err)?;
+    compare_out(alloc, wanted, ran.out.bytes(), told)?;
+    if ran.status != wanted.status {
+        told.tell(&["the status differs"])?;
+    }
+    let calls = calls_from(alloc, &ran.tree, first)?;
+    told.compare(alloc, "what was changed", calls.as_bytes(), &wanted.calls)
 }
 
 /// Runs what is asked, and tells what differs from what is wanted. Answers the tree as the run left it.
-pub(crate) fn run_and_compare<R: AllocGlobal + Abort>(
-    rt: &R,
+pub(crate) fn run_and_compare(
+    alloc: Global,
     tree: MemoryTree,
     asked: &Asked,
     told: &mut Told,
-) -> MemoryTree {
-    let before = tree.changes();
-    let tree = fail_in_turn(rt, tree, asked, told);
-    let ran = run_on(rt.alloc(), tree, asked, asked.fails.tree);
-    told.compare(rt, "standard error", ran.err.bytes(), &asked.wanted.err);
-    compare_out(rt, &asked.wanted, ran.out.bytes(), told);
-    if ran.status != asked.wanted.status {
-        told.tell(rt, &["the status differs"]);
-    }
-    let calls = calls_from(rt, &ran.tree, before);
-    told.compare(
-        rt,
-        "what was changed",
-        calls.as_bytes(),
-        &asked.wanted.calls,
-    );
-    ran.tree
+) -> Result<MemoryTree, LineFault> {
+    let first = tree.changes();
+    let tree = fail_in_turn(alloc, tree, asked, told)?;
+    let ran = run_on(alloc, tree, &asked.words, asked.now, asked.fails);
+    compare_ran(alloc, &asked.wanted, &ran, first, told)?;
+    Ok(ran.tree)
 }

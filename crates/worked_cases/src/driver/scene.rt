@@ -1,16 +1,18 @@
 // What the lines so far made.
 use super::asked::Asked;
+use super::fault::{LineFault, TextFault};
 use super::files::holds;
-use super::line::{first_word, narrow, owned, path};
+use super::line::{first_word, narrow, path};
 use super::log::NewLog;
 use super::names::Named;
 use super::outcome::run_and_compare;
 use super::setup::set_up;
+use super::stops::tell_stops;
 use super::told::Told;
+use cluster_tree::Path;
 use memory_tree::MemoryTree;
 use std::alloc::Global;
 use std::mem;
-use std::process::Abort;
 
 /// What the lines so far made: a tree, maybe a log that is being written, and what is asked next.
 #[derive(Drop)]
@@ -20,6 +22,7 @@ pub(crate) struct Scene {
     log: Option<NewLog>,
     asked: Asked,
     told: Told,
+    cases: u64,
 }
 
 impl Scene {
@@ -31,118 +34,161 @@ impl Scene {
             log: None,
             asked: Asked::new(alloc),
             told: Told::new(alloc),
+            cases: 0,
         }
     }
 
     // `case NAME`: an empty tree.
-    fn begin<R: AllocGlobal + Abort>(&mut self, rt: &R, name: &str) {
-        self.end_run(rt);
+    fn begin(&mut self, alloc: Global, name: &str) -> Result<(), LineFault> {
+        self.end_run(alloc)?;
         self.log = None;
-        self.tree = MemoryTree::new(rt.alloc());
-        self.told.case = owned(rt, name);
+        self.tree = MemoryTree::new(alloc);
+        self.told.case = String::from_str(alloc, name)?;
+        self.cases = self.cases.saturating_add(1);
+        Ok(())
     }
 
     // Tells words that were not run.
-    fn end_run<R: AllocGlobal + Abort>(&mut self, rt: &R) {
+    fn end_run(&mut self, alloc: Global) -> Result<(), LineFault> {
         if !self.asked.words.is_empty() {
-            self.asked = Asked::new(rt.alloc());
-            self.told.tell(rt, &["words without a status"]);
+            self.asked = Asked::new(alloc);
+            self.told.tell(&["words without a status"])?;
         }
+        Ok(())
+    }
+
+    // Runs what was asked.
+    fn run(&mut self, alloc: Global, asked: &Asked) -> Result<(), LineFault> {
+        let tree = mem::replace(&mut self.tree, MemoryTree::new(alloc));
+        self.tree = run_and_compare(alloc, tree, asked, &mut self.told)?;
+        Ok(())
     }
 
     // `status N`: runs what was asked, which has to end so.
-    fn run<R: AllocGlobal + Abort>(&mut self, rt: &R, behind: &str) {
-        let mut asked = mem::replace(&mut self.asked, Asked::new(rt.alloc()));
-        asked.wanted.status = narrow(rt, behind);
-        let tree = mem::replace(&mut self.tree, MemoryTree::new(rt.alloc()));
-        self.tree = run_and_compare(rt, tree, &asked, &mut self.told);
+    fn take_status(&mut self, alloc: Global, behind: &str) -> Result<(), LineFault> {
+        let mut asked = mem::replace(&mut self.asked, Asked::new(alloc));
+        asked.wanted.status = narrow(behind)?;
+        self.run(alloc, &asked)
     }
 
-    // The log that is being written.
-    fn open_log<R: Abort>(&mut self, rt: &R) -> &mut NewLog {
-        self.log.as_mut().expect(rt, "no log was begun")
+    // `stops MARK`: stops what was asked at each of its calls, and then runs it, which has to end with status 0.
+    fn take_stops(&mut self, alloc: Global, behind: &str) -> Result<(), LineFault> {
+        let asked = mem::replace(&mut self.asked, Asked::new(alloc));
+        let mark = path(alloc, behind)?;
+        tell_stops(alloc, &self.tree, &asked, &mark, &mut self.told)?;
+        self.run(alloc, &asked)
     }
 
-    // `end`: puts the segments of the log into its folder.
-    fn end_log<R: AllocGlobal + Abort>(&mut self, rt: &R) {
-        let log = self.log.take().expect(rt, "no log was begun");
-        log.put(rt, &mut self.tree);
+    // `log FOLDER ..`: begins a log.
+    fn begin_log(&mut self, alloc: Global, behind: &str) -> Result<(), LineFault> {
+        self.log = Some(NewLog::new(alloc, behind)?);
+        Ok(())
+    }
+
+    // A line of the log that is being written. `end` puts its segments into its folder.
+    fn take_log(&mut self, alloc: Global, verb: &str, behind: &str) -> Result<(), LineFault> {
+        let Some(log) = self.log.as_mut() else {
+            return Err(LineFault::NoLog);
+        };
+        match verb {
+            "record" => log.add_record(alloc, behind),
+            "filler" => log.add_filler(alloc, behind),
+            _ => log.put(alloc, &mut self.tree),
+        }
+    }
+
+    // A line of what has to stand at a path.
+    fn check(
+        &mut self,
+        alloc: Global,
+        verb: &str,
+        at: &Path,
+        behind: &str,
+    ) -> Result<(), LineFault> {
+        let (_, words) = first_word(behind);
+        if !holds(alloc, &mut self.tree, verb, at, words)? {
+            self.told.tell(&["not so: ", verb, " ", behind])?;
+        }
+        Ok(())
     }
 
     // A line of a path: what stands there, or has to.
-    fn take_path<R: AllocGlobal + Abort>(&mut self, rt: &R, verb: &str, behind: &str) -> bool {
+    fn take_path(&mut self, alloc: Global, verb: &str, behind: &str) -> Result<(), LineFault> {
         let (text, words) = first_word(behind);
-        let at = path(rt, text);
-        if set_up(rt, &mut self.tree, verb, &at, words) {
-            return true;
+        let at = path(alloc, text)?;
+        match set_up(alloc, &mut self.tree, verb, &at, words) {
+            Err(LineFault::NotALine) => self.check(alloc, verb, &at, behind),
+            done => done,
         }
-        let seen = holds(rt, &mut self.tree, verb, &at, words);
-        if seen == Some(false) {
-            self.told.tell(rt, &["not so: ", verb, " ", behind]);
-        }
-        seen.is_some()
     }
 
-    // A line of a log that is being written.
-    fn take_log<R: AllocGlobal + Abort>(&mut self, rt: &R, verb: &str, behind: &str) -> bool {
+    // Takes a line that belongs to no run.
+    fn take_other(&mut self, alloc: Global, verb: &str, behind: &str) -> Result<(), LineFault> {
         match verb {
-            "log" => self.log = Some(NewLog::new(rt, behind)),
-            "record" => self.open_log(rt).add_record(rt, behind),
-            "filler" => self.open_log(rt).add_filler(rt, behind),
-            "end" => self.end_log(rt),
-            _ => return self.take_path(rt, verb, behind),
+            "" | "#" => Ok(()),
+            "name" => self.named.add(alloc, behind),
+            "log" => self.begin_log(alloc, behind),
+            "record" | "filler" | "end" => self.take_log(alloc, verb, behind),
+            _ => self.take_path(alloc, verb, behind),
         }
-        true
-    }
-
-    // A line of a run, or of what the run works on.
-    fn take_run<R: AllocGlobal + Abort>(&mut self, rt: &R, verb: &str, behind: &str) -> bool {
-        self.asked.take(rt, verb, behind) || self.take_log(rt, verb, behind)
     }
 
     // Takes a line by its first word and what stands behind it.
-    fn take_words<R: AllocGlobal + Abort>(&mut self, rt: &R, verb: &str, behind: &str) -> bool {
+    fn take_words(&mut self, alloc: Global, verb: &str, behind: &str) -> Result<(), LineFault> {
         match verb {
-            "" | "#" => {}
-            "name" => self.named.add(rt, behind),
-            "case" => self.begin(rt, behind),
-            "status" => self.run(rt, behind),
-            _ => return self.take_run(rt, verb, behind),
+            "case" => return self.begin(alloc, behind),
+            "status" => return self.take_status(alloc, behind),
+            "stops" => return self.take_stops(alloc, behind),
+            _ => {}
         }
-        true
+        match self.asked.take(alloc, verb, behind) {
+            Err(LineFault::NotALine) => self.take_other(alloc, verb, behind),
+            taken => taken,
+        }
     }
 
     // Takes a line that belongs to no part.
-    fn take_line<R: AllocGlobal + Abort>(&mut self, rt: &R, line: &str) {
+    fn take_line(&mut self, alloc: Global, line: &str) -> Result<(), LineFault> {
         let (verb, behind) = first_word(line);
-        let behind = self.named.text_of(rt, behind);
-        assert!(rt;
-            self.take_words(rt, verb, &behind),
-            "not a line of a case: {line}"
-        );
+        let behind = self.named.text_of(alloc, behind)?;
+        self.take_words(alloc, verb, &behind)
     }
 
     // `take NAME ROOT`: takes the lines of a part.
-    fn take_part<R: AllocGlobal + Abort>(&mut self, rt: &R, behind: &str) {
-        for line in self.named.lines_of(rt, behind).split('\n') {
-            self.take_line(rt, line);
+    fn take_part(&mut self, alloc: Global, behind: &str) -> Result<(), LineFault> {
+        for line in self.named.lines_of(alloc, behind)?.split('\n') {
+            self.take_line(alloc, line)?;
         }
+        Ok(())
     }
 
-    /// Takes a line.
-    pub(crate) fn take<R: AllocGlobal + Abort>(&mut self, rt: &R, line: &str) {
-        if self.named.keep(rt, line) {
-            return;
+    // Takes a line.
+    fn take(&mut self, alloc: Global, line: &str) -> Result<(), LineFault> {
+        if self.named.keep(alloc, line)? {
+            return Ok(());
         }
         match line.strip_prefix("take ") {
-            Some(part) => self.take_part(rt, part),
-            None => self.take_line(rt, line),
+            Some(part) => self.take_part(alloc, part),
+            None => self.take_line(alloc, line),
         }
     }
 
-    /// All that was told.
-    pub(crate) fn told<R: AllocGlobal + Abort>(&mut self, rt: &R) -> &str {
-        self.end_run(rt);
-        self.told.text.as_str()
+    /// Takes the lines of a text in turn, or answers the first that can't be taken.
+    pub(crate) fn take_text(&mut self, alloc: Global, text: &str) -> Result<(), TextFault> {
+        for (before, line) in text.split('\n').enumerate() {
+            if let Err(fault) = self.take(alloc, line) {
+                let line = before.saturating_add(1);
+                return Err(TextFault { line, fault });
+            }
+        }
+        Ok(())
+    }
+
+    /// How many cases were begun since the last such call, and all that differed in them, a line for each difference.
+    pub(crate) fn end(&mut self, alloc: Global) -> Result<(u64, String), LineFault> {
+        self.end_run(alloc)?;
+        let cases = mem::replace(&mut self.cases, 0);
+        let told = mem::replace(&mut self.told, Told::new(alloc));
+        Ok((cases, told.text))
     }
 }

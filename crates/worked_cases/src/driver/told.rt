@@ -1,7 +1,6 @@
 // What differs from what is wanted.
-use super::line::add;
-use std::alloc::Global;
-use std::process::Abort;
+use super::fault::LineFault;
+use std::alloc::{AllocError, Global};
 
 /// What differs, a line for each difference, with the case that it stands in.
 #[derive(Drop)]
@@ -20,30 +19,28 @@ impl Told {
     }
 
     /// Tells a difference, by its pieces.
-    pub(crate) fn tell<R: Abort>(&mut self, rt: &R, pieces: &[&str]) {
-        add(rt, &mut self.text, &self.case);
-        add(rt, &mut self.text, ": ");
+    pub(crate) fn tell(&mut self, pieces: &[&str]) -> Result<(), AllocError> {
+        self.text.push_str(&self.case)?;
+        self.text.push_str(": ")?;
         for piece in pieces {
-            add(rt, &mut self.text, piece);
+            self.text.push_str(piece)?;
         }
-        add(rt, &mut self.text, "\n");
+        self.text.push_str("\n")
     }
 
     /// Tells where bytes aren't those of the text that is wanted.
-    pub(crate) fn compare<R: AllocGlobal + Abort>(
+    pub(crate) fn compare(
         &mut self,
-        rt: &R,
+        alloc: Global,
         what: &str,
         found: &[u8],
         wanted: &str,
-    ) {
+    ) -> Result<(), LineFault> {
         if found == wanted.as_bytes() {
-            return;
+            return Ok(());
         }
-        let found = String::from_utf8_lossy(rt.alloc(), found).expect(rt, "no memory");
-        self.tell(
-            rt,
-            &[what, " has '", &found, "' in place of '", wanted, "'"],
-        );
+        let found = String::from_utf8_lossy(alloc, found)?;
+        self.tell(&[what, " has '", &found, "' in place of '", wanted, "'"])?;
+        Ok(())
     }
 }

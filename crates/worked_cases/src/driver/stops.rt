@@ -1,0 +1,152 @@
+// What the stops of a run leave: the tree as it was, the mark, or the tree as the run leaves it.
+use super::asked::{Asked, Fails, command_of};
+use super::fault::LineFault;
+use super::inventory::inventory;
+use super::outcome::{Ran, run_on};
+use super::told::Told;
+use cluster_tree::{Kind, Path, Tree};
+use memory_tree::{FailPlan, MemoryTree};
+use std::alloc::Global;
+
+// More calls than any run of a case makes.
+const MOST: u64 = 10_000;
+
+// Seconds from the run that is stopped to the one that completes it.
+const LATER: i64 = 9999;
+
+/// A run that is stopped, and what its stops may leave.
+#[derive(Drop)]
+struct Stopped<'a> {
+    alloc: Global,
+    asked: &'a Asked,
+    mark: &'a Path,
+    /// What stood before the run, and what stands once it is done.
+    before: String,
+    after: String,
+}
+
+impl Stopped<'_> {
+    // Runs words in an image.
+    fn run_in(&self, image: &MemoryTree, words: &[String], now: i64) -> Result<Ran, LineFault> {
+        let tree = image.image(self.alloc, 1)?;
+        let fails = Fails::of_tree(FailPlan::Never);
+        Ok(run_on(self.alloc, tree, words, now, fails))
+    }
+
+    // Whether a run was refused for the mark, and changed nothing.
+    fn is_refused(&self, ran: &Ran, words: &[String]) -> Result<bool, LineFault> {
+        let mut line = String::new(self.alloc);
+        let name = command_of(words);
+        writeln!(line, "{name}: error: Unfinished {}", self.mark)?;
+        let same = ran.err.bytes() == line.as_bytes() && ran.out.bytes().is_empty();
+        Ok(same && ran.status == 1 && ran.tree.changes() == 0)
+    }
+
+    // Tells the runs that the mark doesn't refuse.
+    fn tell_refused(&self, image: &MemoryTree, told: &mut Told) -> Result<(), LineFault> {
+        for words in &self.asked.refused {
+            let ran = self.run_in(image, words, self.asked.now)?;
+            if !self.is_refused(&ran, words)? {
+                told.tell(&["the mark doesn't refuse ", command_of(words)])?;
+            }
+        }
+        Ok(())
+    }
+
+    // Whether a tree is what the run leaves.
+    fn is_left(&self, mut tree: MemoryTree) -> Result<bool, LineFault> {
+        let left = inventory(self.alloc, &mut tree)?;
+        Ok(left.as_str() == self.after.as_str())
+    }
+
+    // Whether a tree is what stood before the run, or what it leaves.
+    fn is_whole(&self, mut tree: MemoryTree) -> Result<bool, LineFault> {
+        let left = inventory(self.alloc, &mut tree)?;
+        Ok(left.as_str() == self.before.as_str() || left.as_str() == self.after.as_str())
+    }
+
+    // Whether the run goes on in an image that has the mark; else the mark isn't whole, and refuses that. Tells where it
+    // isn't completed then.
+    fn resumes(&self, image: &MemoryTree, told: &mut Told) -> Result<bool, LineFault> {
+        let words = &self.asked.resumed;
+        let ran = self.run_in(image, words, self.asked.now.saturating_add(LATER))?;
+        if self.is_refused(&ran, words)? {
+            return Ok(false);
+        }
+        if ran.status != 0 || !self.is_left(ran.tree)? {
+            told.tell(&["a stopped run isn't completed"])?;
+        }
+        Ok(true)
+    }
+
+    // Tells what differs in an image that has the mark. Answers whether the run goes on there.
+    fn tell_marked(&self, image: &MemoryTree, told: &mut Told) -> Result<bool, LineFault> {
+        self.tell_refused(image, told)?;
+        if self.asked.resumed.is_empty() {
+            return Ok(false);
+        }
+        self.resumes(image, told)
+    }
+
+    // Tells what differs in an image. Answers whether the run goes on there.
+    fn tell_image(&self, mut image: MemoryTree, told: &mut Told) -> Result<bool, LineFault> {
+        if image.kind(self.mark)? != Kind::Absent {
+            return self.tell_marked(&image, told);
+        }
+        if !self.is_whole(image)? {
+            told.tell(&["a stop leaves another tree, without the mark"])?;
+        }
+        Ok(false)
+    }
+
+    // Tells what differs in the images that a run leaves. Answers whether the run goes on in one.
+    fn tell_images(&self, tree: &MemoryTree, told: &mut Told) -> Result<bool, LineFault> {
+        let mut goes_on = false;
+        for choice in 0..3 {
+            let image = tree.image(self.alloc, choice)?;
+            goes_on = self.tell_image(image, told)? || goes_on;
+        }
+        Ok(goes_on)
+    }
+
+    // Lets the calls of the run fail from each one on, in turn, until it is done. Answers whether it goes on in an image.
+    fn tell_all(&self, tree: &MemoryTree, told: &mut Told) -> Result<bool, LineFault> {
+        let mut goes_on = false;
+        for n in 1..MOST {
+            let start = tree.image(self.alloc, 1)?;
+            let fails = Fails::of_tree(FailPlan::From(n));
+            let ran = run_on(self.alloc, start, &self.asked.words, self.asked.now, fails);
+            goes_on = self.tell_images(&ran.tree, told)? || goes_on;
+            if ran.status == 0 {
+                return Ok(goes_on);
+            }
+        }
+        told.tell(&["a run without a call that fails isn't done"])?;
+        Ok(goes_on)
+    }
+}
+
+/// Stops a run at each of its calls, and tells what of the images that are left is neither the tree as it was, nor the tree
+/// as the run leaves it, nor has the mark; and what in those that have it isn't refused, or isn't completed.
+pub(crate) fn tell_stops(
+    alloc: Global,
+    tree: &MemoryTree,
+    asked: &Asked,
+    mark: &Path,
+    told: &mut Told,
+) -> Result<(), LineFault> {
+    let start = tree.image(alloc, 1)?;
+    let fails = Fails::of_tree(FailPlan::Never);
+    let mut done = run_on(alloc, start, &asked.words, asked.now, fails).tree;
+    let stopped = Stopped {
+        alloc,
+        asked,
+        mark,
+        before: inventory(alloc, &mut tree.image(alloc, 1)?)?,
+        after: inventory(alloc, &mut done)?,
+    };
+    if !stopped.tell_all(tree, told)? && !asked.resumed.is_empty() {
+        told.tell(&["no stopped run was completed"])?;
+    }
+    Ok(())
+}
