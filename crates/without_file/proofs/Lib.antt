@@ -1,0 +1,4 @@
+pub mod BelowLemmas
+pub mod ListLemmas
+pub mod NameLemmas
+pub mod SeenLemmas
