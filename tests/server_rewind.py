@@ -168,10 +168,13 @@ def stops(checks, old, new):
 
 
 def resumes(checks, old, new):
-    """Rewinds that are killed under a whole mark, and completed by --resume: at once, or after a resume that is killed too."""
+    """Rewinds that are killed, the first two before their mark is whole, and completed by --resume: at once, or after a resume that
+    is killed too."""
     machine, target, source = checks.machine, checks.machine.path("stopped16"), new + "16"
     words = ["-D", target, "--source-pgdata", source]
-    for kind, number, more in ("write", 300, None), ("cut", 100, ("write", 200)), ("remove", 50, ("remove", 40)), ("sync", 5, ("cut", 20)):
+    points = (("write", 1, None), ("sync", 3, ("write", 1)),
+              ("write", 300, None), ("cut", 100, ("write", 200)), ("remove", 50, ("remove", 40)), ("sync", 5, ("cut", 20)))
+    for kind, number, more in points:
         shutil.copytree(old + "16", target)
         stop = [(kind, number, ["pg_rewind", *words])] + ([(*more, ["pg_rewind", "--resume", *words])] if more else [])
         ended = [server_stops.run_until(at, turn, [checks.program, *run], machine.env) for at, turn, run in stop]

@@ -35,7 +35,7 @@ pub unless-ok : {A E : Type 0} (o : Option E) (r : Result A E) (v : A) → unles
 unless-ok None r v is = is
 unless-ok (Some e) r v is = absurd (cc is)
 
-told-ok : {A : Type 0} (r : Result A ClusterFault) (v : A) → told_by r ≡ Ok v → r ≡ Ok v
+pub told-ok : {A : Type 0} (r : Result A ClusterFault) (v : A) → told_by r ≡ Ok v → r ≡ Ok v
 told-ok (Ok u) v is = let same : u ≡ v = cc is in ap Ok same
 told-ok (Err e) v is = absurd (cc is)
 

@@ -4,5 +4,6 @@ pub mod RestLemmas
 pub mod CarryLemmas
 pub mod MakeLemmas
 pub mod FoundLemmas
+pub mod ShutLemmas
 pub mod ResumeLemmas
 pub mod LookLemmas

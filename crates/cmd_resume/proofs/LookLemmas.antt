@@ -24,6 +24,7 @@ use Rattle.resume_core.specs.Source.{source_difference}
 use Rattle.resume_core.specs.Stored.{found_in, held_in, held_to, or_bad, plan_in, stored_of, with_source}
 use Rattle.resume_core.specs.declared.fault.ResumeFault.{ResumeFault}
 use Rattle.resume_core.specs.declared.fault.ResumeFault.TheVariants as fault
+use Rattle.rewind_core.specs.Over.{without_own}
 use Rattle.stored_laws.proofs.PlanLemmas.{opened-of, steps-of}
 use Rattle.rewind_survey.specs.declared.fault.RewindFault.TheVariants as rewind
 use Rattle.commands.specs.declared.rewind.RewindWords.{RewindWords}
@@ -114,7 +115,7 @@ stored-form c words said true is of = inl (inr (inr (inl (said.told, is, refl)))
 stored-form c words said false is of = rest-whole words said.told (rest_of words.target c (changes_again c words.target said)) is (rest-form words.target c (changes_again c words.target said) of)
 
 form_of : (c : Contents) (words : RewindWords) (now : ℤ) (r : Result (Option Saying) ResumeFault) → Looked words.source r → ((said : Saying) → r ≡ Ok (Some said) → IsSaid words.target words.source said) → IsResume words (found_answer words now c r)
-form_of c words now (Ok None) looks known = inl (answer-form c words now)
+form_of c words now (Ok None) looks known = inl (answer-form (without_own c words.target) c words now)
 form_of c words now (Ok (Some said)) looks known = stored-form c words said words.dry_run refl (again-of c words.target words.source said (known said refl))
 form_of c words now (Err e) looks known = inl (inr (inr (inr (inr (resume_cause words.source e, looks, refl)))))
 
@@ -122,7 +123,7 @@ pub resume-form : (c : Contents) (words : RewindWords) (now : ℤ) → IsResume 
 resume-form c words now = form_of c words now (stored_of c words.target words.source) (stored-looks c words.target words.source) (stored-said c words.target words.source)
 
 looks_of : (c : Contents) (words : RewindWords) (now : ℤ) (r : Result (Option Saying) ResumeFault) → Looks ((found_answer words now c r).acts)
-looks_of c words now (Ok None) = answer-looks c words now
+looks_of c words now (Ok None) = answer-looks (without_own c words.target) c words now
 looks_of c words now (Ok (Some said)) = again-looks-by words.dry_run said.told (rest_of words.target c (changes_again c words.target said))
 looks_of c words now (Err e) = tt
 

@@ -20,6 +20,7 @@ use Rattle.resumed_laws.specs.Between.{IsBetween as ResumedBetween}
 use Rattle.resumed_laws.specs.Sound.{with_whole_mark}
 use Rattle.resumed_laws.proofs.RunLemmas.{path-stays}
 use Rattle.resumed_writes.specs.Again.{AreReadable, IsOnWayOrFinished, IsResumable, resumed_end}
+use Rattle.rewind_core.specs.Over.{without_own}
 use Rattle.rewind_core.specs.Planned.{Needing}
 use Rattle.rewind_core.specs.Text.{saying, sum_at}
 use Rattle.rewind_core.specs.declared.outcome.Plan.{Plan as RewindPlan}
@@ -127,8 +128,9 @@ pub stored-meant : (words : RewindWords) (now : ℤ) (c c' : Contents) (stored :
 stored-meant words now c c' stored same placed found =
     ap (λ d. again_answer words d stored) same ∙ again-meant words c stored words.dry_run placed ∙ sym (ap (found_answer words now c) found)
 
-pub fresh-meant : (words : RewindWords) {n now : ℤ} (c c' : Contents) → n ≡ now → c' ≡ c → stored_of c words.target words.source ≡ Ok None → rewind_answer c' words n ≡ resume_answer c words now
-fresh-meant words {n} {now} c c' time same found = ap (λ d. rewind_answer d words n) same ∙ ap (rewind_answer c words) time ∙ sym (ap (found_answer words now c) found)
+pub fresh-meant : (words : RewindWords) {n now : ℤ} (c c' : Contents) → n ≡ now → c' ≡ c → stored_of c words.target words.source ≡ Ok None → rewind_answer (without_own c' words.target) c' words n ≡ resume_answer c words now
+fresh-meant words {n} {now} c c' time same found =
+    ap (λ d. rewind_answer (without_own d words.target) d words n) same ∙ ap (rewind_answer (without_own c words.target) c words) time ∙ sym (ap (found_answer words now c) found)
 
 -- ---- what is done leaves
 
@@ -136,9 +138,9 @@ fresh-only : {A : Type 0} (r : Result (Option Saying) ResumeFault) (said : Sayin
 fresh-only r said none some = let same : ◌≡◌ {A = Result (Option Saying) ResumeFault} (Ok None) (Ok (Some said)) = sym none ∙ some in absurd (cc same)
 
 pub fresh-leaves : (r : Result (Unit {0}) Cause) (words : RewindWords) {n now : ℤ} (c mid c' : Contents) → n ≡ now → mid ≡ c → stored_of c words.target words.source ≡ Ok None
-    → OnOk r (LeavesRewound words n mid c') → OnOk r (LeavesResumed words now c c')
+    → OnOk r (LeavesRewound words n (without_own mid words.target) c') → OnOk r (LeavesResumed words now c c')
 fresh-leaves (Ok u) words {n} c mid c' time same found left =
-    record { fresh = λ is. subst (λ m. LeavesRewound words m c c') time (subst (λ d. LeavesRewound words n d c') same left); stored = λ said wet is. fresh-only (stored_of c words.target words.source) said found is }
+    record { fresh = λ is. subst (λ m. LeavesRewound words m (without_own c words.target) c') time (subst (λ d. LeavesRewound words n (without_own d words.target) c') same left); stored = λ said wet is. fresh-only (stored_of c words.target words.source) said found is }
 fresh-leaves (Err e) words c mid c' time same found left = tt
 
 one-saying : (r : Result (Option Saying) ResumeFault) (said said' : Saying) → r ≡ Ok (Some said) → r ≡ Ok (Some said') → said ≡ said'
@@ -155,9 +157,9 @@ stored-leaves (Ok u) words now c mid c' stored same placed found left = record {
 stored-leaves (Err e) words now c mid c' stored same placed found left = tt
 
 pub fresh-durable : (r : Result (Unit {0}) Cause) (words : RewindWords) {n now : ℤ} (c mid : Contents) (moment : Moment) → n ≡ now → mid ≡ c → stored_of c words.target words.source ≡ Ok None
-    → OnOk r (IsDurable words n mid moment) → OnOk r (IsResumedDurably words now c moment)
+    → OnOk r (IsDurable words n (without_own mid words.target) moment) → OnOk r (IsResumedDurably words now c moment)
 fresh-durable (Ok u) words {n} c mid moment time same found stands = record {
-  fresh = λ is. subst (λ m. IsDurable words m c moment) time (subst (λ d. IsDurable words n d moment) same stands);
+  fresh = λ is. subst (λ m. IsDurable words m (without_own c words.target) moment) time (subst (λ d. IsDurable words n (without_own d words.target) moment) same stands);
   stored = λ said wet is. fresh-only (stored_of c words.target words.source) said found is;
 }
 fresh-durable (Err e) words c mid moment time same found stands = tt
@@ -181,20 +183,23 @@ still-again found c plan first may =
 
 module _ {F : Type 0} (tree : Ghosts F) (words : RewindWords) (now : ℤ) (a b : F) (reads : Reads tree a b) where
   pub looks-left : LeavesOnly (IsLeftByResume words now (moment_of tree a)) (tree.stops a) (tree.stops b)
-  looks-left = reads-leave tree (IsLeftByResume words now (moment_of tree a)) a b reads (λ c untouched. inl (inl untouched))
+  looks-left = reads-leave tree (IsLeftByResume words now (moment_of tree a)) a b reads (λ c untouched. inl untouched)
 
-  pub fresh-left : (d : F) {n : ℤ} → n ≡ now → LeavesOnly (IsLeftByRewind words n (moment_of tree b)) (tree.stops b) (tree.stops d) → LeavesOnly (IsLeftByResume words now (moment_of tree a)) (tree.stops a) (tree.stops d)
-  fresh-left d time left =
-      leaves_weaker (IsLeftByRewind words now (moment_of tree a)) (IsLeftByResume words now (moment_of tree a)) (tree.stops a) (tree.stops d) (λ c is. inl is)
-      (reads-on tree (IsLeftByRewind words now) a b d reads (subst (λ m. LeavesOnly (IsLeftByRewind words m (moment_of tree b)) (tree.stops b) (tree.stops d)) time left))
+  pub fresh-left : (d : F) {n : ℤ} → n ≡ now → stored_of (tree.contents a) words.target words.source ≡ Ok None
+      → LeavesOnly (IsLeftByRewind words n (without_own (tree.contents b) words.target) (moment_of tree b)) (tree.stops b) (tree.stops d) → LeavesOnly (IsLeftByResume words now (moment_of tree a)) (tree.stops a) (tree.stops d)
+  fresh-left d time found left =
+      leaves_weaker (IsLeftByRewind words now (without_own (tree.contents a) words.target) (moment_of tree a)) (IsLeftByResume words now (moment_of tree a)) (tree.stops a) (tree.stops d) (λ c is. inr (inl (found, is)))
+      (reads-on tree (λ m. IsLeftByRewind words now (without_own m.state.contents words.target) m) a b d reads (subst (λ m. LeavesOnly (IsLeftByRewind words m (without_own (tree.contents b) words.target) (moment_of tree b)) (tree.stops b) (tree.stops d)) time left))
 
   -- from synced contents on, where a rewind begins
   pub fresh-resumable : (d : F) {n : ℤ} → n ≡ now → StandsSynced (tree.contents a) (moment_of tree a)
-      → (StandsSynced (tree.contents b) (moment_of tree b) → LeavesOnly (IsLeftToResume words n (tree.contents b)) (tree.stops b) (tree.stops d)) → LeavesOnly (IsLeftToResume words now (tree.contents a)) (tree.stops a) (tree.stops d)
+      → (StandsSynced (tree.contents b) (moment_of tree b) → LeavesOnly (IsLeftToResume words n (without_own (tree.contents b) words.target) (tree.contents b)) (tree.stops b) (tree.stops d))
+      → LeavesOnly (IsLeftToResume words now (without_own (tree.contents a) words.target) (tree.contents a)) (tree.stops a) (tree.stops d)
   fresh-resumable d time stands left =
       let same : moment_of tree b ≡ moment_of tree a = λ i. record { state = record { contents = reads.same i; calls = reads.uncalled i }; stops = reads.unstopped i } in
       let begun : StandsSynced (tree.contents b) (moment_of tree b) = subst (λ (m : Moment). StandsSynced m.state.contents m) (sym same) stands in
-      reads-on tree (λ m. IsLeftToResume words now m.state.contents) a b d reads (subst (λ m. LeavesOnly (IsLeftToResume words m (tree.contents b)) (tree.stops b) (tree.stops d)) time (left begun))
+      reads-on tree (λ m. IsLeftToResume words now (without_own m.state.contents words.target) m.state.contents) a b d reads
+      (subst (λ m. LeavesOnly (IsLeftToResume words m (without_own (tree.contents b) words.target) (tree.contents b)) (tree.stops b) (tree.stops d)) time (left begun))
 
   -- of a rewind that was stopped, while it looks
   pub stopped-looks : (c : Contents) (before : ℤ) (n : Needing) (plan : RewindPlan) → IsStopped c words.target words.source before n plan (tree.contents a) → StandsSynced (tree.contents a) (moment_of tree a)
@@ -218,14 +223,14 @@ module _ {F : Type 0} (tree : Ghosts F) (words : RewindWords) (now : ℤ) (a b :
       → LeavesOnly (IsLeftAgain words stored.plan (moment_of tree b)) (tree.stops b) (tree.stops d) → LeavesOnly (IsLeftByResume words now (moment_of tree a)) (tree.stops a) (tree.stops d)
   stored-left d stored placed found left =
       leaves_weaker (IsLeftAgain words stored.plan (moment_of tree a)) (IsLeftByResume words now (moment_of tree a)) (tree.stops a) (tree.stops d)
-      (λ c. ⊎_elim (λ untouched. inl (inl untouched)) (λ safe. ⊎_elim (λ untouched. inl (inl untouched))
-      (λ other. inr (
+      (λ c. ⊎_elim (λ untouched. inl untouched) (λ safe. ⊎_elim (λ untouched. inl untouched)
+      (λ other. inr (inr (
         said_by stored,
         safe.0,
         found,
         ⊎_elim (λ marked. inl (subst (λ p. IsMarked p c) placed.mark marked))
             (λ done. inr (done ∙ ap (all_changed (tree.contents a)) (changes-as (tree.contents a) words.target stored placed))) other,
-      )) safe.1))
+      ))) safe.1))
       (reads-on tree (IsLeftAgain words stored.plan) a b d reads left)
 
 -- and what is made again, where no run is dry

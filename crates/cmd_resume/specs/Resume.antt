@@ -5,7 +5,8 @@ use Rattle.cluster_tree.specs.Contents.{Contents}
 use Rattle.cluster_tree.specs.Marks.{marks_of}
 use Rattle.cluster_tree.specs.PathValue.{PathValue, path_of}
 use Rattle.cluster_tree.specs.Run.{Moment}
-use Rattle.marked_runs.specs.Moments.{IsMarked, StandsSynced}
+use Rattle.marked_runs.specs.Moments.{IsMarked, IsUntouched, StandsSynced}
+use Rattle.rewind_core.specs.Over.{without_own}
 use Rattle.rewind_survey.specs.declared.outcome.Told.{Told}
 use Rattle.plan_text.specs.Paths.{parts_below}
 use Rattle.plan_text.specs.Text.{Saying}
@@ -73,9 +74,9 @@ abbrev pub stored_answer : RewindWords → Contents → Saying → Answer
 stored_answer words c said =
     if words.dry_run then does (rewind_report said.told) else told_answer said.told (rest_of words.target c (changes_again c words.target said))
 
--- what is done about what the mark holds: without a complete one it is a rewind as any
+-- what is done about what the mark holds: without a complete one it is a rewind of what is seen without that mark
 abbrev pub found_answer : RewindWords → ℤ → Contents → Result (Option Saying) ResumeFault → Answer
-found_answer words now c (Ok None) = rewind_answer c words now
+found_answer words now c (Ok None) = rewind_answer (without_own c words.target) c words now
 found_answer words now c (Ok (Some said)) = stored_answer words c said
 found_answer words now c (Err e) = refused (resume_cause words.source e)
 
@@ -88,20 +89,21 @@ IsResume words answer =
     IsRewind words answer
     ⊎ ((told : Told) × (after : Option Contents) × (way : PathValue) × (words.dry_run ≡ false) × (answer ≡ told_answer told (differing_rest words.target after way)))
 
--- A resume that is done leaves what its changes make of the contents; where no complete mark was found, what a rewind leaves.
+-- A resume that is done leaves what its changes make of the contents; where no complete mark was found, what a rewind leaves of what is seen without it.
 pub record LeavesResumed (words : RewindWords) (now : ℤ) (c c' : Contents) : Type 0 where
-  pub fresh : stored_of c words.target words.source ≡ Ok None → LeavesRewound words now c c'
+  pub fresh : stored_of c words.target words.source ≡ Ok None → LeavesRewound words now (without_own c words.target) c'
   pub stored : (said : Saying) → words.dry_run ≡ false → stored_of c words.target words.source ≡ Ok (Some said) → c' ≡ all_changed c (changes_again c words.target said)
 
--- what a stop at any moment may leave: untouched, or what a rewind may leave; and where the mark holds a plan and no run is dry, the mark, or
--- what the changes of the resume make
+-- what a stop at any moment may leave: untouched; where no complete mark was found, what a rewind may leave; and where the mark holds a plan and
+-- no run is dry, the mark, or what the changes of the resume make
 abbrev pub IsLeftByResume : RewindWords → ℤ → Moment → Contents → Type 0
 IsLeftByResume words now first d =
-    IsLeftByRewind words now first d
+    IsUntouched first d
+    ⊎ ((stored_of first.state.contents words.target words.source ≡ Ok None) × IsLeftByRewind words now (without_own first.state.contents words.target) first d)
     ⊎ ((said : Saying) × (words.dry_run ≡ false) × (stored_of first.state.contents words.target words.source ≡ Ok (Some said))
     × (IsMarked (marks_of words.target).rewind d ⊎ (d ≡ all_changed first.state.contents (changes_again first.state.contents words.target said))))
 
 -- once it is done, what stands
 pub record IsResumedDurably (words : RewindWords) (now : ℤ) (c : Contents) (moment : Moment) : Type 0 where
-  pub fresh : stored_of c words.target words.source ≡ Ok None → IsDurable words now c moment
+  pub fresh : stored_of c words.target words.source ≡ Ok None → IsDurable words now (without_own c words.target) moment
   pub stored : (said : Saying) → words.dry_run ≡ false → stored_of c words.target words.source ≡ Ok (Some said) → StandsSynced moment.state.contents moment

@@ -8,6 +8,7 @@ ghost use Rattle.cluster_tree.specs.Stops.{LeavesOnly};
 ghost use Rattle.marked_runs.specs.Moments.{IsMarked, StandsSynced};
 ghost use Rattle.plan_text.specs.Text.{said_by};
 ghost use Rattle.resumed_writes.specs.Again.{AreReadable, IsOnWayOrFinished, IsResumable, resumed_end};
+ghost use Rattle.rewind_core.specs.Over.{without_own};
 ghost use Rattle.rewind_core.specs.Planned.{Needing};
 ghost use Rattle.rewind_core.specs.declared.outcome.Plan.{Plan};
 ghost use Rattle.stored_laws.specs.Laws.{IsStopped, IsStoppedAgain};
@@ -24,7 +25,7 @@ ghost use Rattle.cmd_resume.specs.Resume.{IsLeftByResume, IsResume, IsResumedDur
 use crate::causes::resume_cause;
 use crate::makes::make_told;
 use cluster_tree::{Sink, Tree};
-use cmd_rewind::{Lines, diverged, report, rewind, rewinding};
+use cmd_rewind::{Lines, OwnMark, diverged, report, rewind, rewinding};
 use commands::RewindWords;
 use plan_text::StoredPlan;
 use resume_core::stored_rewind;
@@ -102,8 +103,8 @@ fn resume_stored<F: Tree, E: Sink>(
 
 /// Resumes a rewind that was stopped under its mark, by the plan that the mark holds, and reports it on
 /// `err` as a rewind does: two lines, the changes, and a last line. With `dry_run` the three lines alone;
-/// then nothing is changed. Where no complete mark stands there it is `rewind`. `now` is in seconds
-/// since 1970, and matters to such a rewind alone.
+/// then nothing is changed. Where no complete mark stands there it is a rewind of what is seen without the
+/// mark, which is then made anew. `now` is in seconds since 1970, and matters to such a rewind alone.
 ///
 /// Answers the first fault that `stored_rewind` tells, as `resume_cause` names it; all that, and want of
 /// memory, comes before the first line. Behind the two lines `TargetDiffers` comes at the first change
@@ -143,7 +144,8 @@ pub fn resume<F: Tree, E: Sink>(
     ensures resumable { IsTrue F.tells →
         stored_of (F.contents tree.old) words.now.target words.now.source ≡ Ok None →
         StandsSynced (F.contents tree.old) (moment_of F.Tree tree.old) → LeavesOnly
-        (IsLeftToResume words.now now (F.contents tree.old)) (F.stops tree.old) (F.stops tree.new) }
+        (IsLeftToResume words.now now (without_own (F.contents tree.old) words.now.target)
+        (F.contents tree.old)) (F.stops tree.old) (F.stops tree.new) }
     // and of a rewind that was stopped, from synced contents on, that rewind, stopped again, or the
     // rewound tree
     ensures again { IsTrue F.tells → (c : Contents) (before : ℤ) (n : Needing) (plan : Plan) →
@@ -164,7 +166,7 @@ pub fn resume<F: Tree, E: Sink>(
     ensures reads { IsTrue words.now.dry_run → Reads F.Tree tree.old tree.new }
 {
     match stored_rewind(alloc, tree, &words.target, &words.source) {
-        Ok(None) => rewind(alloc, tree, err, words, now),
+        Ok(None) => rewind(alloc, tree, err, words, now, OwnMark::PassedOver),
         Ok(Some(stored)) => resume_stored(alloc, tree, err, words, stored),
         Err(fault) => Err(resume_cause(alloc, &words.source, fault)),
     }

@@ -3,3 +3,4 @@ pub mod BelowLemmas
 pub mod FormLemmas
 pub mod MakeLemmas
 pub mod StopLemmas
+pub mod OverLemmas

@@ -8,7 +8,7 @@ use Rattle.marked_runs.specs.declared.faults.PerformFault.{PerformFault}
 use Rattle.marked_runs.specs.declared.faults.PerformFault.TheVariants as perform
 use Rattle.rewind_writes.specs.Plan.{plan_changes}
 use Rattle.rewind_survey.specs.declared.fault.RewindFault.{RewindFault}
-use Rattle.rewind_core.specs.Fits.{IsPlanFor, IsRewound}
+use Rattle.rewind_core.specs.Fits.{IsRewound}
 use Rattle.rewind_core.specs.Planned.{Meant, Needing, Needs, planned_of}
 use Rattle.rewind_core.specs.declared.outcome.Plan.{Plan}
 use Rattle.commands.specs.declared.rewind.RewindWords.{RewindWords}
@@ -54,14 +54,12 @@ lines_as {Seeing} {o} {e} {ended} {s} {u} plan {first' = first'} {second} is js 
     let R : List ℕ → Type 0 = λ y. P first' y in
     subst R js (subst Q is p)
 
--- what a plan leaves is said of what was read before it
-pub leaves : (r : Result (Unit {0}) Cause) (words : RewindWords) (now : ℤ) (c mid c' : Contents) (plan : Plan) → mid ≡ c
-    → ((n : Needing) × (planned_of c words.target words.source now ≡ Ok (Needs n)) × IsPlanFor c n plan)
-    → ((n : Needing) → IsPlanFor mid n plan → OnOk r (IsRewound mid n c')) → OnOk r (LeavesRewound words now c c')
-leaves (Ok u) words now c mid c' plan same (m, meant, for) left = λ n wet is.
-    let Q : Contents → Type 0 = λ x. (n : Needing) → IsPlanFor x n plan → IsRewound x n c' in
+-- what a plan leaves that is of just what is needed
+pub leaves : (r : Result (Unit {0}) Cause) (words : RewindWords) (now : ℤ) (s c' : Contents) (m : Needing) → planned_of s words.target words.source now ≡ Ok (Needs m)
+    → OnOk r (IsRewound s m c') → OnOk r (LeavesRewound words now s c')
+leaves (Ok u) words now s c' m meant left = λ n wet is.
     let one : ◌≡◌ {A = Result Meant RewindFault} (Ok (Needs m)) (Ok (Needs n)) = sym meant ∙ is in
     let needs : m ≡ n = cc one in
-    let P : Needing → Type 0 = λ x. IsRewound c x c' in
-    subst P needs (subst Q same left m for)
-leaves (Err e) words now c mid c' plan same for left = tt
+    let P : Needing → Type 0 = λ x. IsRewound s x c' in
+    subst P needs left
+leaves (Err e) words now s c' m meant left = tt

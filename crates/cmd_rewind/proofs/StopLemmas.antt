@@ -19,20 +19,19 @@ use Rattle.rewind_writes.specs.Plan.{IsResumable}
 use Rattle.cmd_rewind.specs.Rewind.{IsDurable, IsLeftByRewind, IsLeftToResume}
 use Rattle.rewind_paths.proofs.BelowLemmas.{Aims, planned-aims}
 
-module _ {F : Type 0} (tree : Ghosts F) (words : RewindWords) (now : ℤ) (a b : F) (reads : Reads tree a b) where
+module _ {F : Type 0} (tree : Ghosts F) (words : RewindWords) (now : ℤ) (s : Contents) (a b : F) (reads : Reads tree a b) where
   -- while it looks, and where it changes nothing
-  pub looks-left : LeavesOnly (IsLeftByRewind words now (moment_of tree a)) (tree.stops a) (tree.stops b)
-  looks-left = reads-leave tree (IsLeftByRewind words now (moment_of tree a)) a b reads (λ c untouched. inl untouched)
+  pub looks-left : LeavesOnly (IsLeftByRewind words now s (moment_of tree a)) (tree.stops a) (tree.stops b)
+  looks-left = reads-leave tree (IsLeftByRewind words now s (moment_of tree a)) a b reads (λ c untouched. inl untouched)
 
   -- and of a rewind that is made, whose mark is at the target's root
-  pub makes-left : (d : F) (plan : Plan) → words.dry_run ≡ false → ((n : Needing) × (planned_of (tree.contents a) words.target words.source now ≡ Ok (Needs n)) × IsPlanFor (tree.contents a) n plan)
-      → ((n : Needing) → IsPlanFor (tree.contents b) n plan → LeavesOnly (IsLeftBy n (moment_of tree b)) (tree.stops b) (tree.stops d)) → LeavesOnly (IsLeftByRewind words now (moment_of tree a)) (tree.stops a) (tree.stops d)
-  makes-left d plan wet (n, found, is) left =
-      let root : n.aim.between.target ≡ words.target = subst (Aims words.target) found (planned-aims (tree.contents a) words.target words.source now) in
-      let there : IsPlanFor (tree.contents b) n plan = subst (λ c. IsPlanFor c n plan) (sym reads.same) is in
-      leaves_weaker (IsLeftBy n (moment_of tree a)) (IsLeftByRewind words now (moment_of tree a)) (tree.stops a) (tree.stops d)
-      (λ c. ⊎_elim (λ untouched. inl untouched) (λ underway. inr (n, wet, found, subst (λ r. IsUnderway r (tree.contents a) n c) root underway)))
-      (reads-on tree (IsLeftBy n) a b d reads (left n there))
+  pub makes-left : (d : F) → words.dry_run ≡ false → (n : Needing) → planned_of s words.target words.source now ≡ Ok (Needs n)
+      → LeavesOnly (IsLeftBy s n (moment_of tree b)) (tree.stops b) (tree.stops d) → LeavesOnly (IsLeftByRewind words now s (moment_of tree a)) (tree.stops a) (tree.stops d)
+  makes-left d wet n found left =
+      let root : n.aim.between.target ≡ words.target = subst (Aims words.target) found (planned-aims s words.target words.source now) in
+      leaves_weaker (IsLeftBy s n (moment_of tree a)) (IsLeftByRewind words now s (moment_of tree a)) (tree.stops a) (tree.stops d)
+      (λ c. ⊎_elim (λ untouched. inl untouched) (λ underway. inr (n, wet, found, subst (λ r. IsUnderway r s n c) root underway)))
+      (reads-on tree (IsLeftBy s n) a b d reads left)
 
 -- ---- where it begins on synced contents
 
@@ -45,25 +44,22 @@ pub still-same : (P : Contents → Type 0) (c : Contents) (first : Moment) → S
 still-same P c first stands same =
     leaves_only P (IsUntouched first) first first (holds_first P (IsUntouched first) first (inl refl) (λ i image. inr image)) (λ i untouched. same i (synced-same c first stands i untouched))
 
-module _ {F : Type 0} (tree : Ghosts F) (words : RewindWords) (now : ℤ) (a b : F) (reads : Reads tree a b) (stands : StandsSynced (tree.contents a) (moment_of tree a)) where
+module _ {F : Type 0} (tree : Ghosts F) (words : RewindWords) (now : ℤ) (s : Contents) (a b : F) (reads : Reads tree a b) (stands : StandsSynced (tree.contents a) (moment_of tree a)) where
   -- while it looks, and where it changes nothing
-  pub looks-same : LeavesOnly (IsLeftToResume words now (tree.contents a)) (tree.stops a) (tree.stops b)
-  looks-same = reads-leave tree (IsLeftToResume words now (tree.contents a)) a b reads (λ i untouched. inl (synced-same (tree.contents a) (moment_of tree a) stands i untouched))
+  pub looks-same : LeavesOnly (IsLeftToResume words now s (tree.contents a)) (tree.stops a) (tree.stops b)
+  looks-same = reads-leave tree (IsLeftToResume words now s (tree.contents a)) a b reads (λ i untouched. inl (synced-same (tree.contents a) (moment_of tree a) stands i untouched))
 
   -- and of a rewind that is made
-  pub makes-resumable : (d : F) (plan : Plan) → words.dry_run ≡ false → ((n : Needing) × (planned_of (tree.contents a) words.target words.source now ≡ Ok (Needs n)) × IsPlanFor (tree.contents a) n plan)
-      → IsSaidIn (tree.contents a) words.target words.source plan
-      → ((n : Needing) → IsPlanFor (tree.contents b) n plan → StandsSynced (tree.contents b) (moment_of tree b) → LeavesOnly (IsResumable (tree.contents b) plan.text plan.writes) (tree.stops b) (tree.stops d))
-      → LeavesOnly (IsLeftToResume words now (tree.contents a)) (tree.stops a) (tree.stops d)
-  makes-resumable d plan wet (n, found, is) said left =
+  pub makes-resumable : (d : F) (plan : Plan) → words.dry_run ≡ false → (n : Needing) → planned_of s words.target words.source now ≡ Ok (Needs n) → IsPlanFor s n plan → IsSaidIn s words.target words.source plan
+      → (StandsSynced (tree.contents b) (moment_of tree b) → LeavesOnly (IsResumable s plan.text plan.writes) (tree.stops b) (tree.stops d)) → LeavesOnly (IsLeftToResume words now s (tree.contents a)) (tree.stops a) (tree.stops d)
+  makes-resumable d plan wet n found is said left =
       let same : moment_of tree b ≡ moment_of tree a = λ i. record { state = record { contents = reads.same i; calls = reads.uncalled i }; stops = reads.unstopped i } in
-      let there : IsPlanFor (tree.contents b) n plan = subst (λ c. IsPlanFor c n plan) (sym reads.same) is in
       let begun : StandsSynced (tree.contents b) (moment_of tree b) = subst (λ (m : Moment). StandsSynced m.state.contents m) (sym same) stands in
-      leaves_weaker (IsResumable (tree.contents a) plan.text plan.writes) (IsLeftToResume words now (tree.contents a)) (tree.stops a) (tree.stops d)
+      leaves_weaker (IsResumable s plan.text plan.writes) (IsLeftToResume words now s (tree.contents a)) (tree.stops a) (tree.stops d)
       (λ i resumable. inr (n, plan, wet, found, is, said, resumable))
-      (reads-on tree (λ m. IsResumable m.state.contents plan.text plan.writes) a b d reads (left n there begun))
+      (reads-on tree (λ m. IsResumable s plan.text plan.writes) a b d reads (left begun))
 
 -- and once it is made, what stands
-pub durable-by : (r : Result (Unit {0}) Cause) (words : RewindWords) (now : ℤ) (c : Contents) (moment : Moment) → OnOk r (StandsSynced moment.state.contents moment) → OnOk r (IsDurable words now c moment)
-durable-by (Ok u) words now c moment stands = λ n wet needed. stands
-durable-by (Err e) words now c moment stands = tt
+pub durable-by : (r : Result (Unit {0}) Cause) (words : RewindWords) (now : ℤ) (s : Contents) (moment : Moment) → OnOk r (StandsSynced moment.state.contents moment) → OnOk r (IsDurable words now s moment)
+durable-by (Ok u) words now s moment stands = λ n wet needed. stands
+durable-by (Err e) words now s moment stands = tt

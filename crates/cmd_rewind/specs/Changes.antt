@@ -21,18 +21,19 @@ closing aim =
     ∷ Writes (below aim.between.target label_parts) 0 (label_text aim.label)
     ∷ Writes (below aim.between.target control_parts) 0 (control_bytes aim.control) ∷ []
 
--- what the mark holds: the plan as text
-abbrev pub needed_text : Contents → Needing → List ℕ
-needed_text c n = plan_text n.aim.between.target record {
-  source = sum_at c n.aim.between.source;
+-- what the mark holds: the plan as text, with the CRC in the source's control file
+abbrev pub needed_text : (seen : Contents) → Needing → List ℕ
+needed_text seen n = plan_text n.aim.between.target record {
+  source = sum_at seen n.aim.between.source;
   told = n.aim.told;
   steps = steps_of n.aim.between n.pairs;
   label = label_text n.aim.label;
   control = control_bytes n.aim.control;
 }
 
--- under the mark the folders, files and removals of the paths side by side, and then that
-abbrev pub needed_changes : Contents → Needing → List Change
-needed_changes c n =
-    gated c (below n.aim.between.target mark_parts) mark_head mark_gate (needed_text c n)
+-- Under the mark the folders, files and removals of the paths side by side, and then that. What is needed is so of what is seen; the changes are
+-- of these contents, by which a mark is made or the one that stands there is cut to nothing.
+abbrev pub needed_changes : (seen c : Contents) → Needing → List Change
+needed_changes seen c n =
+    gated c (below n.aim.between.target mark_parts) mark_head mark_gate (needed_text seen n)
     (steps_changes c (steps_of n.aim.between n.pairs) ++ closing n.aim)

@@ -13,9 +13,9 @@ use Rattle.cmd_rewind.specs.Rewind.{rewind_answer}
 -- where a mark stands in the target, the answer is that it does, of the first that does, and nothing is done
 abbrev pub MarkedIsRefused : Type 0
 MarkedIsRefused = (c : Contents) (words : RewindWords) (now : ℤ) (mark : PathValue) → IsMarkThere (marks_of words.target) c mark →
-    (first : PathValue) × IsMarkThere (marks_of words.target) c first × (rewind_answer c words now ≡ refused (cause.Unfinished first))
+    (first : PathValue) × IsMarkThere (marks_of words.target) c first × (rewind_answer c c words now ≡ refused (cause.Unfinished first))
 
 -- so it is of what a stopped rewind left, where it left its mark
 abbrev pub UnfinishedIsRefused : Type 0
 UnfinishedIsRefused = (c : Contents) (words : RewindWords) (now : ℤ) → IsMarked (marks_of words.target).rewind c →
-    rewind_answer c words now ≡ refused (cause.Unfinished (marks_of words.target).rewind)
+    rewind_answer c c words now ≡ refused (cause.Unfinished (marks_of words.target).rewind)

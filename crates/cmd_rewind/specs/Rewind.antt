@@ -60,23 +60,23 @@ made_acts told c changes =
     Report (diverged told.fork) ∷ Report (rewinding told) ∷ Do (map call_of changes) (all_changed c changes) ∷ Report all_done ∷ []
 
 -- a rewind that is needed is reported in a dry run (-n), and else made
-abbrev pub needed_answer : Bool → Contents → Needing → Answer
-needed_answer dry_run c n = if dry_run then does (rewind_report n.aim.told) else does (made_acts n.aim.told c (needed_changes c n))
+abbrev pub needed_answer : Bool → (seen c : Contents) → Needing → Answer
+needed_answer dry_run seen c n = if dry_run then does (rewind_report n.aim.told) else does (made_acts n.aim.told c (needed_changes seen c n))
 
 -- what is done about two clusters
-abbrev pub meant_answer : Bool → Contents → Meant → Answer
-meant_answer dry_run c OneTimeline = does same_report
-meant_answer dry_run c (AtFork fork) = does (fork_report fork)
-meant_answer dry_run c (Needs n) = needed_answer dry_run c n
+abbrev pub meant_answer : Bool → (seen c : Contents) → Meant → Answer
+meant_answer dry_run seen c OneTimeline = does same_report
+meant_answer dry_run seen c (AtFork fork) = does (fork_report fork)
+meant_answer dry_run seen c (Needs n) = needed_answer dry_run seen c n
 
 -- that, or why the rewind is refused
-abbrev pub found_answer : Bool → Contents → Result Meant RewindFault → Answer
-found_answer dry_run c (Ok meant) = meant_answer dry_run c meant
-found_answer dry_run c (Err fault) = refused (rewind_cause fault)
+abbrev pub found_answer : Bool → (seen c : Contents) → Result Meant RewindFault → Answer
+found_answer dry_run seen c (Ok meant) = meant_answer dry_run seen c meant
+found_answer dry_run seen c (Err fault) = refused (rewind_cause fault)
 
--- the time is in seconds since 1970
-abbrev pub rewind_answer : Contents → RewindWords → ℤ → Answer
-rewind_answer c words now = found_answer words.dry_run c (planned_of c words.target words.source now)
+-- What is done, by what is seen of the contents: all of them, or where a rewind is begun anew all but its own mark. The time is in seconds since 1970.
+abbrev pub rewind_answer : (seen c : Contents) → RewindWords → ℤ → Answer
+rewind_answer seen c words now = found_answer words.dry_run seen c (planned_of seen words.target words.source now)
 
 -- over every tree: a report, of a rewind only in a dry run; or else a rewind that is made, all of whose changes are of the target; or a refusal
 -- while it looks
@@ -88,26 +88,26 @@ IsRewind words answer =
     ⊎ ((told : Told) × (c : Contents) × (changes : List Change) × (words.dry_run ≡ false) × AreOf words.target changes × (answer ≡ does (made_acts told c changes)))
     ⊎ ((e : Cause) × IsOfLook e × (answer ≡ refused e))
 
--- a rewind that is needed and made leaves the rewound tree below the target's root, path by path
-abbrev pub LeavesRewound : RewindWords → ℤ → Contents → Contents → Type 0
-LeavesRewound words now c c' =
-    (n : Needing) → words.dry_run ≡ false → planned_of c words.target words.source now ≡ Ok (Needs n) → IsRewound c n c'
+-- a rewind that is needed, by what is seen, and made leaves the rewound tree below the target's root, path by path
+abbrev pub LeavesRewound : RewindWords → ℤ → (seen after : Contents) → Type 0
+LeavesRewound words now seen after =
+    (n : Needing) → words.dry_run ≡ false → planned_of seen words.target words.source now ≡ Ok (Needs n) → IsRewound seen n after
 
 -- a stop at any moment leaves the target untouched, and only where a rewind is needed, and no run is dry, marked or rewound
-abbrev pub IsLeftByRewind : RewindWords → ℤ → Moment → Contents → Type 0
-IsLeftByRewind words now first c =
+abbrev pub IsLeftByRewind : RewindWords → ℤ → (seen : Contents) → Moment → Contents → Type 0
+IsLeftByRewind words now seen first c =
     IsUntouched first c
-    ⊎ ((n : Needing) × (words.dry_run ≡ false) × (planned_of first.state.contents words.target words.source now ≡ Ok (Needs n)) × IsUnderway words.target first.state.contents n c)
+    ⊎ ((n : Needing) × (words.dry_run ≡ false) × (planned_of seen words.target words.source now ≡ Ok (Needs n)) × IsUnderway words.target seen n c)
 
--- A rewind that begins on synced contents leaves these at any stop, or what a plan of just what is needed left, whose text is read as just that plan. Where its
--- mark reads as complete, a resume completes it.
-abbrev pub IsLeftToResume : RewindWords → ℤ → Contents → Contents → Type 0
-IsLeftToResume words now c i =
+-- A rewind that begins on synced contents leaves these at any stop, or what a plan of just what is needed left of what was seen, whose text is read as just that
+-- plan. Where its mark reads as complete, a resume completes it, and else begins it anew.
+abbrev pub IsLeftToResume : RewindWords → ℤ → (seen c i : Contents) → Type 0
+IsLeftToResume words now seen c i =
     (i ≡ c)
-    ⊎ ((n : Needing) × (plan : Plan) × (words.dry_run ≡ false) × (planned_of c words.target words.source now ≡ Ok (Needs n)) × IsPlanFor c n plan
-    × IsSaidIn c words.target words.source plan × IsResumable c plan.text plan.writes i)
+    ⊎ ((n : Needing) × (plan : Plan) × (words.dry_run ≡ false) × (planned_of seen words.target words.source now ≡ Ok (Needs n)) × IsPlanFor seen n plan
+    × IsSaidIn seen words.target words.source plan × IsResumable seen plan.text plan.writes i)
 
 -- once a rewind that is needed is made, a stop leaves what stands
-abbrev pub IsDurable : RewindWords → ℤ → Contents → Moment → Type 0
-IsDurable words now c moment =
-    (n : Needing) → words.dry_run ≡ false → planned_of c words.target words.source now ≡ Ok (Needs n) → StandsSynced moment.state.contents moment
+abbrev pub IsDurable : RewindWords → ℤ → (seen : Contents) → Moment → Type 0
+IsDurable words now seen moment =
+    (n : Needing) → words.dry_run ≡ false → planned_of seen words.target words.source now ≡ Ok (Needs n) → StandsSynced moment.state.contents moment

@@ -1,13 +1,15 @@
 // A rewind that is made, between its lines.
 ghost use Rattle.std.specs.Prelude.{◌≡◌, ◌≢◌, ◌≤◌, ◌⊎◌, [], ◌∷◌, Bool, Err, IfErr, IsErrOf, IsTrue, OnOk};
 ghost use Rattle.cluster_tree.specs.Causes.{Rose};
+ghost use Rattle.cluster_tree.specs.Contents.{Contents};
 ghost use Rattle.cluster_tree.specs.Frame.{Came, moment_of};
 ghost use Rattle.cluster_tree.specs.PathValue.{PathValue};
 ghost use Rattle.cluster_tree.specs.Stops.{LeavesOnly};
 ghost use Rattle.marked_runs.specs.Moments.{StandsSynced};
 ghost use Rattle.rewind_writes.specs.Plan.{IsResumable};
 ghost use Rattle.rewind_writes.specs.Steps.{AllAreFit};
-ghost use Rattle.rewind_core.specs.Fits.{IsPlanFor, IsRewound};
+ghost use Rattle.rewind_core.specs.Fits.{IsRewound};
+ghost use Rattle.rewind_core.specs.Over.{IsPlanOver};
 ghost use Rattle.rewind_core.specs.Planned.{Needing};
 ghost use Rattle.rewind_core.specs.Stops.{IsLeftBy};
 ghost use Rattle.acts.specs.Acts.{Report, Sunk, seen, sunk};
@@ -24,21 +26,26 @@ use run_acts::{Cause, tell};
 // Carries out a plan, and tells that it is done.
 fn make<F: Tree, E: Sink>(tree: &mut F, err: &mut E, plan: Plan) -> Result<(), Cause>
     requires fit { AllAreFit plan.writes.steps.items }
-    requires planned { IsTrue F.tells → (n : Needing) × IsPlanFor (F.contents tree.old) n plan }
+    requires planned { IsTrue F.tells → (view : Contents) × (n : Needing) ×
+        IsPlanOver view (F.contents tree.old) n plan }
     ensures performs { (out_tells : Bool) (out : Sunk) → PerformsUnseen (IsTrue F.tells)
         out_tells E.tells (cause_of result) (made_of plan)
         (seen (F.contents tree.old) (F.calls tree.old) out
         (sunk (E.written err.old) (E.failed_writes err.old)))
         (seen (F.contents tree.new) (F.calls tree.new) out
         (sunk (E.written err.new) (E.failed_writes err.new))) }
-    ensures rewound { IsTrue F.tells → (n : Needing) → IsPlanFor (F.contents tree.old) n plan →
-        OnOk result (IsRewound (F.contents tree.old) n (F.contents tree.new)) }
-    ensures stops { IsTrue F.tells → (n : Needing) → IsPlanFor (F.contents tree.old) n plan →
-        LeavesOnly (IsLeftBy n (moment_of F.Tree tree.old)) (F.stops tree.old) (F.stops tree.new) }
-    ensures resumable { IsTrue F.tells → (n : Needing) → IsPlanFor (F.contents tree.old) n plan →
+    ensures rewound { IsTrue F.tells → (view : Contents) (n : Needing) →
+        IsPlanOver view (F.contents tree.old) n plan →
+        OnOk result (IsRewound view n (F.contents tree.new)) }
+    ensures stops { IsTrue F.tells → (view : Contents) (n : Needing) →
+        IsPlanOver view (F.contents tree.old) n plan →
+        LeavesOnly (IsLeftBy view n (moment_of F.Tree tree.old)) (F.stops tree.old) (F.stops tree.new) }
+    ensures resumable { IsTrue F.tells → (view : Contents) (n : Needing) →
+        IsPlanOver view (F.contents tree.old) n plan →
         StandsSynced (F.contents tree.old) (moment_of F.Tree tree.old) → LeavesOnly
-        (IsResumable (F.contents tree.old) plan.text plan.writes) (F.stops tree.old) (F.stops tree.new) }
-    ensures synced { IsTrue F.tells → (n : Needing) → IsPlanFor (F.contents tree.old) n plan →
+        (IsResumable view plan.text plan.writes) (F.stops tree.old) (F.stops tree.new) }
+    ensures synced { IsTrue F.tells → (view : Contents) (n : Needing) →
+        IsPlanOver view (F.contents tree.old) n plan →
         OnOk result (StandsSynced (F.contents tree.new) (moment_of F.Tree tree.new)) }
     ensures only { IfErr result IsOfMaking }
     ensures changed { IsTrue F.tells → (p : PathValue) → result ≢ Err (Cause.Changed p) }
@@ -70,7 +77,8 @@ pub(crate) fn make_told<F: Tree, E: Sink>(
     plan: Plan,
 ) -> Result<(), Cause>
     requires fit { AllAreFit plan.writes.steps.items }
-    requires planned { IsTrue F.tells → (n : Needing) × IsPlanFor (F.contents tree.old) n plan }
+    requires planned { IsTrue F.tells → (view : Contents) × (n : Needing) ×
+        IsPlanOver view (F.contents tree.old) n plan }
     ensures performs { (out_tells : Bool) (out : Sunk) → PerformsUnseen (IsTrue F.tells)
         out_tells E.tells (cause_of result)
         (λ c. Report first.now ∷ Report second.now ∷ made_of plan c)
@@ -78,14 +86,18 @@ pub(crate) fn make_told<F: Tree, E: Sink>(
         (sunk (E.written err.old) (E.failed_writes err.old)))
         (seen (F.contents tree.new) (F.calls tree.new) out
         (sunk (E.written err.new) (E.failed_writes err.new))) }
-    ensures rewound { IsTrue F.tells → (n : Needing) → IsPlanFor (F.contents tree.old) n plan →
-        OnOk result (IsRewound (F.contents tree.old) n (F.contents tree.new)) }
-    ensures stops { IsTrue F.tells → (n : Needing) → IsPlanFor (F.contents tree.old) n plan →
-        LeavesOnly (IsLeftBy n (moment_of F.Tree tree.old)) (F.stops tree.old) (F.stops tree.new) }
-    ensures resumable { IsTrue F.tells → (n : Needing) → IsPlanFor (F.contents tree.old) n plan →
+    ensures rewound { IsTrue F.tells → (view : Contents) (n : Needing) →
+        IsPlanOver view (F.contents tree.old) n plan →
+        OnOk result (IsRewound view n (F.contents tree.new)) }
+    ensures stops { IsTrue F.tells → (view : Contents) (n : Needing) →
+        IsPlanOver view (F.contents tree.old) n plan →
+        LeavesOnly (IsLeftBy view n (moment_of F.Tree tree.old)) (F.stops tree.old) (F.stops tree.new) }
+    ensures resumable { IsTrue F.tells → (view : Contents) (n : Needing) →
+        IsPlanOver view (F.contents tree.old) n plan →
         StandsSynced (F.contents tree.old) (moment_of F.Tree tree.old) → LeavesOnly
-        (IsResumable (F.contents tree.old) plan.text plan.writes) (F.stops tree.old) (F.stops tree.new) }
-    ensures synced { IsTrue F.tells → (n : Needing) → IsPlanFor (F.contents tree.old) n plan →
+        (IsResumable view plan.text plan.writes) (F.stops tree.old) (F.stops tree.new) }
+    ensures synced { IsTrue F.tells → (view : Contents) (n : Needing) →
+        IsPlanOver view (F.contents tree.old) n plan →
         OnOk result (StandsSynced (F.contents tree.new) (moment_of F.Tree tree.new)) }
     ensures only { IfErr result IsOfMaking }
     ensures changed { IsTrue F.tells → (p : PathValue) → result ≢ Err (Cause.Changed p) }

@@ -8,3 +8,7 @@ pub mod SurveyLemmas
 pub mod PerformLemmas
 pub mod StopLemmas
 pub mod MarkLemmas
+pub mod AnewLemmas
+pub mod OverLemmas
+pub mod FactLemmas
+pub mod LeftLemmas

@@ -14,7 +14,7 @@ use Rattle.gated_marks.specs.Gates.{IsComplete}
 use Rattle.gated_marks.proofs.ByteLemmas.{short-incomplete}
 use Rattle.marked_runs.specs.Moments.{IsSafe, StandsSynced}
 use Rattle.marked_runs.specs.Performed.{Performs}
-use Rattle.marked_runs.specs.Runs.{Runs, is_done}
+use Rattle.marked_runs.specs.Runs.{Runs}
 use Rattle.marked_runs.specs.declared.faults.PerformFault.{PerformFault}
 use Rattle.marked_runs.specs.declared.faults.PerformFault.TheVariants as perform
 use Rattle.rewind_writes.specs.Plan.{IsFound, IsResumable, body_changes, mark_gate, mark_head, plan_changes}
@@ -60,10 +60,6 @@ module _ (c : Contents) (n : Needing) (plan : Plan) (is : IsPlanFor c n plan) wh
     elsewhere = λ path out. ap (λ c. entry_at c path) after
         ∙ changed-elsewhere c (plan_changes c plan.text plan.writes) path (plan-below c plan.text n.aim.between n.pairs n.aim.control n.aim.label plan.writes is.sides is.writes path out);
   }
-
-  pub rewound-by : {k l : List ChangeCall} {c' : Contents} (r : Result (Unit {0}) PerformFault) → Runs (plan_changes c plan.text plan.writes) k l c c' (is_done r) → OnOk r (IsRewound c n c')
-  rewound-by (Ok u) runs = left-by _ (runs.after refl)
-  rewound-by (Err e) runs = tt
 
 -- faults of what is carried out, as those of a rewind
 pub changed-of : (f : PerformFault) (p : PathValue) → of_perform f ≡ fault.Cluster (cluster.Changed p) → f ≡ perform.Changed p

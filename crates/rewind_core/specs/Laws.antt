@@ -1,14 +1,20 @@
--- A run that isn't finished is refused, for callers. Own: "Mark files".
-use Rattle.std.specs.Prelude.{◌≡◌, ℤ, [], ◌∷◌, None, Some, Err}
+-- A run that isn't finished is refused, and what it leaves, for callers. Own: "Mark files", "A rewind that is begun anew".
+use Rattle.std.specs.Prelude.{◌≡◌, ◌⊎◌, ℤ, [], ◌∷◌, None, Some, Err}
 use Rattle.cluster_tree.specs.Causes.{IsAmong}
 use Rattle.cluster_tree.specs.Contents.{Contents}
 use Rattle.cluster_tree.specs.Marks.{MarkPaths, marks_of}
 use Rattle.cluster_tree.specs.PathValue.{PathValue}
+use Rattle.cluster_tree.specs.Tree.{bytes_at}
 use Rattle.clusters.specs.Marks.{unfinished}
 use Rattle.clusters.specs.declared.fault.ClusterFault.TheVariants as cluster
+use Rattle.gated_marks.specs.Gates.{IsComplete}
 use Rattle.marked_runs.specs.Moments.{IsMarked}
 use Rattle.rewind_survey.specs.declared.fault.RewindFault.TheVariants as fault
-use Rattle.rewind_core.specs.Planned.{planned_of}
+use Rattle.rewind_writes.specs.Plan.{IsResumable, mark_gate, mark_head}
+use Rattle.rewind_core.specs.Fits.{IsPlanFor, IsRewound}
+use Rattle.rewind_core.specs.Over.{without_own}
+use Rattle.rewind_core.specs.Planned.{Needing, planned_of}
+use Rattle.rewind_core.specs.declared.outcome.Plan.{Plan}
 
 -- one of these three marks stands there
 abbrev pub IsMarkThere : MarkPaths → Contents → PathValue → Type 0
@@ -33,3 +39,9 @@ UnfinishedRewindIsRefused = (c : Contents) (target source : PathValue) (now : �
 abbrev pub MarkedSourceIsRefused : Type 0
 MarkedSourceIsRefused = (c : Contents) (target source mark : PathValue) (now : ℤ) → unfinished c target ≡ None → IsMarkThere (marks_of source) c mark →
     (first : PathValue) × IsMarkThere (marks_of source) c first × (planned_of c target source now ≡ Err (fault.Cluster (cluster.Unfinished first)))
+
+-- What a stop leaves of a rewind that began on contents which it was needed for: seen without its own mark these contents, so that a resume
+-- begins it anew; or a mark that reads as complete; or the rewound tree.
+abbrev pub EachStopIsTold : Type 0
+EachStopIsTold = (c : Contents) (n : Needing) (plan : Plan) (i : Contents) → IsPlanFor c n plan → IsResumable c plan.text plan.writes i →
+    (without_own i n.aim.between.target ≡ c) ⊎ (IsComplete mark_head mark_gate (bytes_at i plan.writes.mark) ⊎ IsRewound c n i)

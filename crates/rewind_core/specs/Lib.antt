@@ -5,3 +5,4 @@ pub mod Rooted
 pub mod Fits
 pub mod Stops
 pub mod Laws
+pub mod Over

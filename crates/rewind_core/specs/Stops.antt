@@ -15,9 +15,9 @@ use Rattle.rewind_core.specs.declared.outcome.RewindDone.TheVariants as done
 abbrev pub IsUnderway : (target : PathValue) → Contents → Needing → Contents → Type 0
 IsUnderway target old n c = IsMarked (marks_of target).rewind c ⊎ IsRewound old n c
 
--- of a rewind that is needed, from this moment on: untouched, marked or rewound
-abbrev pub IsLeftBy : Needing → Moment → Contents → Type 0
-IsLeftBy n first c = IsUntouched first c ⊎ IsUnderway n.aim.between.target first.state.contents n c
+-- of a rewind that is needed for what was seen, from this moment on: untouched, marked or rewound
+abbrev pub IsLeftBy : (seen : Contents) → Needing → Moment → Contents → Type 0
+IsLeftBy seen n first c = IsUntouched first c ⊎ IsUnderway n.aim.between.target seen n c
 
 -- of any: untouched, and only where a rewind is needed marked or rewound
 abbrev pub IsLeft : Result Meant RewindFault → (target : PathValue) → Moment → Contents → Type 0

@@ -1,6 +1,7 @@
 //! A rewind: what it has to do, planned, and carried out.
 #![tactic(auto)]
 
+mod anew;
 mod faults;
 mod laws;
 mod outcome;
@@ -11,7 +12,8 @@ mod rewinding;
 mod sums;
 mod walks;
 
-pub use laws::marks_are_refused;
+pub use anew::plan_anew;
+pub use laws::{marks_are_refused, stops_are_told};
 pub use marked_runs::PerformFault;
 pub use outcome::{Plan, Planned, RewindDone};
 pub use performing::perform;

@@ -33,7 +33,7 @@ fn carry_out<F: Tree>(tree: &mut F, plan: Plan) -> Result<RewindDone, RewindFaul
     ensures rewound { IsTrue F.tells → (n : Needing) → IsPlanFor (F.contents tree.old) n plan →
         OnOk result (IsRewound (F.contents tree.old) n (F.contents tree.new)) }
     ensures stops { IsTrue F.tells → (n : Needing) → IsPlanFor (F.contents tree.old) n plan →
-        LeavesOnly (IsLeftBy n (moment_of F.Tree tree.old)) (F.stops tree.old) (F.stops tree.new) }
+        LeavesOnly (IsLeftBy (F.contents tree.old) n (moment_of F.Tree tree.old)) (F.stops tree.old) (F.stops tree.new) }
     ensures synced { IsTrue F.tells → (n : Needing) → IsPlanFor (F.contents tree.old) n plan →
         OnOk result (StandsSynced (F.contents tree.new) (moment_of F.Tree tree.new)) }
     ensures only { IfErr result (λ e. (e ≡ RewindFault.Cluster cluster.ReadFault)

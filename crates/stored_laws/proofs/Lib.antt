@@ -1,5 +1,6 @@
 pub mod LeftLemmas
 pub mod AimLemmas
+pub mod TimeLemmas
 pub mod StepLemmas
 pub mod SourceLemmas
 pub mod MarkLemmas

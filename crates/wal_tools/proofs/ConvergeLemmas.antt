@@ -1,20 +1,29 @@
 -- A rewind that is done, and one that was stopped and is resumed, leave a target that follows its source.
-use Rattle.std.proofs.Common.{◌≡◌, ℕ, ℤ, Bool, false, List, Result, Ok, Err, refl, sym, ap, ◌∙◌, subst}
+use Rattle.std.proofs.Common.{◌≡◌, ◌⊎◌, ℕ, ℤ, Bool, false, List, None, Result, Ok, Err, inl, inr, ⊎_elim, refl, sym, ap, ◌∙◌, subst}
 use Rattle.cluster_tree.specs.Change.{all_changed}
 use Rattle.cluster_tree.specs.Contents.{Contents}
+use Rattle.cluster_tree.specs.Marks.{marks_of}
 use Rattle.cluster_tree.specs.PathValue.{below}
+use Rattle.cluster_tree.specs.Tree.{bytes_at}
+use Rattle.gated_marks.specs.Gates.{IsComplete}
 use Rattle.rewind_plan.specs.Sides.{control_parts, label_parts, mark_parts}
 use Rattle.plan_text.specs.Stored.{IsPlacedAt}
 use Rattle.plan_text.specs.Text.{said_by}
 use Rattle.plan_text.specs.declared.stored.StoredPlan.{StoredPlan}
-use Rattle.rewind_core.specs.Fits.{IsRewound}
-use Rattle.rewind_core.specs.Planned.{Needing}
+use Rattle.rewind_core.specs.Fits.{IsPlanFor, IsRewound}
+use Rattle.rewind_core.specs.Over.{without_own}
+use Rattle.rewind_core.specs.Planned.{Needing, Needs, planned_of}
 use Rattle.rewind_core.specs.Text.{sum_at}
 use Rattle.rewind_core.specs.declared.outcome.Plan.{Plan}
+use Rattle.rewind_core.proofs.LeftLemmas.{stop-told}
+use Rattle.rewind_writes.specs.Plan.{IsResumable, mark_gate, mark_head}
+use Rattle.resume_core.specs.Stored.{stored_of}
 use Rattle.stored_laws.specs.Laws.{IsStopped}
 use Rattle.stored_laws.proofs.AimLemmas.{needed-aimed}
 use Rattle.stored_laws.proofs.ResumeLemmas.{stopped-resumed}
 use Rattle.stored_laws.proofs.StoredLemmas.{stopped-stored}
+use Rattle.stored_laws.proofs.TimeLemmas.{needed-at}
+use Rattle.rewound_laws.specs.Converge.{Follows}
 use Rattle.rewound_laws.proofs.ConvergeLemmas.{follows}
 use Rattle.commands.specs.declared.command.Command.{Command}
 use Rattle.commands.specs.declared.command.Command.TheVariants as command
@@ -22,6 +31,7 @@ use Rattle.commands.specs.declared.fault.CommandFault.{CommandFault}
 use Rattle.commands.specs.declared.rewind.RewindWords.{RewindWords}
 use Rattle.cmd_resume.specs.Resume.{LeavesResumed}
 use Rattle.cmd_resume.proofs.ResumeLemmas.{changes-as}
+use Rattle.cmd_resume.proofs.ShutLemmas.{stored-shut}
 use Rattle.wal_tools.specs.Converges.{ConvergesAsked}
 use Rattle.wal_tools.specs.Leaves.{LeavesAsked}
 use Rattle.wal_tools.specs.Resumed.{ConvergesResumed}
@@ -47,12 +57,28 @@ module _ (words : RewindWords) (now : ℤ) (c c' : Contents) (left : LeavesResum
       let made = left.stored (said_by stored) wet (stopped-stored c0 words.target words.source before n plan c stop) in
       subst (IsRewound c0 n) (sym (made ∙ ap (all_changed c) (sym (changes-as c words.target stored placed)))) ends.rewound
 
+  anew-rewound : words.dry_run ≡ false → stored_of c words.target words.source ≡ Ok None → (c0 : Contents) (before : ℤ) (n : Needing) (plan : Plan)
+      → planned_of c0 words.target words.source before ≡ Ok (Needs n) → IsPlanFor c0 n plan → IsResumable c0 plan.text plan.writes c
+      → IsRewound c0 n c ⊎ ((m : Needing) × (planned_of c0 words.target words.source now ≡ Ok (Needs m)) × IsRewound c0 m c' × Follows c0 words.target m c')
+  anew-rewound wet none c0 before n plan needed for stop =
+      let root = (needed-aimed c0 words.target words.source before n needed).target_is in
+      let at : plan.writes.mark ≡ (marks_of words.target).rewind = for.writes.mark ∙ ap (λ r. below r mark_parts) root in
+      ⊎_elim
+      (λ same.
+      let whole : without_own c words.target ≡ c0 = subst (λ r. without_own c r ≡ c0) root same in
+      let (m, meant) = needed-at c0 words.target words.source before now n needed in
+      let rewound : IsRewound c0 m c' = subst (λ d. IsRewound d m c') whole (left.fresh none m wet (ap (λ d. planned_of d words.target words.source now) whole ∙ meant)) in
+      inr (m, meant, rewound, follows c0 c' words.target words.source now m meant rewound))
+      (⊎_elim (λ complete. absurd (stored-shut c words.target words.source none (subst (λ p. IsComplete mark_head mark_gate (bytes_at c p)) at complete))) (λ done. inl done))
+      (stop-told c0 n plan c for stop)
+
   resumed-converges : ConvergesResumed words now c c'
   resumed-converges = record {
-    fresh = λ none n wet planned. follows c c' words.target words.source now n planned (left.fresh none n wet planned);
+    fresh = λ none n wet planned. follows (without_own c words.target) c' words.target words.source now n planned (left.fresh none n wet planned);
     stored = λ wet c0 before n plan stop.
         let rewound = again-rewound wet c0 before n plan stop in
         (rewound, follows c0 c' words.target words.source before n stop.needed rewound);
+    anew = anew-rewound;
   }
 
 -- ---- any run

@@ -48,7 +48,7 @@ use Rattle.wal_tools.specs.Words.{IsSeen, MayChange, NeedsNoTree, refused_by_wor
 
 -- what is done has the command's form, and begins with a look
 pub answered-form : (c : Contents) (now : ℤ) (asked : Result Command CommandFault) → IsAnswer now asked (answered c now asked)
-answered-form c now (Ok (command.Rewind words)) = rewind-form c words now
+answered-form c now (Ok (command.Rewind words)) = rewind-form c c words now
 answered-form c now (Ok (command.Resume words)) = resume-form c words now
 answered-form c now (Ok (command.Controldata words)) = control-form (control_at c words.root)
 answered-form c now (Ok (command.Waldump words)) = waldump-form c words
@@ -60,7 +60,7 @@ answered-form c now (Ok (command.Pair words)) = pair-form c words
 answered-form c now (Err e) = refl
 
 pub answered-looks : (c : Contents) (now : ℤ) (asked : Result Command CommandFault) → Looks ((answered c now asked).acts)
-answered-looks c now (Ok (command.Rewind words)) = rewind-looks c words now
+answered-looks c now (Ok (command.Rewind words)) = rewind-looks c c words now
 answered-looks c now (Ok (command.Resume words)) = resume-looks c words now
 answered-looks c now (Ok (command.Controldata words)) = control-looks (control_at c words.root)
 answered-looks c now (Ok (command.Waldump words)) = waldump-looks c words
@@ -153,7 +153,7 @@ rewind_seen T words (inr dry) = inr (λ may. let same : true ≡ false = sym may
 
 -- it was carried out
 pub of_rewind : (tells : Bool) (c : Contents) (now : ℤ) {k : Command} {words : RewindWords} {o e : Bool} {ended : Cause} {s u : Seen} → k ≡ command.Rewind words
-    → CarriesUnseen (IsTrue tells ⊎ IsTrue words.dry_run) (IsTrue tells) (rewind_answer c words now) (IsRewind words) o e ended s u → CarriesOut tells c now o e (Ok k) ended s u
+    → CarriesUnseen (IsTrue tells ⊎ IsTrue words.dry_run) (IsTrue tells) (rewind_answer c c words now) (IsRewind words) o e ended s u → CarriesOut tells c now o e (Ok k) ended s u
 of_rewind tells c now {words = words} {o} {e} {ended} {s} {u} is p =
     let P : Command → Type 0 = λ x. CarriesOut tells c now o e (Ok x) ended s u in
     subst P (sym is) (unseen_by (seen_rewind (IsTrue tells) words) (rewind_seen (IsTrue tells) words) (unseen_known (by_tree tells) p))

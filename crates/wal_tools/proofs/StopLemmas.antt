@@ -29,7 +29,7 @@ use Rattle.wal_tools.specs.Stopped.{IsDurableAsked, IsLeftAsked}
 -- what is untouched is left by every command
 within : (asked : Result Command CommandFault) (now : ℤ) (first : Moment) → Within (IsUntouched first) (IsLeftAsked asked now first)
 within (Ok (command.Rewind words)) now first c u = inl u
-within (Ok (command.Resume words)) now first c u = inl (inl u)
+within (Ok (command.Resume words)) now first c u = inl u
 within (Ok (command.Controldata words)) now first c u = u
 within (Ok (command.Waldump words)) now first c u = u
 within (Ok (command.Resetwal words)) now first c u = inl u
@@ -58,10 +58,10 @@ pub left_of_pair : {k : Command} {words : PairWords} (now : ℤ) (first : Moment
 left_of_pair {k} {words} now first a b is left = let P : Command → Type 0 = λ x. LeavesOnly (IsLeftAsked (Ok x) now first) a b in subst P (sym is) left
 
 -- pg_rewind was, with the time under another name
-pub left_of_rewind : {k : Command} {words : RewindWords} {n m : ℤ} (first : Moment) (a b : Stops) → k ≡ command.Rewind words → n ≡ m → LeavesOnly (IsLeftByRewind words n first) a b → LeavesOnly (IsLeftAsked (Ok k) m first) a b
+pub left_of_rewind : {k : Command} {words : RewindWords} {n m : ℤ} (first : Moment) (a b : Stops) → k ≡ command.Rewind words → n ≡ m → LeavesOnly (IsLeftByRewind words n first.state.contents first) a b → LeavesOnly (IsLeftAsked (Ok k) m first) a b
 left_of_rewind {k} {words} {n} {m} first a b is same left =
     let P : Command → Type 0 = λ x. LeavesOnly (IsLeftAsked (Ok x) m first) a b in
-    subst P (sym is) (subst (λ x. LeavesOnly (IsLeftByRewind words x first) a b) same left)
+    subst P (sym is) (subst (λ x. LeavesOnly (IsLeftByRewind words x first.state.contents first) a b) same left)
 
 -- pg_resetwal was
 pub left_of_reset : {k : Command} {words : ResetwalWords} {n m : ℤ} (first : Moment) (a b : Stops) → k ≡ command.Resetwal words → n ≡ m → LeavesOnly (IsLeftByReset words n first) a b → LeavesOnly (IsLeftAsked (Ok k) m first) a b

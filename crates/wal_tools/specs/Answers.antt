@@ -18,7 +18,7 @@ use Rattle.wal_tools.specs.Words.{words_cause}
 
 -- what is done about the words, from the contents and the time in seconds since 1970
 abbrev pub answered : Contents → ℤ → Result Command CommandFault → Answer
-answered c now (Ok (command.Rewind words)) = rewind_answer c words now
+answered c now (Ok (command.Rewind words)) = rewind_answer c c words now
 answered c now (Ok (command.Resume words)) = resume_answer c words now
 answered c now (Ok (command.Controldata words)) = controldata_answer c words
 answered c now (Ok (command.Waldump words)) = waldump_answer c words

@@ -9,6 +9,7 @@ use Rattle.commands.specs.declared.command.Command.TheVariants as command
 use Rattle.commands.specs.declared.fault.CommandFault.{CommandFault}
 use Rattle.commands.specs.declared.rewind.RewindWords.{RewindWords}
 use Rattle.marked_runs.specs.Moments.{StandsSynced}
+use Rattle.rewind_core.specs.Over.{without_own}
 use Rattle.rewind_core.specs.Planned.{Needing}
 use Rattle.rewind_core.specs.declared.outcome.Plan.{Plan}
 use Rattle.resume_core.specs.Stored.{stored_of}
@@ -19,12 +20,12 @@ use Rattle.cmd_rewind.specs.Rewind.{IsLeftToResume}
 -- as complete
 abbrev pub LeavesToResume : {F : Type 0} → Ghosts F → Result Command CommandFault → ℤ → F → F → Type 0
 LeavesToResume tree asked now old new = (words : RewindWords) → asked ≡ Ok (command.Rewind words) → StandsSynced (tree.contents old) (moment_of tree old) →
-    LeavesOnly (IsLeftToResume words now (tree.contents old)) (tree.stops old) (tree.stops new)
+    LeavesOnly (IsLeftToResume words now (tree.contents old) (tree.contents old)) (tree.stops old) (tree.stops new)
 
--- so does a resume where no complete mark stands
+-- so does a resume where no complete mark stands, by what is seen without one
 abbrev pub LeavesFresh : {F : Type 0} → Ghosts F → Result Command CommandFault → ℤ → F → F → Type 0
 LeavesFresh tree asked now old new = (words : RewindWords) → asked ≡ Ok (command.Resume words) → stored_of (tree.contents old) words.target words.source ≡ Ok None →
-    StandsSynced (tree.contents old) (moment_of tree old) → LeavesOnly (IsLeftToResume words now (tree.contents old)) (tree.stops old) (tree.stops new)
+    StandsSynced (tree.contents old) (moment_of tree old) → LeavesOnly (IsLeftToResume words now (without_own (tree.contents old) words.target) (tree.contents old)) (tree.stops old) (tree.stops new)
 
 -- and a resume of a rewind that was stopped, from synced contents on, leaves that rewind, stopped again, or the rewound tree
 abbrev pub LeavesStopped : {F : Type 0} → Ghosts F → Result Command CommandFault → F → F → Type 0

@@ -16,7 +16,7 @@ use Rattle.marked_runs.specs.Moments.{IsUntouched, StandsSynced}
 -- A command that changes a cluster leaves it untouched, marked as unfinished or whole; a clean-up leaves all but some of the files that go, and pair all but
 -- its three clusters; one that only reads leaves all untouched.
 abbrev pub IsLeftAsked : Result Command CommandFault → ℤ → Moment → Contents → Type 0
-IsLeftAsked (Ok (command.Rewind words)) now first c = IsLeftByRewind words now first c
+IsLeftAsked (Ok (command.Rewind words)) now first c = IsLeftByRewind words now first.state.contents first c
 IsLeftAsked (Ok (command.Resume words)) now first c = IsLeftByResume words now first c
 IsLeftAsked (Ok (command.Controldata words)) now first c = IsUntouched first c
 IsLeftAsked (Ok (command.Waldump words)) now first c = IsUntouched first c

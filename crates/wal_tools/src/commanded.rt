@@ -20,7 +20,7 @@ use cmd_controldata::controldata;
 use cmd_pair::pair;
 use cmd_resetwal::resetwal;
 use cmd_resume::resume;
-use cmd_rewind::rewind;
+use cmd_rewind::{OwnMark, rewind};
 use cmd_walcompare::walcompare;
 use cmd_waldump::waldump;
 use cmd_walreplay::walreplay;
@@ -78,7 +78,7 @@ pub(crate) fn carry_out<F: Tree, O: Sink, E: Sink>(
         (Ok command.now) now (F.contents tree.old) (moment_of F.Tree tree.new)) }
 {
     match command {
-        Command::Rewind(words) => rewind(alloc, tree, err, words, now),
+        Command::Rewind(words) => rewind(alloc, tree, err, words, now, OwnMark::Refused),
         Command::Resume(words) => resume(alloc, tree, err, words, now),
         Command::Controldata(words) => controldata(alloc, tree, out, words),
         Command::Waldump(words) => waldump(alloc, tree, out, words),

@@ -2,6 +2,7 @@
 use super::asked::{Asked, Fails, command_of};
 use super::fault::LineFault;
 use super::inventory::inventory;
+use super::line::zeros;
 use super::outcome::{Ran, run_on};
 use super::told::Told;
 use cluster_tree::{Kind, Path, Tree};
@@ -20,9 +21,38 @@ struct Stopped<'a> {
     alloc: Global,
     asked: &'a Asked,
     mark: &'a Path,
-    /// What stood before the run, and what stands once it is done.
+    /// What stood before the run, what stands once it is done, and once it is done at the later time.
     before: String,
     after: String,
+    anew: String,
+}
+
+// The time of the run that completes it.
+fn later(asked: &Asked) -> i64 {
+    asked.now.saturating_add(LATER)
+}
+
+// What words leave of a tree at a time.
+fn left_at(
+    alloc: Global,
+    tree: &MemoryTree,
+    words: &[String],
+    now: i64,
+) -> Result<String, LineFault> {
+    let start = tree.image(alloc, 1)?;
+    let fails = Fails::of_tree(FailPlan::Never);
+    let mut left = run_on(alloc, start, words, now, fails).tree;
+    inventory(alloc, &mut left)
+}
+
+// Whether a mark is a complete one of a rewind.
+fn is_complete(alloc: Global, tree: &mut MemoryTree, mark: &Path) -> Result<bool, LineFault> {
+    if tree.size(mark)? <= 14 {
+        return Ok(false);
+    }
+    let mut head = zeros(alloc, 13)?;
+    tree.read_at(mark, 0, &mut head)?;
+    Ok(head.as_slice() == b"pg_rewind 2\n+".as_slice())
 }
 
 impl Stopped<'_> {
@@ -53,10 +83,10 @@ impl Stopped<'_> {
         Ok(())
     }
 
-    // Whether a tree is what the run leaves.
-    fn is_left(&self, mut tree: MemoryTree) -> Result<bool, LineFault> {
+    // Whether a tree is this one.
+    fn is_left(&self, mut tree: MemoryTree, wanted: &str) -> Result<bool, LineFault> {
         let left = inventory(self.alloc, &mut tree)?;
-        Ok(left.as_str() == self.after.as_str())
+        Ok(left.as_str() == wanted)
     }
 
     // Whether a tree is what stood before the run, or what it leaves.
@@ -65,22 +95,20 @@ impl Stopped<'_> {
         Ok(left.as_str() == self.before.as_str() || left.as_str() == self.after.as_str())
     }
 
-    // Whether the run goes on in an image that has the mark; else the mark isn't whole, and refuses that. Tells where it
-    // isn't completed then.
-    fn resumes(&self, image: &MemoryTree, told: &mut Told) -> Result<bool, LineFault> {
-        let words = &self.asked.resumed;
-        let ran = self.run_in(image, words, self.asked.now.saturating_add(LATER))?;
-        if self.is_refused(&ran, words)? {
-            return Ok(false);
-        }
-        if ran.status != 0 || !self.is_left(ran.tree)? {
+    // Completes the run in an image that has the mark: it goes on where that is complete, and else is begun anew. Tells where
+    // another tree is left. Answers whether it goes on.
+    fn resumes(&self, image: &mut MemoryTree, told: &mut Told) -> Result<bool, LineFault> {
+        let goes_on = is_complete(self.alloc, image, self.mark)?;
+        let wanted = if goes_on { &self.after } else { &self.anew };
+        let ran = self.run_in(image, &self.asked.resumed, later(self.asked))?;
+        if ran.status != 0 || !self.is_left(ran.tree, wanted)? {
             told.tell(&["a stopped run isn't completed"])?;
         }
-        Ok(true)
+        Ok(goes_on)
     }
 
     // Tells what differs in an image that has the mark. Answers whether the run goes on there.
-    fn tell_marked(&self, image: &MemoryTree, told: &mut Told) -> Result<bool, LineFault> {
+    fn tell_marked(&self, image: &mut MemoryTree, told: &mut Told) -> Result<bool, LineFault> {
         self.tell_refused(image, told)?;
         if self.asked.resumed.is_empty() {
             return Ok(false);
@@ -91,7 +119,7 @@ impl Stopped<'_> {
     // Tells what differs in an image. Answers whether the run goes on there.
     fn tell_image(&self, mut image: MemoryTree, told: &mut Told) -> Result<bool, LineFault> {
         if image.kind(self.mark)? != Kind::Absent {
-            return self.tell_marked(&image, told);
+            return self.tell_marked(&mut image, told);
         }
         if !self.is_whole(image)? {
             told.tell(&["a stop leaves another tree, without the mark"])?;
@@ -99,9 +127,12 @@ impl Stopped<'_> {
         Ok(false)
     }
 
-    // Tells what differs in the images that a run leaves. Answers whether the run goes on in one.
+    // Tells what differs in the images that a run leaves, unless it has changed nothing. Answers whether the run goes on in one.
     fn tell_images(&self, tree: &MemoryTree, told: &mut Told) -> Result<bool, LineFault> {
         let mut goes_on = false;
+        if tree.changes() == 0 {
+            return Ok(goes_on);
+        }
         for choice in 0..3 {
             let image = tree.image(self.alloc, choice)?;
             goes_on = self.tell_image(image, told)? || goes_on;
@@ -135,15 +166,13 @@ pub(crate) fn tell_stops(
     mark: &Path,
     told: &mut Told,
 ) -> Result<(), LineFault> {
-    let start = tree.image(alloc, 1)?;
-    let fails = Fails::of_tree(FailPlan::Never);
-    let mut done = run_on(alloc, start, &asked.words, asked.now, fails).tree;
     let stopped = Stopped {
         alloc,
         asked,
         mark,
         before: inventory(alloc, &mut tree.image(alloc, 1)?)?,
-        after: inventory(alloc, &mut done)?,
+        after: left_at(alloc, tree, &asked.words, asked.now)?,
+        anew: left_at(alloc, tree, &asked.words, later(asked))?,
     };
     if !stopped.tell_all(tree, told)? && !asked.resumed.is_empty() {
         told.tell(&["no stopped run was completed"])?;

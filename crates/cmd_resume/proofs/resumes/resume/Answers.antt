@@ -1,5 +1,6 @@
-use Rattle.std.proofs.Common.{Err, FitsSigned, inl, inr, refl, rules, w64, ap, sym, ◌∙◌}
+use Rattle.std.proofs.Common.{Err, FitsSigned, inl, inr, refl, rules, subst, w64, ap, sym, ◌∙◌}
 use Rattle.std.proofs.lemmas.Int.{to_z-of_z}
+use Rattle.cluster_tree.specs.Contents.{Contents}
 use Rattle.cluster_tree.specs.Frame.{moment_of}
 use Rattle.plan_text.specs.Text.{said_by}
 use Rattle.run_acts.proofs.AnswerSteps.{carries_look}
@@ -7,7 +8,10 @@ use Rattle.run_acts.proofs.UnseenSteps.{unseen_still}
 use Rattle.cmd_resume.proofs.LookLemmas.{looks-only, refused-passes, resume-form, resume-looks}
 use Rattle.cmd_resume.proofs.ResumeLemmas.{again-left, asked-readable, blames-on, exact_as, fresh-durable, fresh-leaves, fresh-left, fresh-meant, fresh-resumable, looks-left, made_as, stored-durable, stored-leaves, stored-left, stored-meant, stopped-looks, unseen_as}
 use Rattle.stored_laws.proofs.StoredLemmas.{stopped-stored}
+use Rattle.cmd_rewind.specs.Marks.{IsPassable}
+use Rattle.cmd_rewind.specs.declared.marks.OwnMark.TheVariants as own
 use Rattle.cmd_rewind.proofs.StopLemmas.{looks-same}
+use Rattle.cmd_resume.proofs.ShutLemmas.{stored-shut}
 use Rattle.cmd_resume.proofs.resumes.resume.Goals as goal
 
 pub resume_stored-requires-clause-readable : goal.resume_stored-requires-clause-readable
@@ -15,6 +19,12 @@ resume_stored-requires-clause-readable g c t =
     let words = c.args.words.now in
     asked-readable (g.F.Tree.contents c.args.tree.now) (g.F.Tree.contents c.stored_rewind.new.tree) words.target words.source c.in-Ok-Some.stored c.stored_rewind.ensures.reads.same
     c.requires.apart (made_as c.args.words.now.target c.args.words.now.source c.in-Ok-Some.field-0-is c.in-Ok-Some.ensures.made) (exact_as c.in-Ok-Some.field-0-is (c.in-Ok-Some.ensures.exact t))
+
+pub rewind-requires-clause-passable : goal.rewind-requires-clause-passable
+rewind-requires-clause-passable g c t =
+    let P : Contents → Type 0 = IsPassable own.PassedOver c.args.words.now.target in
+    subst P (sym c.stored_rewind.ensures.reads.same)
+    (stored-shut (g.F.Tree.contents c.args.tree.now) c.args.words.now.target c.args.words.now.source (exact_as c.in-Ok-None.field-0-is (c.in-Ok-None.ensures.exact t)))
 
 pub returns-in-Ok-None-clause-carries : goal.returns-in-Ok-None-clause-carries
 returns-in-Ok-None-clause-carries g c out_tells out =
@@ -33,7 +43,8 @@ returns-in-Ok-None-clause-resumed g c t =
 pub returns-in-Ok-None-clause-stops : goal.returns-in-Ok-None-clause-stops
 returns-in-Ok-None-clause-stops g c t =
     let fits : FitsSigned w64 c.args.now = search rules in
-    fresh-left g.F.Tree c.args.words.now c.args.now c.args.tree.now c.stored_rewind.new.tree c.stored_rewind.ensures.reads c.rewind.new.tree (to_z-of_z w64 c.args.now fits) (c.rewind.ensures.stops t)
+    fresh-left g.F.Tree c.args.words.now c.args.now c.args.tree.now c.stored_rewind.new.tree c.stored_rewind.ensures.reads c.rewind.new.tree (to_z-of_z w64 c.args.now fits)
+    (exact_as c.in-Ok-None.field-0-is (c.in-Ok-None.ensures.exact t)) (c.rewind.ensures.stops t)
 
 pub returns-in-Ok-None-clause-synced : goal.returns-in-Ok-None-clause-synced
 returns-in-Ok-None-clause-synced g c t =
@@ -84,7 +95,7 @@ pub returns-in-Err-clause-stops : goal.returns-in-Err-clause-stops
 returns-in-Err-clause-stops g c t = looks-left g.F.Tree c.args.words.now c.args.now _ _ c.stored_rewind.ensures.reads
 
 pub returns-in-Err-clause-resumable : goal.returns-in-Err-clause-resumable
-returns-in-Err-clause-resumable g c t none stands = looks-same g.F.Tree c.args.words.now c.args.now _ _ c.stored_rewind.ensures.reads stands
+returns-in-Err-clause-resumable g c t none stands = looks-same g.F.Tree c.args.words.now c.args.now _ _ _ c.stored_rewind.ensures.reads stands
 
 pub returns-in-Ok-None-clause-resumable : goal.returns-in-Ok-None-clause-resumable
 returns-in-Ok-None-clause-resumable g c t none stands =

@@ -4,6 +4,7 @@ use Rattle.run_acts.specs.Causes.{cause_of}
 use Rattle.run_acts.proofs.MadeSteps.{unseen_broken, unseen_report}
 use Rattle.cluster_tree.specs.Frame.{moment_of}
 use Rattle.rewind_writes.specs.Plan.{IsResumable}
+use Rattle.rewind_core.proofs.FactLemmas.{resumable-over}
 use Rattle.cmd_rewind.proofs.StopLemmas.{still-same}
 use Rattle.cmd_rewind.proofs.makes.make_told.Goals as goal
 
@@ -23,11 +24,11 @@ returns-in_err-tell-2-clause-performs g c out_tells out =
     (unseen_broken (cause_of c.from_residual-in_err-tell-2.result) c.in_err-tell-2.ensures.part refl (ap cause_of why.1 ∙ why.2 ∙ c.in_err-tell-2.ensures.only) refl refl)
 
 pub returns-in_err-tell-clause-resumable : goal.returns-in_err-tell-clause-resumable
-returns-in_err-tell-clause-resumable g c told n is stands =
+returns-in_err-tell-clause-resumable g c told view n is stands =
     let contents = g.F.Tree.contents c.args.tree.now in
-    still-same (IsResumable contents c.args.plan.text c.args.plan.writes) contents (moment_of g.F.Tree c.args.tree.now) stands (λ i same. inl same)
+    still-same (IsResumable view c.args.plan.text c.args.plan.writes) contents (moment_of g.F.Tree c.args.tree.now) stands (λ i same. resumable-over view contents n c.args.plan is i (inl same))
 
 pub returns-in_err-tell-2-clause-resumable : goal.returns-in_err-tell-2-clause-resumable
-returns-in_err-tell-2-clause-resumable g c told n is stands =
+returns-in_err-tell-2-clause-resumable g c told view n is stands =
     let contents = g.F.Tree.contents c.args.tree.now in
-    still-same (IsResumable contents c.args.plan.text c.args.plan.writes) contents (moment_of g.F.Tree c.args.tree.now) stands (λ i same. inl same)
+    still-same (IsResumable view c.args.plan.text c.args.plan.writes) contents (moment_of g.F.Tree c.args.tree.now) stands (λ i same. resumable-over view contents n c.args.plan is i (inl same))

@@ -6,6 +6,7 @@ use Rattle.wal_tools.specs.Words.{MayChange}
 use Rattle.wal_tools.proofs.RunLemmas.{at_time, no_words, of_command, stays_refused, stays_unmade, words_refused}
 use Rattle.wal_tools.proofs.ResumableLemmas.{again_still, resumable_at, resumable_still}
 use Rattle.wal_tools.proofs.StopLemmas.{durable_command, left_at, left_of_command, still_left}
+use Rattle.rewind_core.specs.Over.{without_own}
 use Rattle.wal_tools.proofs.program.answer.Goals as goal
 
 pub returns-in-Ok-clause-carries : goal.returns-in-Ok-clause-carries
@@ -51,25 +52,25 @@ pub returns-in-Ok-clause-resumable : goal.returns-in-Ok-clause-resumable
 returns-in-Ok-clause-resumable g c t rewind asked stands =
     let fits : FitsSigned w64 c.args.now = search rules in
     let is = sym c.in-Ok.ensures.answer ∙ asked in
-    resumable_at rewind (g.F.Tree.contents c.args.tree.now) (g.F.Tree.stops c.args.tree.now) (g.F.Tree.stops c.carry_out.new.tree) (to_z-of_z w64 c.args.now fits) (c.carry_out.ensures.resumable t rewind is stands)
+    resumable_at rewind (g.F.Tree.contents c.args.tree.now) (g.F.Tree.contents c.args.tree.now) (g.F.Tree.stops c.args.tree.now) (g.F.Tree.stops c.carry_out.new.tree) (to_z-of_z w64 c.args.now fits) (c.carry_out.ensures.resumable t rewind is stands)
 
 pub returns-in-Err-OutOfMemory-clause-resumable : goal.returns-in-Err-OutOfMemory-clause-resumable
-returns-in-Err-OutOfMemory-clause-resumable g c t rewind asked stands = resumable_still rewind c.args.now (g.F.Tree.contents c.args.tree.now) (moment_of g.F.Tree c.args.tree.now) stands
+returns-in-Err-OutOfMemory-clause-resumable g c t rewind asked stands = resumable_still rewind c.args.now (g.F.Tree.contents c.args.tree.now) (g.F.Tree.contents c.args.tree.now) (moment_of g.F.Tree c.args.tree.now) stands
 
 pub returns-in-Err-clause-resumable : goal.returns-in-Err-clause-resumable
-returns-in-Err-clause-resumable g c t rewind asked stands = resumable_still rewind c.args.now (g.F.Tree.contents c.args.tree.now) (moment_of g.F.Tree c.args.tree.now) stands
+returns-in-Err-clause-resumable g c t rewind asked stands = resumable_still rewind c.args.now (g.F.Tree.contents c.args.tree.now) (g.F.Tree.contents c.args.tree.now) (moment_of g.F.Tree c.args.tree.now) stands
 
 pub returns-in-Ok-clause-fresh : goal.returns-in-Ok-clause-fresh
 returns-in-Ok-clause-fresh g c t resume asked none stands =
     let fits : FitsSigned w64 c.args.now = search rules in
     let is = sym c.in-Ok.ensures.answer ∙ asked in
-    resumable_at resume (g.F.Tree.contents c.args.tree.now) (g.F.Tree.stops c.args.tree.now) (g.F.Tree.stops c.carry_out.new.tree) (to_z-of_z w64 c.args.now fits) (c.carry_out.ensures.fresh t resume is none stands)
+    resumable_at resume (without_own (g.F.Tree.contents c.args.tree.now) resume.target) (g.F.Tree.contents c.args.tree.now) (g.F.Tree.stops c.args.tree.now) (g.F.Tree.stops c.carry_out.new.tree) (to_z-of_z w64 c.args.now fits) (c.carry_out.ensures.fresh t resume is none stands)
 
 pub returns-in-Err-OutOfMemory-clause-fresh : goal.returns-in-Err-OutOfMemory-clause-fresh
-returns-in-Err-OutOfMemory-clause-fresh g c t resume asked none stands = resumable_still resume c.args.now (g.F.Tree.contents c.args.tree.now) (moment_of g.F.Tree c.args.tree.now) stands
+returns-in-Err-OutOfMemory-clause-fresh g c t resume asked none stands = resumable_still resume c.args.now (without_own (g.F.Tree.contents c.args.tree.now) resume.target) (g.F.Tree.contents c.args.tree.now) (moment_of g.F.Tree c.args.tree.now) stands
 
 pub returns-in-Err-clause-fresh : goal.returns-in-Err-clause-fresh
-returns-in-Err-clause-fresh g c t resume asked none stands = resumable_still resume c.args.now (g.F.Tree.contents c.args.tree.now) (moment_of g.F.Tree c.args.tree.now) stands
+returns-in-Err-clause-fresh g c t resume asked none stands = resumable_still resume c.args.now (without_own (g.F.Tree.contents c.args.tree.now) resume.target) (g.F.Tree.contents c.args.tree.now) (moment_of g.F.Tree c.args.tree.now) stands
 
 pub returns-in-Ok-clause-again : goal.returns-in-Ok-clause-again
 returns-in-Ok-clause-again g c t resume asked first before n plan stop stands =

@@ -10,6 +10,7 @@ use Rattle.wal_tools.proofs.ConvergeLemmas.{converges_left}
 use Rattle.wal_tools.proofs.RunLemmas.{at_time, exact_told, leaves_done, stays_told}
 use Rattle.wal_tools.proofs.ResumableLemmas.{resumable_at}
 use Rattle.wal_tools.proofs.StopLemmas.{durable_done, left_at}
+use Rattle.rewind_core.specs.Over.{without_own}
 use Rattle.wal_tools.proofs.program.run.Goals as goal
 
 pub returns-clause-exact : goal.returns-clause-exact
@@ -67,9 +68,9 @@ returns-clause-durable g c t done =
 pub returns-clause-resumable : goal.returns-clause-resumable
 returns-clause-resumable g c t rewind asked stands =
     let fits : FitsSigned w64 c.args.now = search rules in
-    resumable_at rewind (g.F.Tree.contents c.args.tree.now) (g.F.Tree.stops c.args.tree.now) (g.F.Tree.stops c.answer-outcome.new.tree) (to_z-of_z w64 c.args.now fits) (c.answer-outcome.ensures.resumable t rewind asked stands)
+    resumable_at rewind (g.F.Tree.contents c.args.tree.now) (g.F.Tree.contents c.args.tree.now) (g.F.Tree.stops c.args.tree.now) (g.F.Tree.stops c.answer-outcome.new.tree) (to_z-of_z w64 c.args.now fits) (c.answer-outcome.ensures.resumable t rewind asked stands)
 
 pub returns-clause-fresh : goal.returns-clause-fresh
 returns-clause-fresh g c t resume asked none stands =
     let fits : FitsSigned w64 c.args.now = search rules in
-    resumable_at resume (g.F.Tree.contents c.args.tree.now) (g.F.Tree.stops c.args.tree.now) (g.F.Tree.stops c.answer-outcome.new.tree) (to_z-of_z w64 c.args.now fits) (c.answer-outcome.ensures.fresh t resume asked none stands)
+    resumable_at resume (without_own (g.F.Tree.contents c.args.tree.now) resume.target) (g.F.Tree.contents c.args.tree.now) (g.F.Tree.stops c.args.tree.now) (g.F.Tree.stops c.answer-outcome.new.tree) (to_z-of_z w64 c.args.now fits) (c.answer-outcome.ensures.fresh t resume asked none stands)
