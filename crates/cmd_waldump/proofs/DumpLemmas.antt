@@ -1,10 +1,11 @@
 -- A dump's answer, from what the dump left on standard output.
-use Rattle.std.proofs.Common.{◌≡◌, ◌≢◌, ℕ, ◌≤◌, ◌⊎◌, ◌++◌, Bool, true, false, IsTrue, List, [], ◌∷◌, length, take, drop, Option, Some, inl, inr, refl, sym, ap, ◌∙◌, subst, Result, Ok, Err, IsErrOf}
+use Rattle.std.proofs.Common.{◌≡◌, ℕ, ◌≤◌, ◌⊎◌, ◌++◌, Bool, true, false, IsTrue, List, [], ◌∷◌, length, drop, Option, inl, inr, refl, sym, ap, ◌∙◌, subst, Result, Ok, Err, IsErrOf}
 use Rattle.std.proofs.lemmas.List.{take-append-drop}
 use Rattle.cluster_tree.specs.Causes.{Meets, Rose}
 use Rattle.cluster_tree.specs.Contents.{Contents}
 use Rattle.cluster_tree.specs.declared.tree.ChangeCall.{ChangeCall}
 use Rattle.cluster_tree.proofs.SinkLemmas.{whole-is_part}
+use Rattle.rmgr_hooks.specs.Custom.{Describer}
 use Rattle.waldump_core.specs.Dump.{Dump}
 use Rattle.waldump_core.specs.Texts.{Extends, IsFree as IsFreeFault, ending_of as dump_ending}
 use Rattle.waldump_core.specs.declared.dumped.Dumped.{Dumped}
@@ -13,10 +14,10 @@ use Rattle.waldump_core.specs.declared.fault.DumpFault.TheVariants as fault
 use Rattle.log_folder.specs.Faults.{IsFree as IsFreeOfFolder}
 use Rattle.log_folder.specs.declared.fault.FolderFault.{FolderFault}
 use Rattle.log_folder.specs.declared.find.FoundLog.{FoundLog}
-use Rattle.acts.specs.Acts.{Ending, Done, Refused, ReadFailed, WriteFailed, SinkFailed, NoMemory, Sunk, Seen, seen, Puts, Performs, ends, breaks}
+use Rattle.acts.specs.Acts.{Ending, Done, Refused, ReadFailed, WriteFailed, SinkFailed, NoMemory, Sunk, seen, Puts, Performs, ends, breaks}
 use Rattle.acts.specs.Texts.{prints}
 use Rattle.acts.proofs.ActSteps.{after_reads, look_goes_on, print_goes_on, print_breaks}
-use Rattle.run_acts.specs.Answers.{Answer, Carries, cause_in, refused}
+use Rattle.run_acts.specs.Answers.{Carries, cause_in, refused}
 use Rattle.run_acts.specs.Causes.{IsFree, ending_of}
 use Rattle.run_acts.specs.declared.cause.Cause.{Cause}
 use Rattle.run_acts.specs.declared.cause.Cause.TheVariants as cause
@@ -115,6 +116,6 @@ folder_free e (inl is) = inl (ap folder_cause is)
 folder_free e (inr is) = inr (inr (inr (ap folder_cause is)))
 
 -- why no log was found is why there is no dump
-pub folder_passes : (why : Cause) (e : FolderFault) (c : Contents) (r : Result FoundLog FolderFault) → why ≡ folder_cause e → IsFreeOfFolder e ⊎ (r ≡ Err e) → IsFree why ⊎ (found_answer c r ≡ refused why)
-folder_passes why e c r is (inl f) = inl (subst IsFree (sym is) (folder_free e f))
-folder_passes why e c r is (inr m) = inr (ap (found_answer c) m ∙ ap refused (sym is))
+pub folder_passes : (custom : Option Describer) (why : Cause) (e : FolderFault) (c : Contents) (r : Result FoundLog FolderFault) → why ≡ folder_cause e → IsFreeOfFolder e ⊎ (r ≡ Err e) → IsFree why ⊎ (found_answer custom c r ≡ refused why)
+folder_passes custom why e c r is (inl f) = inl (subst IsFree (sym is) (folder_free e f))
+folder_passes custom why e c r is (inr m) = inr (ap (found_answer custom c) m ∙ ap refused (sym is))

@@ -5,6 +5,7 @@ use Rattle.cluster_tree.specs.Contents.{Contents}
 use Rattle.wal_base.specs.Segment.{bytes_of}
 use Rattle.wal_records.specs.Further.{pages_of}
 use Rattle.rmgr_desc.specs.Managers.{manager_names}
+use Rattle.rmgr_hooks.specs.Custom.{Describer}
 use Rattle.waldump_core.specs.Dump.{Dump, dump_of}
 use Rattle.waldump_core.specs.declared.dumped.Dumped.{Dumped}
 use Rattle.waldump_core.specs.declared.fault.DumpFault.{DumpFault}
@@ -48,18 +49,18 @@ abbrev pub dump_answer : Dump → Answer
 dump_answer dump = record { acts = prints dump.lines; refusal = dump_refusal dump.answer }
 
 -- the dump of a log that was found, of the records that are selected
-unfoldable pub log_answer : Contents → FoundLog → Answer
-log_answer c found = dump_answer (dump_of (pages_of found.log c) (bytes_of found.log.size) found.sel)
+unfoldable pub log_answer : Option Describer → Contents → FoundLog → Answer
+log_answer custom c found = dump_answer (dump_of custom (pages_of found.log c) (bytes_of found.log.size) found.sel)
 
 -- the dump of a log, or why there is none
-abbrev pub found_answer : Contents → Result FoundLog FolderFault → Answer
-found_answer c (Ok found) = log_answer c found
-found_answer c (Err fault) = refused (folder_cause fault)
+abbrev pub found_answer : Option Describer → Contents → Result FoundLog FolderFault → Answer
+found_answer custom c (Ok found) = log_answer custom c found
+found_answer custom c (Err fault) = refused (folder_cause fault)
 
 -- what is done about the words
-abbrev pub waldump_answer : Contents → WaldumpWords → Answer
-waldump_answer c asked.Managers = list_answer
-waldump_answer c (asked.Dump words) = found_answer c (found_in c words)
+abbrev pub waldump_answer : Option Describer → Contents → WaldumpWords → Answer
+waldump_answer custom c asked.Managers = list_answer
+waldump_answer custom c (asked.Dump words) = found_answer custom c (found_in c words)
 
 -- over every tree a dump is lines on standard output, each whole, and a refusal, if any
 abbrev pub IsDump : Answer → Type 0

@@ -9,12 +9,14 @@ ghost use Rattle.commands.specs.Fit.{IsFitWaldump};
 ghost use Rattle.acts.specs.Acts.{Sunk, seen, sunk};
 ghost use Rattle.run_acts.specs.Answers.{Blames, Carries};
 ghost use Rattle.run_acts.specs.Causes.{cause_of, is_of_files};
+ghost use Rattle.rmgr_hooks.specs.Custom.{handed_in};
 ghost use Rattle.cmd_waldump.specs.Waldump.{AskForList, BreakRule, CarriesList, IsWaldump, waldump_answer};
 
 use crate::managers::manager_list;
 use crate::shows::show_log;
 use cluster_tree::{Sink, Tree};
 use commands::WaldumpWords;
+use rmgr_hooks::Manager;
 use run_acts::{Cause, tell};
 use std::alloc::Global;
 
@@ -35,25 +37,27 @@ fn show_managers<O: Sink>(alloc: Global, out: &mut O) -> Result<(), Cause>
     }
 }
 
-/// Shows the records of a log on `out`, or the names of the resource managers. It changes nothing.
+/// Shows the records of a log on `out`, or the names of the resource managers. It changes nothing. Where a
+/// manager of an extension is handed in, the text of its records is its own.
 ///
 /// The list needs no tree. A log is looked for by `find_log`, whose refusals come first, and shown by
 /// `dump`, whose refusals leave the lines before them. `Usage` comes only where the words break a rule
 /// that hangs on the size of segments. `ReadFault` and `SinkFault` come only where a read or a write
 /// failed, which the tree or the sink has counted, and `OutOfMemory` only for want of memory; where a
 /// read failed or memory was wanting, whole lines stand on `out`.
-pub fn waldump<F: Tree, O: Sink>(
+pub fn waldump<F: Tree, O: Sink, M: Manager>(
     alloc: Global,
     tree: &mut F,
     out: &mut O,
     words: &WaldumpWords,
+    custom: Option<&M>,
 ) -> Result<(), Cause>
     requires { IsFitWaldump words.now }
     // the answer's acts, over every tree; the answer that is meant where the tree tells, and for the list
     ensures carries { (err_tells : Bool) (err : Sunk) → Carries
         (IsTrue F.tells ⊎ AskForList words.now)
-        (waldump_answer (F.contents tree.old) words.now) (IsWaldump words.now) O.tells err_tells
-        (cause_of result)
+        (waldump_answer (handed_in M.ID M.text custom.entry) (F.contents tree.old) words.now)
+        (IsWaldump words.now) O.tells err_tells (cause_of result)
         (seen (F.contents tree.old) (F.calls tree.old)
         (sunk (O.written out.old) (O.failed_writes out.old)) err)
         (seen (F.contents tree.new) (F.calls tree.new)
@@ -70,6 +74,6 @@ pub fn waldump<F: Tree, O: Sink>(
 {
     match words {
         WaldumpWords::Managers => show_managers(alloc, out),
-        WaldumpWords::Dump(words) => show_log(alloc, tree, out, words),
+        WaldumpWords::Dump(words) => show_log(alloc, tree, out, words, custom),
     }
 }

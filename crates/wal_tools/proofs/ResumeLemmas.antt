@@ -1,6 +1,7 @@
 -- A rewind that is resumed, as the command that was carried out.
-use Rattle.std.proofs.Common.{◌≡◌, ◌⊎◌, ℕ, ℤ, Bool, true, false, not, IsTrue, List, inl, inr, sym, ap, ◌∙◌, subst, Result, Ok, OnOk}
+use Rattle.std.proofs.Common.{◌≡◌, ◌⊎◌, ℕ, ℤ, Bool, true, false, not, IsTrue, List, Option, inl, inr, sym, ap, ◌∙◌, subst, Result, Ok, OnOk}
 use Rattle.cluster_tree.specs.Contents.{Contents}
+use Rattle.rmgr_hooks.specs.Custom.{Describer}
 use Rattle.cluster_tree.specs.Run.{Moment}
 use Rattle.cluster_tree.specs.Stops.{LeavesOnly, Stops}
 use Rattle.commands.specs.declared.command.Command.{Command}
@@ -27,10 +28,10 @@ resume_seen T words (inr dry) = inr (λ may. let same : true ≡ false = sym may
 
 module _ {k : Command} {words : RewindWords} (is : k ≡ command.Resume words) where
   -- it was carried out
-  pub of_resume : (tells : Bool) (c : Contents) (now : ℤ) {o e : Bool} {ended : Cause} {s u : Seen}
-      → CarriesUnseen (IsTrue tells ⊎ IsTrue words.dry_run) (IsTrue tells) (resume_answer c words now) (IsResume words) o e ended s u → CarriesOut tells c now o e (Ok k) ended s u
-  of_resume tells c now {o} {e} {ended} {s} {u} p =
-      let P : Command → Type 0 = λ x. CarriesOut tells c now o e (Ok x) ended s u in
+  pub of_resume : (custom : Option Describer) (tells : Bool) (c : Contents) (now : ℤ) {o e : Bool} {ended : Cause} {s u : Seen}
+      → CarriesUnseen (IsTrue tells ⊎ IsTrue words.dry_run) (IsTrue tells) (resume_answer c words now) (IsResume words) o e ended s u → CarriesOut custom tells c now o e (Ok k) ended s u
+  of_resume custom tells c now {o} {e} {ended} {s} {u} p =
+      let P : Command → Type 0 = λ x. CarriesOut custom tells c now o e (Ok x) ended s u in
       subst P (sym is) (unseen_by (seen_resume (IsTrue tells) words) (resume_seen (IsTrue tells) words) (unseen_known (by_tree tells) p))
 
   -- it changes nothing in a dry run

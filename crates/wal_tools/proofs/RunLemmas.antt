@@ -1,5 +1,5 @@
 -- A run, from the words to the line of the cause.
-use Rattle.std.proofs.Common.{◌≡◌, ◌⊎◌, ℕ, ℤ, Bool, true, false, not, IsTrue, List, Some, is_some, inl, inr, refl, sym, ap, ◌∙◌, subst, Result, Ok, Err, OnOk}
+use Rattle.std.proofs.Common.{◌≡◌, ◌⊎◌, ℕ, ℤ, Bool, true, false, not, IsTrue, List, Option, Some, is_some, inl, inr, refl, sym, ap, ◌∙◌, subst, Result, Ok, Err, OnOk}
 use Rattle.cluster_tree.specs.Contents.{Contents}
 use Rattle.cluster_tree.specs.declared.tree.ChangeCall.{ChangeCall}
 use Rattle.commands.specs.declared.command.Command.{Command}
@@ -44,61 +44,70 @@ use Rattle.commands.specs.declared.pair.PairWords.{PairWords}
 use Rattle.pair_maker.specs.Pair.{StaysBeside}
 use Rattle.wal_tools.specs.Answers.{IsAnswer, answered}
 use Rattle.wal_tools.specs.Leaves.{LeavesAsked, StaysAsked}
+use Rattle.wal_tools.specs.Runs.{Runs}
 use Rattle.wal_tools.specs.Words.{IsSeen, MayChange, NeedsNoTree, refused_by_words, words_cause}
+use Rattle.rmgr_hooks.specs.Custom.{Describer}
 
 -- what is done has the command's form, and begins with a look
-pub answered-form : (c : Contents) (now : ℤ) (asked : Result Command CommandFault) → IsAnswer now asked (answered c now asked)
-answered-form c now (Ok (command.Rewind words)) = rewind-form c c words now
-answered-form c now (Ok (command.Resume words)) = resume-form c words now
-answered-form c now (Ok (command.Controldata words)) = control-form (control_at c words.root)
-answered-form c now (Ok (command.Waldump words)) = waldump-form c words
-answered-form c now (Ok (command.Resetwal words)) = reset-form c words now
-answered-form c now (Ok (command.Archivecleanup words)) = cleanup-form c words
-answered-form c now (Ok (command.Walreplay words)) = replay-form c words
-answered-form c now (Ok (command.Walcompare words)) = compare-form c words
-answered-form c now (Ok (command.Pair words)) = pair-form c words
-answered-form c now (Err e) = refl
+pub answered-form : (custom : Option Describer) (c : Contents) (now : ℤ) (asked : Result Command CommandFault) → IsAnswer now asked (answered custom c now asked)
+answered-form custom c now (Ok (command.Rewind words)) = rewind-form c c words now
+answered-form custom c now (Ok (command.Resume words)) = resume-form c words now
+answered-form custom c now (Ok (command.Controldata words)) = control-form (control_at c words.root)
+answered-form custom c now (Ok (command.Waldump words)) = waldump-form custom c words
+answered-form custom c now (Ok (command.Resetwal words)) = reset-form c words now
+answered-form custom c now (Ok (command.Archivecleanup words)) = cleanup-form c words
+answered-form custom c now (Ok (command.Walreplay words)) = replay-form c words
+answered-form custom c now (Ok (command.Walcompare words)) = compare-form c words
+answered-form custom c now (Ok (command.Pair words)) = pair-form c words
+answered-form custom c now (Err e) = refl
 
-pub answered-looks : (c : Contents) (now : ℤ) (asked : Result Command CommandFault) → Looks ((answered c now asked).acts)
-answered-looks c now (Ok (command.Rewind words)) = rewind-looks c c words now
-answered-looks c now (Ok (command.Resume words)) = resume-looks c words now
-answered-looks c now (Ok (command.Controldata words)) = control-looks (control_at c words.root)
-answered-looks c now (Ok (command.Waldump words)) = waldump-looks c words
-answered-looks c now (Ok (command.Resetwal words)) = reset-looks c words now
-answered-looks c now (Ok (command.Archivecleanup words)) = cleanup-looks c words
-answered-looks c now (Ok (command.Walreplay words)) = replay-looks c words
-answered-looks c now (Ok (command.Walcompare words)) = compare-looks c words
-answered-looks c now (Ok (command.Pair words)) = pair-looks c words
-answered-looks c now (Err e) = tt
+pub answered-looks : (custom : Option Describer) (c : Contents) (now : ℤ) (asked : Result Command CommandFault) → Looks ((answered custom c now asked).acts)
+answered-looks custom c now (Ok (command.Rewind words)) = rewind-looks c c words now
+answered-looks custom c now (Ok (command.Resume words)) = resume-looks c words now
+answered-looks custom c now (Ok (command.Controldata words)) = control-looks (control_at c words.root)
+answered-looks custom c now (Ok (command.Waldump words)) = waldump-looks custom c words
+answered-looks custom c now (Ok (command.Resetwal words)) = reset-looks c words now
+answered-looks custom c now (Ok (command.Archivecleanup words)) = cleanup-looks c words
+answered-looks custom c now (Ok (command.Walreplay words)) = replay-looks c words
+answered-looks custom c now (Ok (command.Walcompare words)) = compare-looks c words
+answered-looks custom c now (Ok (command.Pair words)) = pair-looks c words
+answered-looks custom c now (Err e) = tt
 
 -- what is carried out of words
-abbrev pub CarriesOut : Bool → Contents → ℤ → Bool → Bool → Result Command CommandFault → Cause → Seen → Seen → Type 0
-CarriesOut tells c now o e asked ended s u = CarriesUnseen (IsSeen (IsTrue tells) asked) (IsTrue tells ⊎ NeedsNoTree asked) (answered c now asked) (IsAnswer now asked) o e ended s u
+abbrev pub CarriesOut : Option Describer → Bool → Contents → ℤ → Bool → Bool → Result Command CommandFault → Cause → Seen → Seen → Type 0
+CarriesOut custom tells c now o e asked ended s u = CarriesUnseen (IsSeen (IsTrue tells) asked) (IsTrue tells ⊎ NeedsNoTree asked) (answered custom c now asked) (IsAnswer now asked) o e ended s u
 
 -- the words ask for this command
-pub of_command : (tells : Bool) (c : Contents) (now : ℤ) {asked : Result Command CommandFault} {k : Command} {o e : Bool} {ended : Cause} {s u : Seen} → asked ≡ Ok k → CarriesOut tells c now o e (Ok k) ended s u → CarriesOut tells c now o e asked ended s u
-of_command tells c now {asked} {k} {o} {e} {ended} {s} {u} is p = let P : Result Command CommandFault → Type 0 = λ a. CarriesOut tells c now o e a ended s u in subst P (sym is) p
+pub of_command : (custom : Option Describer) (tells : Bool) (c : Contents) (now : ℤ) {asked : Result Command CommandFault} {k : Command} {o e : Bool} {ended : Cause} {s u : Seen} → asked ≡ Ok k → CarriesOut custom tells c now o e (Ok k) ended s u → CarriesOut custom tells c now o e asked ended s u
+of_command custom tells c now {asked} {k} {o} {e} {ended} {s} {u} is p = let P : Result Command CommandFault → Type 0 = λ a. CarriesOut custom tells c now o e a ended s u in subst P (sym is) p
 
 -- the time under another name
-pub at_time : (tells : Bool) (c : Contents) (asked : Result Command CommandFault) {n m : ℤ} {o e : Bool} {ended : Cause} {s u : Seen} → n ≡ m → CarriesOut tells c n o e asked ended s u → CarriesOut tells c m o e asked ended s u
-at_time tells c asked {o = o} {e} {ended} {s} {u} is p = subst (λ x. CarriesOut tells c x o e asked ended s u) is p
+pub at_time : (custom : Option Describer) (tells : Bool) (c : Contents) (asked : Result Command CommandFault) {n m : ℤ} {o e : Bool} {ended : Cause} {s u : Seen} → n ≡ m → CarriesOut custom tells c n o e asked ended s u → CarriesOut custom tells c m o e asked ended s u
+at_time custom tells c asked {o = o} {e} {ended} {s} {u} is p = subst (λ x. CarriesOut custom tells c x o e asked ended s u) is p
+
+-- a run's end under another name
+pub runs_at : (custom : Option Describer) (tells : Bool) (c : Contents) (asked : Result Command CommandFault) {n m : ℤ} {o e : Bool} {ended : Cause} {line : List ℕ} {s u : Seen} → n ≡ m
+    → Runs (IsSeen (IsTrue tells) asked) (IsTrue tells ⊎ NeedsNoTree asked) (answered custom c n asked) (IsAnswer n asked) o e ended line s u
+    → Runs (IsSeen (IsTrue tells) asked) (IsTrue tells ⊎ NeedsNoTree asked) (answered custom c m asked) (IsAnswer m asked) o e ended line s u
+runs_at custom tells c asked {o = o} {e} {ended} {line} {s} {u} is p =
+    subst (λ x. Runs (IsSeen (IsTrue tells) asked) (IsTrue tells ⊎ NeedsNoTree asked) (answered custom c x asked) (IsAnswer x asked) o e ended line s u) is p
 
 pub by_tree : (tells : Bool) → IsTrue tells ⊎ ⊥ → IsTrue tells
 by_tree tells (inl t) = t
 by_tree tells (inr none) = absurd none
 
 -- pg_controldata was
-pub of_controldata : (tells : Bool) (c : Contents) (now : ℤ) {k : Command} {words : ControldataWords} {o e : Bool} {ended : Cause} {s u : Seen} → k ≡ command.Controldata words
-    → Carries (IsTrue tells) (controldata_answer c words) IsControldata o e ended s u → CarriesOut tells c now o e (Ok k) ended s u
-of_controldata tells c now {o = o} {e} {ended} {s} {u} is p =
-    let P : Command → Type 0 = λ x. CarriesOut tells c now o e (Ok x) ended s u in
+pub of_controldata : (custom : Option Describer) (tells : Bool) (c : Contents) (now : ℤ) {k : Command} {words : ControldataWords} {o e : Bool} {ended : Cause} {s u : Seen} → k ≡ command.Controldata words
+    → Carries (IsTrue tells) (controldata_answer c words) IsControldata o e ended s u → CarriesOut custom tells c now o e (Ok k) ended s u
+of_controldata custom tells c now {o = o} {e} {ended} {s} {u} is p =
+    let P : Command → Type 0 = λ x. CarriesOut custom tells c now o e (Ok x) ended s u in
     subst P (sym is) (unseen_known (by_tree tells) (unseen_seen (inr (λ may. may)) p))
 
 -- pg_walcompare was
-pub of_walcompare : (tells : Bool) (c : Contents) (now : ℤ) {k : Command} {words : WalcompareWords} {o e : Bool} {ended : Cause} {s u : Seen} → k ≡ command.Walcompare words
-    → Carries (IsTrue tells) (walcompare_answer c words) IsWalcompare o e ended s u → CarriesOut tells c now o e (Ok k) ended s u
-of_walcompare tells c now {o = o} {e} {ended} {s} {u} is p =
-    let P : Command → Type 0 = λ x. CarriesOut tells c now o e (Ok x) ended s u in
+pub of_walcompare : (custom : Option Describer) (tells : Bool) (c : Contents) (now : ℤ) {k : Command} {words : WalcompareWords} {o e : Bool} {ended : Cause} {s u : Seen} → k ≡ command.Walcompare words
+    → Carries (IsTrue tells) (walcompare_answer c words) IsWalcompare o e ended s u → CarriesOut custom tells c now o e (Ok k) ended s u
+of_walcompare custom tells c now {o = o} {e} {ended} {s} {u} is p =
+    let P : Command → Type 0 = λ x. CarriesOut custom tells c now o e (Ok x) ended s u in
     subst P (sym is) (unseen_known (by_tree tells) (unseen_seen (inr (λ may. may)) p))
 
 -- where it is done the clusters are the same
@@ -107,9 +116,9 @@ pub same_at : {k : Command} {words : WalcompareWords} (r : Result (Unit {0}) Cau
 same_at {k} {words} r now tells c c' out out' is same = let Q : Command → Type 0 = λ x. OnOk r (LeavesAsked (Ok x) now tells c c' out out') in subst Q (sym is) same
 
 -- pg_waldump was
-pub of_waldump : (tells : Bool) (c : Contents) (now : ℤ) {k : Command} {words : WaldumpWords} {o e : Bool} {ended : Cause} {s u : Seen} → k ≡ command.Waldump words
-    → Carries (IsTrue tells ⊎ AskForList words) (waldump_answer c words) (IsWaldump words) o e ended s u → CarriesOut tells c now o e (Ok k) ended s u
-of_waldump tells c now {o = o} {e} {ended} {s} {u} is p = let P : Command → Type 0 = λ x. CarriesOut tells c now o e (Ok x) ended s u in subst P (sym is) (unseen_seen (inr (λ may. may)) p)
+pub of_waldump : (custom : Option Describer) (tells : Bool) (c : Contents) (now : ℤ) {k : Command} {words : WaldumpWords} {o e : Bool} {ended : Cause} {s u : Seen} → k ≡ command.Waldump words
+    → Carries (IsTrue tells ⊎ AskForList words) (waldump_answer custom c words) (IsWaldump words) o e ended s u → CarriesOut custom tells c now o e (Ok k) ended s u
+of_waldump custom tells c now {o = o} {e} {ended} {s} {u} is p = let P : Command → Type 0 = λ x. CarriesOut custom tells c now o e (Ok x) ended s u in subst P (sym is) (unseen_seen (inr (λ may. may)) p)
 
 pub undried : (dry_run : Bool) → (IsTrue (not dry_run) → ⊥) → IsTrue dry_run
 undried true h = refl
@@ -125,10 +134,10 @@ dry_seen T words (inl t) = inl t
 dry_seen T words (inr dry) = inr (λ may. let same : true ≡ false = sym may ∙ ap not dry in cc same)
 
 -- it was carried out
-pub of_archivecleanup : (tells : Bool) (c : Contents) (now : ℤ) {k : Command} {words : ArchivecleanupWords} {o e : Bool} {ended : Cause} {s u : Seen} → k ≡ command.Archivecleanup words
-    → CarriesUnseen (IsTrue tells ⊎ IsTrue words.dry_run) (IsTrue tells) (archivecleanup_answer c words) (IsArchivecleanup words) o e ended s u → CarriesOut tells c now o e (Ok k) ended s u
-of_archivecleanup tells c now {words = words} {o} {e} {ended} {s} {u} is p =
-    let P : Command → Type 0 = λ x. CarriesOut tells c now o e (Ok x) ended s u in
+pub of_archivecleanup : (custom : Option Describer) (tells : Bool) (c : Contents) (now : ℤ) {k : Command} {words : ArchivecleanupWords} {o e : Bool} {ended : Cause} {s u : Seen} → k ≡ command.Archivecleanup words
+    → CarriesUnseen (IsTrue tells ⊎ IsTrue words.dry_run) (IsTrue tells) (archivecleanup_answer c words) (IsArchivecleanup words) o e ended s u → CarriesOut custom tells c now o e (Ok k) ended s u
+of_archivecleanup custom tells c now {words = words} {o} {e} {ended} {s} {u} is p =
+    let P : Command → Type 0 = λ x. CarriesOut custom tells c now o e (Ok x) ended s u in
     subst P (sym is) (unseen_by (seen_dry (IsTrue tells) words) (dry_seen (IsTrue tells) words) (unseen_known (by_tree tells) p))
 
 -- it changes nothing in a dry run
@@ -152,10 +161,10 @@ rewind_seen T words (inl t) = inl t
 rewind_seen T words (inr dry) = inr (λ may. let same : true ≡ false = sym may ∙ ap not dry in cc same)
 
 -- it was carried out
-pub of_rewind : (tells : Bool) (c : Contents) (now : ℤ) {k : Command} {words : RewindWords} {o e : Bool} {ended : Cause} {s u : Seen} → k ≡ command.Rewind words
-    → CarriesUnseen (IsTrue tells ⊎ IsTrue words.dry_run) (IsTrue tells) (rewind_answer c c words now) (IsRewind words) o e ended s u → CarriesOut tells c now o e (Ok k) ended s u
-of_rewind tells c now {words = words} {o} {e} {ended} {s} {u} is p =
-    let P : Command → Type 0 = λ x. CarriesOut tells c now o e (Ok x) ended s u in
+pub of_rewind : (custom : Option Describer) (tells : Bool) (c : Contents) (now : ℤ) {k : Command} {words : RewindWords} {o e : Bool} {ended : Cause} {s u : Seen} → k ≡ command.Rewind words
+    → CarriesUnseen (IsTrue tells ⊎ IsTrue words.dry_run) (IsTrue tells) (rewind_answer c c words now) (IsRewind words) o e ended s u → CarriesOut custom tells c now o e (Ok k) ended s u
+of_rewind custom tells c now {words = words} {o} {e} {ended} {s} {u} is p =
+    let P : Command → Type 0 = λ x. CarriesOut custom tells c now o e (Ok x) ended s u in
     subst P (sym is) (unseen_by (seen_rewind (IsTrue tells) words) (rewind_seen (IsTrue tells) words) (unseen_known (by_tree tells) p))
 
 -- it changes nothing in a dry run
@@ -180,10 +189,10 @@ seen_replay T words (inl t) = t
 seen_replay T words (inr none) = absurd (none tt)
 
 -- it was carried out
-pub of_walreplay : (tells : Bool) (c : Contents) (now : ℤ) {k : Command} {words : WalreplayWords} {o e : Bool} {ended : Cause} {s u : Seen} → k ≡ command.Walreplay words
-    → CarriesUnseen (IsTrue tells) (IsTrue tells) (walreplay_answer c words) (IsWalreplay words) o e ended s u → CarriesOut tells c now o e (Ok k) ended s u
-of_walreplay tells c now {words = words} {o} {e} {ended} {s} {u} is p =
-    let P : Command → Type 0 = λ x. CarriesOut tells c now o e (Ok x) ended s u in
+pub of_walreplay : (custom : Option Describer) (tells : Bool) (c : Contents) (now : ℤ) {k : Command} {words : WalreplayWords} {o e : Bool} {ended : Cause} {s u : Seen} → k ≡ command.Walreplay words
+    → CarriesUnseen (IsTrue tells) (IsTrue tells) (walreplay_answer c words) (IsWalreplay words) o e ended s u → CarriesOut custom tells c now o e (Ok k) ended s u
+of_walreplay custom tells c now {words = words} {o} {e} {ended} {s} {u} is p =
+    let P : Command → Type 0 = λ x. CarriesOut custom tells c now o e (Ok x) ended s u in
     subst P (sym is) (unseen_by (seen_replay (IsTrue tells) words) (λ t. inl t) (unseen_known (by_tree tells) p))
 
 -- it may change files
@@ -205,10 +214,10 @@ seen_pair T words (inl t) = t
 seen_pair T words (inr none) = absurd (none tt)
 
 -- it was carried out
-pub of_pair : (tells : Bool) (c : Contents) (now : ℤ) {k : Command} {words : PairWords} {o e : Bool} {ended : Cause} {s u : Seen} → k ≡ command.Pair words
-    → CarriesUnseen (IsTrue tells) (IsTrue tells) (pair_answer c words) (IsPair words) o e ended s u → CarriesOut tells c now o e (Ok k) ended s u
-of_pair tells c now {words = words} {o} {e} {ended} {s} {u} is p =
-    let P : Command → Type 0 = λ x. CarriesOut tells c now o e (Ok x) ended s u in
+pub of_pair : (custom : Option Describer) (tells : Bool) (c : Contents) (now : ℤ) {k : Command} {words : PairWords} {o e : Bool} {ended : Cause} {s u : Seen} → k ≡ command.Pair words
+    → CarriesUnseen (IsTrue tells) (IsTrue tells) (pair_answer c words) (IsPair words) o e ended s u → CarriesOut custom tells c now o e (Ok k) ended s u
+of_pair custom tells c now {words = words} {o} {e} {ended} {s} {u} is p =
+    let P : Command → Type 0 = λ x. CarriesOut custom tells c now o e (Ok x) ended s u in
     subst P (sym is) (unseen_by (seen_pair (IsTrue tells) words) (λ t. inl t) (unseen_known (by_tree tells) p))
 
 -- it may change files
@@ -270,10 +279,10 @@ reset_seen T words (inl t) = inl t
 reset_seen T words (inr dry) = inr (λ may. let same : true ≡ false = sym may ∙ ap not dry in cc same)
 
 -- it was carried out
-pub of_resetwal : (tells : Bool) (c : Contents) (now : ℤ) {k : Command} {words : ResetwalWords} {o e : Bool} {ended : Cause} {s u : Seen} → k ≡ command.Resetwal words
-    → CarriesUnseen (IsTrue tells ⊎ IsTrue (is_some words.options.dry)) (IsTrue tells) (resetwal_answer c words now) (IsResetwal words now) o e ended s u → CarriesOut tells c now o e (Ok k) ended s u
-of_resetwal tells c now {words = words} {o} {e} {ended} {s} {u} is p =
-    let P : Command → Type 0 = λ x. CarriesOut tells c now o e (Ok x) ended s u in
+pub of_resetwal : (custom : Option Describer) (tells : Bool) (c : Contents) (now : ℤ) {k : Command} {words : ResetwalWords} {o e : Bool} {ended : Cause} {s u : Seen} → k ≡ command.Resetwal words
+    → CarriesUnseen (IsTrue tells ⊎ IsTrue (is_some words.options.dry)) (IsTrue tells) (resetwal_answer c words now) (IsResetwal words now) o e ended s u → CarriesOut custom tells c now o e (Ok k) ended s u
+of_resetwal custom tells c now {words = words} {o} {e} {ended} {s} {u} is p =
+    let P : Command → Type 0 = λ x. CarriesOut custom tells c now o e (Ok x) ended s u in
     subst P (sym is) (unseen_by (seen_reset (IsTrue tells) words) (reset_seen (IsTrue tells) words) (unseen_known (by_tree tells) p))
 
 -- it changes nothing in a dry run
@@ -301,12 +310,12 @@ seen_by : (T : Type 0) (asked : Result Command CommandFault) → T ⊎ NeedsNoTr
 seen_by T asked (inl t) = inl t
 seen_by T asked (inr need) = inr (needless asked need)
 
-module _ (tells : Bool) (c : Contents) (now : ℤ) (asked : Result Command CommandFault) {o e : Bool} {k : List ChangeCall} {out err : Sunk} where
+module _ (custom : Option Describer) (tells : Bool) (c : Contents) (now : ℤ) (asked : Result Command CommandFault) {o e : Bool} {k : List ChangeCall} {out err : Sunk} where
   -- there was no memory for the words
-  pub no_words : CarriesOut tells c now o e asked cause.OutOfMemory (seen c k out err) (seen c k out err)
-  no_words = unseen_still refl refl (λ d j. carries_fault (answered-form c now asked) (answered-looks c now asked) (inr refl) refl refl)
+  pub no_words : CarriesOut custom tells c now o e asked cause.OutOfMemory (seen c k out err) (seen c k out err)
+  no_words = unseen_still refl refl (λ d j. carries_fault (answered-form custom c now asked) (answered-looks custom c now asked) (inr refl) refl refl)
 
-  refuses : (f : CommandFault) → CarriesOut tells c now o e (Err f) (words_cause f) (seen c k out err) (seen c k out err)
+  refuses : (f : CommandFault) → CarriesOut custom tells c now o e (Err f) (words_cause f) (seen c k out err) (seen c k out err)
   refuses fault.Usage = unseen_still refl refl (λ d j. carries_refused cause.Usage refl (λ h. refl) refl refl refl)
   refuses fault.DotDot = unseen_still refl refl (λ d j. carries_refused (words_cause fault.DotDot) refl (λ h. refl) refl refl refl)
   refuses (fault.TooDeep path) = unseen_still refl refl (λ d j. carries_refused (words_cause (fault.TooDeep path)) refl (λ h. refl) refl refl refl)
@@ -314,10 +323,10 @@ module _ (tells : Bool) (c : Contents) (now : ℤ) (asked : Result Command Comma
   refuses fault.OutOfMemory = unseen_still refl refl (λ d j. carries_fault refl tt (inr refl) refl refl)
 
   -- the words are refused
-  pub words_refused : (f : CommandFault) (why : Cause) → why ≡ words_cause f → (f ≡ fault.OutOfMemory) ⊎ (asked ≡ Err f) → CarriesOut tells c now o e asked why (seen c k out err) (seen c k out err)
+  pub words_refused : (f : CommandFault) (why : Cause) → why ≡ words_cause f → (f ≡ fault.OutOfMemory) ⊎ (asked ≡ Err f) → CarriesOut custom tells c now o e asked why (seen c k out err) (seen c k out err)
   words_refused f why is (inl m) = unseen_told (is ∙ ap words_cause m) no_words
   words_refused f why is (inr r) =
-      let P : Result Command CommandFault → Type 0 = λ a. CarriesOut tells c now o e a why (seen c k out err) (seen c k out err) in
+      let P : Result Command CommandFault → Type 0 = λ a. CarriesOut custom tells c now o e a why (seen c k out err) (seen c k out err) in
       subst P (sym r) (unseen_told is (refuses f))
 
 -- why the words are refused is what they decide alone
@@ -326,10 +335,10 @@ refused_alone f asked (inl m) e is = inr (ap words_cause m)
 refused_alone f asked (inr r) e is = let same : Some (words_cause f) ≡ Some e = sym (ap refused_by_words r) ∙ is in inl (cc same)
 
 -- the cause that is told is the outcome, or want of memory for its line
-pub exact_told : (tells : Bool) (c : Contents) (now : ℤ) (asked : Result Command CommandFault) {o e : Bool} {outcome own ended : Cause} {s u : Seen} → own ≡ outcome → (ended ≡ own) ⊎ (IsTrue (has_values own) × (ended ≡ cause.OutOfMemory))
-    → CarriesOut tells c now o e asked outcome s u → IsTrue tells ⊎ NeedsNoTree asked → IsFree ended ⊎ (ended ≡ cause_in (answered c now asked).refusal)
-exact_told tells c now asked {o} {e} {outcome} {own} {ended} {s} {u} same (inl is) p h = carries_exact h (carries_told (is ∙ same) (seen_of (seen_by (IsTrue tells) asked h) p))
-exact_told tells c now asked same (inr m) p h = inl (inr (inr (inr m.1)))
+pub exact_told : (custom : Option Describer) (tells : Bool) (c : Contents) (now : ℤ) (asked : Result Command CommandFault) {o e : Bool} {outcome own ended : Cause} {s u : Seen} → own ≡ outcome → (ended ≡ own) ⊎ (IsTrue (has_values own) × (ended ≡ cause.OutOfMemory))
+    → CarriesOut custom tells c now o e asked outcome s u → IsTrue tells ⊎ NeedsNoTree asked → IsFree ended ⊎ (ended ≡ cause_in (answered custom c now asked).refusal)
+exact_told custom tells c now asked {o} {e} {outcome} {own} {ended} {s} {u} same (inl is) p h = carries_exact h (carries_told (is ∙ same) (seen_of (seen_by (IsTrue tells) asked h) p))
+exact_told custom tells c now asked same (inr m) p h = inl (inr (inr (inr m.1)))
 
 -- a run that is done had that outcome
 pub leaves_done : (r : Result (Unit {0}) Cause) (asked : Result Command CommandFault) {n m : ℤ} (tells : Bool) (c c' : Contents) (out out' : List ℕ) {own ended : Cause} → (r ≡ Err cause.Done → ⊥) → own ≡ cause_of r → (ended ≡ own) ⊎ (IsTrue (has_values own) × (ended ≡ cause.OutOfMemory)) → ended ≡ cause.Done

@@ -1,5 +1,5 @@
 -- What each command does about its words, act by act; each has a room of its own.
-use Rattle.std.specs.Prelude.{◌≡◌, ℤ, Result, Ok, Err}
+use Rattle.std.specs.Prelude.{◌≡◌, ℤ, Option, Result, Ok, Err}
 use Rattle.cluster_tree.specs.Contents.{Contents}
 use Rattle.commands.specs.declared.command.Command.{Command}
 use Rattle.commands.specs.declared.command.Command.TheVariants as command
@@ -15,19 +15,20 @@ use Rattle.cmd_walcompare.specs.Walcompare.{IsWalcompare, walcompare_answer}
 use Rattle.cmd_waldump.specs.Waldump.{IsWaldump, waldump_answer}
 use Rattle.cmd_walreplay.specs.Walreplay.{IsWalreplay, walreplay_answer}
 use Rattle.wal_tools.specs.Words.{words_cause}
+use Rattle.rmgr_hooks.specs.Custom.{Describer}
 
 -- what is done about the words, from the contents and the time in seconds since 1970
-abbrev pub answered : Contents → ℤ → Result Command CommandFault → Answer
-answered c now (Ok (command.Rewind words)) = rewind_answer c c words now
-answered c now (Ok (command.Resume words)) = resume_answer c words now
-answered c now (Ok (command.Controldata words)) = controldata_answer c words
-answered c now (Ok (command.Waldump words)) = waldump_answer c words
-answered c now (Ok (command.Resetwal words)) = resetwal_answer c words now
-answered c now (Ok (command.Archivecleanup words)) = archivecleanup_answer c words
-answered c now (Ok (command.Walreplay words)) = walreplay_answer c words
-answered c now (Ok (command.Walcompare words)) = walcompare_answer c words
-answered c now (Ok (command.Pair words)) = pair_answer c words
-answered c now (Err e) = refused (words_cause e)
+abbrev pub answered : Option Describer → Contents → ℤ → Result Command CommandFault → Answer
+answered custom c now (Ok (command.Rewind words)) = rewind_answer c c words now
+answered custom c now (Ok (command.Resume words)) = resume_answer c words now
+answered custom c now (Ok (command.Controldata words)) = controldata_answer c words
+answered custom c now (Ok (command.Waldump words)) = waldump_answer custom c words
+answered custom c now (Ok (command.Resetwal words)) = resetwal_answer c words now
+answered custom c now (Ok (command.Archivecleanup words)) = archivecleanup_answer c words
+answered custom c now (Ok (command.Walreplay words)) = walreplay_answer c words
+answered custom c now (Ok (command.Walcompare words)) = walcompare_answer c words
+answered custom c now (Ok (command.Pair words)) = pair_answer c words
+answered custom c now (Err e) = refused (words_cause e)
 
 -- what the command may do over any tree
 abbrev pub IsAnswer : ℤ → Result Command CommandFault → Answer → Type 0

@@ -8,6 +8,7 @@ ghost use Rattle.acts.specs.Acts.{seen, sunk};
 ghost use Rattle.run_acts.specs.Answers.{Blames};
 ghost use Rattle.run_acts.specs.Causes.{cause_of, is_deep, is_of_files};
 ghost use Rattle.run_acts.specs.Unseen.{CarriesUnseen};
+ghost use Rattle.rmgr_hooks.specs.Custom.{handed_in};
 ghost use Rattle.wal_tools.specs.Answers.{IsAnswer, answered};
 ghost use Rattle.wal_tools.specs.Leaves.{LeavesAsked, StaysAsked};
 ghost use Rattle.wal_tools.specs.Resumable.{LeavesFresh, LeavesStopped, LeavesToResume};
@@ -25,23 +26,26 @@ use cmd_walcompare::walcompare;
 use cmd_waldump::waldump;
 use cmd_walreplay::walreplay;
 use commands::Command;
+use rmgr_hooks::Manager;
 use run_acts::Cause;
 use std::alloc::Global;
 
-/// Carries out a command.
-pub(crate) fn carry_out<F: Tree, O: Sink, E: Sink>(
+/// Carries out a command; where a manager of an extension is handed in, the text of its records is its
+/// own.
+pub(crate) fn carry_out<F: Tree, O: Sink, E: Sink, M: Manager>(
     alloc: Global,
     command: &Command,
     tree: &mut F,
     out: &mut O,
     err: &mut E,
     now: i64,
+    custom: Option<&M>,
 ) -> Result<(), Cause>
     requires { IsFit command.now }
     ensures carries { CarriesUnseen (IsSeen (IsTrue F.tells) (Ok command.now))
         (IsTrue F.tells ⊎ NeedsNoTree (Ok command.now))
-        (answered (F.contents tree.old) now (Ok command.now)) (IsAnswer now (Ok command.now))
-        O.tells E.tells (cause_of result)
+        (answered (handed_in M.ID M.text custom.entry) (F.contents tree.old) now (Ok command.now))
+        (IsAnswer now (Ok command.now)) O.tells E.tells (cause_of result)
         (seen (F.contents tree.old) (F.calls tree.old)
         (sunk (O.written out.old) (O.failed_writes out.old))
         (sunk (E.written err.old) (E.failed_writes err.old)))
@@ -81,7 +85,7 @@ pub(crate) fn carry_out<F: Tree, O: Sink, E: Sink>(
         Command::Rewind(words) => rewind(alloc, tree, err, words, now, OwnMark::Refused),
         Command::Resume(words) => resume(alloc, tree, err, words, now),
         Command::Controldata(words) => controldata(alloc, tree, out, words),
-        Command::Waldump(words) => waldump(alloc, tree, out, words),
+        Command::Waldump(words) => waldump(alloc, tree, out, words, custom),
         Command::Resetwal(words) => resetwal(alloc, tree, out, words, now),
         Command::Archivecleanup(words) => archivecleanup(alloc, tree, out, err, words),
         Command::Walreplay(words) => walreplay(alloc, tree, out, words),

@@ -3,8 +3,10 @@
 
 mod commanded;
 mod ending;
+mod plain;
 mod program;
 mod words;
 
 pub use ending::finish;
-pub use program::run;
+pub use plain::run;
+pub use program::run_with;

@@ -9,6 +9,7 @@ ghost use Rattle.acts.specs.Acts.{seen, sunk};
 ghost use Rattle.run_acts.specs.Answers.{Blames, cause_in};
 ghost use Rattle.run_acts.specs.Causes.{IsFree, cause_of, is_deep, is_of_text, status_of};
 ghost use Rattle.run_acts.specs.Unseen.{CarriesUnseen};
+ghost use Rattle.rmgr_hooks.specs.Custom.{handed_in};
 ghost use Rattle.cause_lines.specs.Lines.{line_of};
 ghost use Rattle.wal_tools.specs.Answers.{IsAnswer, answered};
 ghost use Rattle.wal_tools.specs.Converges.{ConvergesAsked};
@@ -23,22 +24,25 @@ use crate::ending::finish;
 use crate::words::{command_of, words_cause};
 use cluster_tree::{Sink, Tree};
 use commands::{CommandFault, name_of};
+use rmgr_hooks::Manager;
 use run_acts::{Cause, Exit, PathCause};
 use std::alloc::Global;
 
 // Answers the words, but for the line of the cause.
-fn answer<F: Tree, O: Sink, E: Sink>(
+fn answer<F: Tree, O: Sink, E: Sink, M: Manager>(
     alloc: Global,
     words: &[String],
     tree: &mut F,
     out: &mut O,
     err: &mut E,
     now: i64,
+    custom: Option<&M>,
 ) -> Result<(), Cause>
     ensures carries { CarriesUnseen
         (IsSeen (IsTrue F.tells) (command_of (map string_bytes words.now)))
         (IsTrue F.tells ⊎ NeedsNoTree (command_of (map string_bytes words.now)))
-        (answered (F.contents tree.old) now (command_of (map string_bytes words.now)))
+        (answered (handed_in M.ID M.text custom.entry) (F.contents tree.old) now
+        (command_of (map string_bytes words.now)))
         (IsAnswer now (command_of (map string_bytes words.now))) O.tells E.tells (cause_of result)
         (seen (F.contents tree.old) (F.calls tree.old)
         (sunk (O.written out.old) (O.failed_writes out.old))
@@ -85,7 +89,7 @@ fn answer<F: Tree, O: Sink, E: Sink>(
     ensures undone { result ≢ Err Cause.Done }
 {
     match command_of(alloc, words) {
-        Ok(command) => carry_out(alloc, &command, tree, out, err, now),
+        Ok(command) => carry_out(alloc, &command, tree, out, err, now, custom),
         Err(CommandFault::OutOfMemory) => Err(Cause::OutOfMemory),
         Err(fault) => Err(words_cause(fault)),
     }
@@ -103,25 +107,29 @@ fn cause_of(outcome: Result<(), Cause>) -> Cause
 /// Carries out the command that the words ask for, and tells how it ended.
 ///
 /// `words` are the command and its words, `tree` holds the files, `out` and `err` are standard
-/// output and standard error, and `now` is in seconds since 1970. Where the run ends in another
-/// cause than `Done`, one line on `err` names it.
-pub fn run<F: Tree, O: Sink, E: Sink>(
+/// output and standard error, and `now` is in seconds since 1970. Where a manager of an extension is
+/// handed in, pg_waldump shows the text of its records as its own. Where the run ends in another cause
+/// than `Done`, one line on `err` names it.
+pub fn run_with<F: Tree, O: Sink, E: Sink, M: Manager>(
     alloc: Global,
     words: &[String],
     tree: &mut F,
     out: &mut O,
     err: &mut E,
     now: i64,
+    custom: Option<&M>,
 ) -> Exit
     ensures status { result.status ≡ status_of result.cause }
     // the cause is that of the words and the contents, a fault of a device, or want of memory
     ensures exact { IsTrue F.tells ⊎ NeedsNoTree (command_of (map string_bytes words.now)) →
-        IsFree result.cause ⊎ (result.cause ≡ cause_in (answered (F.contents tree.old) now
+        IsFree result.cause ⊎ (result.cause ≡ cause_in (answered
+        (handed_in M.ID M.text custom.entry) (F.contents tree.old) now
         (command_of (map string_bytes words.now))).refusal) }
     // the acts of the command, in order, as far as they came, and then the line of the cause
     ensures runs { Runs (IsSeen (IsTrue F.tells) (command_of (map string_bytes words.now)))
         (IsTrue F.tells ⊎ NeedsNoTree (command_of (map string_bytes words.now)))
-        (answered (F.contents tree.old) now (command_of (map string_bytes words.now)))
+        (answered (handed_in M.ID M.text custom.entry) (F.contents tree.old) now
+        (command_of (map string_bytes words.now)))
         (IsAnswer now (command_of (map string_bytes words.now))) O.tells E.tells result.cause
         (line_of (name_of (map string_bytes words.now)) result.cause)
         (seen (F.contents tree.old) (F.calls tree.old)
@@ -194,6 +202,6 @@ pub fn run<F: Tree, O: Sink, E: Sink>(
     ensures frame { Came F.Tree tree.old tree.new }
 {
     let name = name_of(words);
-    let outcome = answer(alloc, words, tree, out, err, now);
+    let outcome = answer(alloc, words, tree, out, err, now, custom);
     finish(alloc, name, cause_of(outcome), err)
 }

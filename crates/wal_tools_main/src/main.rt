@@ -4,12 +4,13 @@
 use commands::{CommandName, named};
 use machine::{DirTree, StdSink};
 use run_acts::Cause;
+use sample_manager::SampleManager;
 use std::io::ErrorKind;
 use std::process::ExitCode;
 use std::rt::{Clock, Env};
 use std::time::{SystemTime, UNIX_EPOCH};
 use std::{env, io, str};
-use wal_tools::{finish, run};
+use wal_tools::{finish, run_with};
 
 // Longer than any command's name.
 const NAME_ROOM: usize = 32;
@@ -63,7 +64,8 @@ fn main(rt: HostRuntime) -> ExitCode {
         Ok(words) => {
             let now = seconds_now(&rt);
             let mut tree = DirTree::new(rt, alloc);
-            run(alloc, &words, &mut tree, &mut out, &mut err, now)
+            let custom = Some(&SampleManager);
+            run_with(alloc, &words, &mut tree, &mut out, &mut err, now, custom)
         }
         Err(error) => finish(alloc, first_name(&rt), unread_cause(&error), &mut err),
     };

@@ -1,9 +1,10 @@
 -- What one step of a dump gives of what is still to be shown.
-use Rattle.std.specs.Prelude.{ℕ, ◌≡◌, ◌+◌, ◌<◌, ◌≤◌, ◌^◌, ◌++◌, List, [], None, Ok, Err}
+use Rattle.std.specs.Prelude.{ℕ, ◌≡◌, ◌+◌, ◌<◌, ◌≤◌, ◌^◌, ◌++◌, List, [], Option, None, Ok, Err}
 use Rattle.acts.specs.Texts.{texts_of}
 use Rattle.cluster_tree.specs.Contents.{Contents}
 use Rattle.wal_base.specs.Segment.{bytes_of}
 use Rattle.wal_records.specs.Cursor.{CursorView, to_come}
+use Rattle.rmgr_hooks.specs.Custom.{Describer}
 use Rattle.waldump_core.specs.declared.fault.DumpFault.{DumpFault}
 use Rattle.waldump_core.specs.declared.progress.Progress.{Progress}
 use Rattle.waldump_core.specs.declared.progress.Turn.{Turn}
@@ -13,13 +14,13 @@ use Rattle.waldump_core.specs.Dump.{Dump}
 use Rattle.waldump_core.specs.Walk.{answered, walk_behind}
 
 -- the dump of the log that a cursor has still to give, behind this progress
-abbrev pub left : Selection → Progress → CursorView → Contents → Dump
-left sel progress cursor contents = walk_behind (bytes_of cursor.log.size) sel progress (to_come cursor contents)
+abbrev pub left : Option Describer → Selection → Progress → CursorView → Contents → Dump
+left custom sel progress cursor contents = walk_behind custom (bytes_of cursor.log.size) sel progress (to_come cursor contents)
 
 -- what is left of a dump behind a turn
-abbrev pub left_behind : Selection → Turn → CursorView → Contents → Dump
-left_behind sel (Goes progress) cursor contents = left sel progress cursor contents
-left_behind sel (Stops dumped) cursor contents = answered (Ok dumped)
+abbrev pub left_behind : Option Describer → Selection → Turn → CursorView → Contents → Dump
+left_behind custom sel (Goes progress) cursor contents = left custom sel progress cursor contents
+left_behind custom sel (Stops dumped) cursor contents = answered (Ok dumped)
 
 -- A step of a dump: the first of the lines that were left are pending now, behind those that were; the others are still left, and the
 -- answer stays.

@@ -1,6 +1,7 @@
 //! The dump of a log: which of its records are shown, and as which lines.
 #![tactic(auto)]
 
+mod asked;
 mod dumped;
 mod fault;
 mod filters;
@@ -18,4 +19,4 @@ mod walk;
 pub use dumped::Dumped;
 pub use fault::DumpFault;
 pub use selection::Selection;
-pub use walk::dump;
+pub use walk::{dump, dump_with};

@@ -3,13 +3,15 @@
 ghost use Rattle.std.specs.Prelude.{◌≡◌, ◌≤◌, ◌++◌, IfOk, replicate, string_bytes};
 ghost use Rattle.block_refs.specs.Parts.{ArePartsOf};
 ghost use Rattle.rmgr_desc.specs.Managers.{manager_name_of};
-ghost use Rattle.waldump_core.specs.Line.{head_text, left_in, line_text, places_text, sizes_text};
+ghost use Rattle.rmgr_hooks.specs.Custom.{handed_in};
+ghost use Rattle.waldump_core.specs.Line.{described, head_text, left_in, line_text, places_text, sizes_text};
 
 use crate::position::add_lsn;
 use crate::refs::add_refs;
 use block_refs::Parts;
 use rmgr_desc::{add_description, add_manager_name, add_operation_name};
-use std::alloc::AllocError;
+use rmgr_hooks::Manager;
+use std::alloc::{AllocError, Global};
 use wal_base::{Lsn, OutOfMemory};
 use wal_records::{Record, RecordHeader};
 
@@ -88,24 +90,51 @@ fn add_head(text: &mut String, rec: &Record, images: u32) -> Result<(), OutOfMem
     Ok(())
 }
 
+/// Adds what stands behind the name of the operation: what a manager of an extension tells of its own
+/// records, where one is handed in.
+#[tactic(auto, unfolding(crate::specs::Line::described))]
+fn add_described<M: Manager>(
+    alloc: Global,
+    text: &mut String,
+    rec: &Record,
+    parts: &Parts,
+    custom: Option<&M>,
+) -> Result<(), OutOfMemory>
+    requires parts { ArePartsOf rec.now parts.now }
+    ensures { IfOk result (λ _. string_bytes text.new ≡ string_bytes text.old
+        ++ described (handed_in M.ID M.text custom.entry) rec.now parts.now) }
+{
+    let header = rec.header();
+    match custom {
+        Some(manager) if header.manager == M::ID => {
+            let told = manager.describe(alloc, header.info, parts.main_bytes(rec))?;
+            text.push_str(told.as_str())?;
+            Ok(())
+        }
+        _ => add_description(text, rec, parts),
+    }
+}
+
 /// Adds the line of a record with these parts, and with the details a line for each of its block
 /// references. Answers `OutOfMemory` only for want of memory, and then the text is of no use.
 #[tactic(auto, unfolding(crate::specs::Line::line_text))]
-pub fn add_line(
+pub fn add_line<M: Manager>(
+    alloc: Global,
     text: &mut String,
     rec: &Record,
     parts: &Parts,
     details: bool,
+    custom: Option<&M>,
 ) -> Result<(), OutOfMemory>
     requires parts { ArePartsOf rec.now parts.now }
-    ensures { IfOk result (λ _. string_bytes text.new
-        ≡ string_bytes text.old ++ line_text details rec.now parts.now) }
+    ensures { IfOk result (λ _. string_bytes text.new ≡ string_bytes text.old
+        ++ line_text (handed_in M.ID M.text custom.entry) details rec.now parts.now) }
 {
     let header = rec.header();
     add_head(text, rec, parts.image_total())?;
     add_operation_name(text, header.manager, header.info)?;
     text.push_str(" ")?;
-    add_description(text, rec, parts)?;
+    add_described(alloc, text, rec, parts, custom)?;
     add_refs(text, parts, details)?;
     Ok(())
 }

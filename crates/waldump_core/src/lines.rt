@@ -5,6 +5,7 @@ ghost use Rattle.acts.specs.Acts.{Breaks, sunk};
 ghost use Rattle.acts.specs.Texts.{Flushes};
 ghost use Rattle.cluster_tree.specs.Causes.{Rose};
 ghost use Rattle.block_refs.specs.Parts.{ArePartsOf};
+ghost use Rattle.rmgr_hooks.specs.Custom.{handed_in};
 ghost use Rattle.waldump_core.specs.Line.{line_text};
 ghost use Rattle.waldump_core.specs.Texts.{Extends};
 
@@ -12,6 +13,7 @@ use crate::line::add_line;
 use acts::put;
 use block_refs::Parts;
 use cluster_tree::{Sink, SinkFailed};
+use rmgr_hooks::Manager;
 use std::alloc::Global;
 use std::marker::Model;
 use wal_base::OutOfMemory;
@@ -23,6 +25,7 @@ const FULL: usize = 0x1_0000;
 /// Lines that are still to be written, so that writes are few and large. Contracts see their bytes.
 #[derive(Drop)]
 pub struct Lines {
+    alloc: Global,
     line: String,
     pending: String,
 }
@@ -41,6 +44,7 @@ impl Lines {
         ensures { result ≡ [] }
     {
         Lines {
+            alloc,
             line: String::new(alloc),
             pending: String::new(alloc),
         }
@@ -48,13 +52,20 @@ impl Lines {
 
     /// Adds the line of a record with these parts. Answers `OutOfMemory` only for want of memory,
     /// and then no part of the line is pending.
-    pub fn add(&mut self, rec: &Record, parts: &Parts, details: bool) -> Result<(), OutOfMemory>
+    pub fn add<M: Manager>(
+        &mut self,
+        rec: &Record,
+        parts: &Parts,
+        details: bool,
+        custom: Option<&M>,
+    ) -> Result<(), OutOfMemory>
         requires parts { ArePartsOf rec.now parts.now }
-        ensures added { OnOk result (self.new ≡ self.old ++ line_text details rec.now parts.now) }
+        ensures added { OnOk result (self.new ≡ self.old
+            ++ line_text (handed_in M.ID M.text custom.entry) details rec.now parts.now) }
         ensures kept { OnErr result (self.new ≡ self.old) }
     {
         self.line.clear();
-        add_line(&mut self.line, rec, parts, details)?;
+        add_line(self.alloc, &mut self.line, rec, parts, details, custom)?;
         self.pending.push_str(self.line.as_str())?;
         Ok(())
     }

@@ -2,6 +2,7 @@
 use super::fault::LineFault;
 use super::line::{first_word, narrow, number, plan};
 use memory_tree::FailPlan;
+use sample_manager::SampleManager;
 use std::alloc::Global;
 
 /// Which calls of a run fail.
@@ -31,6 +32,8 @@ pub(crate) struct Asked {
     pub(crate) words: Vec<String>,
     pub(crate) now: i64,
     pub(crate) fails: Fails,
+    /// The manager of an extension, where one is handed in.
+    pub(crate) custom: Option<SampleManager>,
     pub(crate) wanted: Wanted,
     /// The words of each run that the mark of a stopped run has to refuse.
     pub(crate) refused: Vec<Vec<String>>,
@@ -122,6 +125,7 @@ impl Asked {
             words: Vec::new(alloc),
             now: 1700000000,
             fails: Fails::of_tree(FailPlan::Never),
+            custom: None,
             wanted: Wanted::new(alloc),
             refused: Vec::new(alloc),
             resumed: Vec::new(alloc),
@@ -131,6 +135,12 @@ impl Asked {
     // `now N`: the time of the run.
     fn add_now(&mut self, behind: &str) -> Result<(), LineFault> {
         self.now = narrow(behind)?;
+        Ok(())
+    }
+
+    // `manager`: the sample's manager is handed in.
+    fn add_manager(&mut self) -> Result<(), LineFault> {
+        self.custom = Some(SampleManager);
         Ok(())
     }
 
@@ -155,6 +165,7 @@ impl Asked {
             "now" => self.add_now(behind),
             "failing" => self.fails.add(behind),
             "reads" => self.fails.add_reads(behind),
+            "manager" => self.add_manager(),
             "refused" => self.add_refused(alloc, behind),
             "resumed" => add_words(alloc, &mut self.resumed, behind),
             _ => self.wanted.take(verb, behind),

@@ -73,7 +73,7 @@ impl NewLog {
 
     #[tactic(auto, using(wal_records::proofs::NearLemmas::ends_near))]
     fn append(&mut self, xid: u32, info: u8, manager: u8, body: &[u8]) -> Result<(), LineFault> {
-        if manager > 21 || self.writer.position().0 > 1 << 62 {
+        if (manager > 21 && manager < 128) || self.writer.position().0 > 1 << 62 {
             return Err(LineFault::NotARecord);
         }
         self.writer.append(xid, info, manager, body)?;

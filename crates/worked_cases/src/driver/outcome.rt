@@ -4,8 +4,9 @@ use super::calls::calls_from;
 use super::fault::LineFault;
 use super::told::Told;
 use memory_tree::{FailPlan, FailingTree, MemorySink, MemoryTree};
+use sample_manager::SampleManager;
 use std::alloc::Global;
-use wal_tools::run;
+use wal_tools::{run, run_with};
 
 /// What a run left.
 #[derive(Drop)]
@@ -16,18 +17,26 @@ pub(crate) struct Ran {
     pub(crate) err: MemorySink,
 }
 
-/// Runs these words on a tree at a time, with some calls failing.
+/// Runs these words on a tree at a time, with some calls failing, and with a manager of an extension or with
+/// none.
 pub(crate) fn run_on(
     alloc: Global,
     tree: MemoryTree,
     words: &[String],
     now: i64,
     fails: Fails,
+    custom: Option<SampleManager>,
 ) -> Ran {
     let mut tree = FailingTree::new(tree, fails.tree);
     let mut out = MemorySink::new(alloc, fails.out);
     let mut err = MemorySink::new(alloc, fails.err);
-    let exit = run(alloc, words, &mut tree, &mut out, &mut err, now);
+    let exit = match custom {
+        Some(manager) => {
+            let custom = Some(&manager);
+            run_with(alloc, words, &mut tree, &mut out, &mut err, now, custom)
+        }
+        None => run(alloc, words, &mut tree, &mut out, &mut err, now),
+    };
     Ran {
         tree: tree.into_inner(),
         status: exit.status,
@@ -107,7 +116,7 @@ fn fail_in_turn(
             tree: FailPlan::At(n),
             ..asked.fails
         };
-        let ran = run_on(alloc, tree, &asked.words, asked.now, fails);
+        let ran = run_on(alloc, tree, &asked.words, asked.now, fails, asked.custom);
         if ran.status != asked.wanted.status {
             compare_faulty(alloc, asked, &ran, told)?;
         }
@@ -145,7 +154,14 @@ pub(crate) fn run_and_compare(
 ) -> Result<MemoryTree, LineFault> {
     let first = tree.changes();
     let tree = fail_in_turn(alloc, tree, asked, told)?;
-    let ran = run_on(alloc, tree, &asked.words, asked.now, asked.fails);
+    let ran = run_on(
+        alloc,
+        tree,
+        &asked.words,
+        asked.now,
+        asked.fails,
+        asked.custom,
+    );
     compare_ran(alloc, &asked.wanted, &ran, first, told)?;
     Ok(ran.tree)
 }

@@ -41,7 +41,7 @@ fn left_at(
 ) -> Result<String, LineFault> {
     let start = tree.image(alloc, 1)?;
     let fails = Fails::of_tree(FailPlan::Never);
-    let mut left = run_on(alloc, start, words, now, fails).tree;
+    let mut left = run_on(alloc, start, words, now, fails, None).tree;
     inventory(alloc, &mut left)
 }
 
@@ -60,7 +60,7 @@ impl Stopped<'_> {
     fn run_in(&self, image: &MemoryTree, words: &[String], now: i64) -> Result<Ran, LineFault> {
         let tree = image.image(self.alloc, 1)?;
         let fails = Fails::of_tree(FailPlan::Never);
-        Ok(run_on(self.alloc, tree, words, now, fails))
+        Ok(run_on(self.alloc, tree, words, now, fails, None))
     }
 
     // Whether a run was refused for the mark, and changed nothing.
@@ -146,7 +146,14 @@ impl Stopped<'_> {
         for n in 1..MOST {
             let start = tree.image(self.alloc, 1)?;
             let fails = Fails::of_tree(FailPlan::From(n));
-            let ran = run_on(self.alloc, start, &self.asked.words, self.asked.now, fails);
+            let ran = run_on(
+                self.alloc,
+                start,
+                &self.asked.words,
+                self.asked.now,
+                fails,
+                None,
+            );
             goes_on = self.tell_images(&ran.tree, told)? || goes_on;
             if ran.status == 0 {
                 return Ok(goes_on);

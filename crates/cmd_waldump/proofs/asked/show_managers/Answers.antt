@@ -1,4 +1,4 @@
-use Rattle.std.proofs.Common.{◌≡◌, ◌∙◌, [], ◌∷◌, inr, refl}
+use Rattle.std.proofs.Common.{◌∙◌, [], ◌∷◌, inr, refl}
 use Rattle.acts.specs.Acts.{Print}
 use Rattle.run_acts.proofs.AnswerSteps.{carries_acts, carries_fault, last_exact, last_print}
 use Rattle.cmd_waldump.specs.Waldump.{manager_list}

@@ -12,8 +12,8 @@ use Rattle.wal_tools.proofs.commanded.carry_out.Goals as goal
 pub returns-in-Rewind-clause-carries : goal.returns-in-Rewind-clause-carries
 returns-in-Rewind-clause-carries g c =
     let fits : FitsSigned w64 c.args.now = search rules in
-    at_time g.F.Tree.tells (g.F.Tree.contents c.args.tree.now) (Ok c.args.command.now) (to_z-of_z w64 c.args.now fits)
-    (of_rewind g.F.Tree.tells (g.F.Tree.contents c.args.tree.now) _ c.in-Rewind.is
+    at_time _ g.F.Tree.tells (g.F.Tree.contents c.args.tree.now) (Ok c.args.command.now) (to_z-of_z w64 c.args.now fits)
+    (of_rewind _ g.F.Tree.tells (g.F.Tree.contents c.args.tree.now) _ c.in-Rewind.is
     (c.rewind.ensures.carries g.O.Sink.tells (sunk (g.O.Sink.written c.args.out.now) (g.O.Sink.failed_writes c.args.out.now))))
 
 pub returns-in-Rewind-clause-reads : goal.returns-in-Rewind-clause-reads
@@ -26,12 +26,12 @@ returns-in-Rewind-clause-leaves g c t =
 
 pub returns-in-Controldata-clause-carries : goal.returns-in-Controldata-clause-carries
 returns-in-Controldata-clause-carries g c =
-    of_controldata g.F.Tree.tells (g.F.Tree.contents c.args.tree.now) c.args.now c.in-Controldata.is
+    of_controldata _ g.F.Tree.tells (g.F.Tree.contents c.args.tree.now) c.args.now c.in-Controldata.is
     (c.controldata.ensures.carries g.E.Sink.tells (sunk (g.E.Sink.written c.args.err.now) (g.E.Sink.failed_writes c.args.err.now)))
 
 pub returns-in-Waldump-clause-carries : goal.returns-in-Waldump-clause-carries
 returns-in-Waldump-clause-carries g c =
-    of_waldump g.F.Tree.tells (g.F.Tree.contents c.args.tree.now) c.args.now c.in-Waldump.is
+    of_waldump _ g.F.Tree.tells (g.F.Tree.contents c.args.tree.now) c.args.now c.in-Waldump.is
     (c.waldump.ensures.carries g.E.Sink.tells (sunk (g.E.Sink.written c.args.err.now) (g.E.Sink.failed_writes c.args.err.now)))
 
 pub returns-in-Rewind-clause-blames : goal.returns-in-Rewind-clause-blames
@@ -46,8 +46,8 @@ returns-in-Waldump-clause-blames g c = c.waldump.ensures.blames (g.E.Sink.failed
 pub returns-in-Resetwal-clause-carries : goal.returns-in-Resetwal-clause-carries
 returns-in-Resetwal-clause-carries g c =
     let fits : FitsSigned w64 c.args.now = search rules in
-    at_time g.F.Tree.tells (g.F.Tree.contents c.args.tree.now) (Ok c.args.command.now) (to_z-of_z w64 c.args.now fits)
-    (of_resetwal g.F.Tree.tells (g.F.Tree.contents c.args.tree.now) _ c.in-Resetwal.is
+    at_time _ g.F.Tree.tells (g.F.Tree.contents c.args.tree.now) (Ok c.args.command.now) (to_z-of_z w64 c.args.now fits)
+    (of_resetwal _ g.F.Tree.tells (g.F.Tree.contents c.args.tree.now) _ c.in-Resetwal.is
     (c.resetwal.ensures.carries g.E.Sink.tells (sunk (g.E.Sink.written c.args.err.now) (g.E.Sink.failed_writes c.args.err.now))))
 
 pub returns-in-Resetwal-clause-blames : goal.returns-in-Resetwal-clause-blames
@@ -58,7 +58,7 @@ returns-in-Resetwal-clause-reads g c none = c.resetwal.ensures.reads (dried_rese
 
 pub returns-in-Archivecleanup-clause-carries : goal.returns-in-Archivecleanup-clause-carries
 returns-in-Archivecleanup-clause-carries g c =
-    of_archivecleanup g.F.Tree.tells (g.F.Tree.contents c.args.tree.now) c.args.now c.in-Archivecleanup.is
+    of_archivecleanup _ g.F.Tree.tells (g.F.Tree.contents c.args.tree.now) c.args.now c.in-Archivecleanup.is
     c.archivecleanup.ensures.carries
 
 pub returns-in-Archivecleanup-clause-reads : goal.returns-in-Archivecleanup-clause-reads
@@ -66,7 +66,7 @@ returns-in-Archivecleanup-clause-reads g c none = c.archivecleanup.ensures.reads
 
 pub returns-in-Walreplay-clause-carries : goal.returns-in-Walreplay-clause-carries
 returns-in-Walreplay-clause-carries g c =
-    of_walreplay g.F.Tree.tells (g.F.Tree.contents c.args.tree.now) c.args.now c.in-Walreplay.is
+    of_walreplay _ g.F.Tree.tells (g.F.Tree.contents c.args.tree.now) c.args.now c.in-Walreplay.is
     (c.walreplay.ensures.carries g.E.Sink.tells (sunk (g.E.Sink.written c.args.err.now) (g.E.Sink.failed_writes c.args.err.now)))
 
 pub returns-in-Walreplay-clause-blames : goal.returns-in-Walreplay-clause-blames
@@ -86,7 +86,7 @@ returns-in-Walreplay-clause-stays g c t =
 
 pub returns-in-Walcompare-clause-carries : goal.returns-in-Walcompare-clause-carries
 returns-in-Walcompare-clause-carries g c =
-    of_walcompare g.F.Tree.tells (g.F.Tree.contents c.args.tree.now) c.args.now c.in-Walcompare.is
+    of_walcompare _ g.F.Tree.tells (g.F.Tree.contents c.args.tree.now) c.args.now c.in-Walcompare.is
     (c.walcompare.ensures.carries g.E.Sink.tells (sunk (g.E.Sink.written c.args.err.now) (g.E.Sink.failed_writes c.args.err.now)))
 
 pub returns-in-Walcompare-clause-blames : goal.returns-in-Walcompare-clause-blames
@@ -135,7 +135,7 @@ returns-in-Walreplay-clause-durable g c t = durable_replay c.walreplay.result c.
 
 pub returns-in-Pair-clause-carries : goal.returns-in-Pair-clause-carries
 returns-in-Pair-clause-carries g c =
-    of_pair g.F.Tree.tells (g.F.Tree.contents c.args.tree.now) c.args.now c.in-Pair.is
+    of_pair _ g.F.Tree.tells (g.F.Tree.contents c.args.tree.now) c.args.now c.in-Pair.is
     (c.pair.ensures.carries g.E.Sink.tells (sunk (g.E.Sink.written c.args.err.now) (g.E.Sink.failed_writes c.args.err.now)))
 
 pub returns-in-Pair-clause-blames : goal.returns-in-Pair-clause-blames
@@ -159,8 +159,8 @@ returns-in-Pair-clause-stops g c t = left_of_pair c.args.now (moment_of g.F.Tree
 pub returns-in-Resume-clause-carries : goal.returns-in-Resume-clause-carries
 returns-in-Resume-clause-carries g c =
     let fits : FitsSigned w64 c.args.now = search rules in
-    at_time g.F.Tree.tells (g.F.Tree.contents c.args.tree.now) (Ok c.args.command.now) (to_z-of_z w64 c.args.now fits)
-    (of_resume c.in-Resume.is g.F.Tree.tells (g.F.Tree.contents c.args.tree.now) _
+    at_time _ g.F.Tree.tells (g.F.Tree.contents c.args.tree.now) (Ok c.args.command.now) (to_z-of_z w64 c.args.now fits)
+    (of_resume c.in-Resume.is _ g.F.Tree.tells (g.F.Tree.contents c.args.tree.now) _
     (c.resume.ensures.carries g.O.Sink.tells (sunk (g.O.Sink.written c.args.out.now) (g.O.Sink.failed_writes c.args.out.now))))
 
 pub returns-in-Resume-clause-reads : goal.returns-in-Resume-clause-reads

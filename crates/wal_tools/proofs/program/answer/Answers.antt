@@ -12,14 +12,14 @@ use Rattle.wal_tools.proofs.program.answer.Goals as goal
 pub returns-in-Ok-clause-carries : goal.returns-in-Ok-clause-carries
 returns-in-Ok-clause-carries g c =
     let fits : FitsSigned w64 c.args.now = search rules in
-    of_command g.F.Tree.tells (g.F.Tree.contents c.args.tree.now) c.args.now c.in-Ok.ensures.answer
-    (at_time g.F.Tree.tells (g.F.Tree.contents c.args.tree.now) (Ok c.in-Ok.command) (to_z-of_z w64 c.args.now fits) c.carry_out.ensures.carries)
+    of_command _ g.F.Tree.tells (g.F.Tree.contents c.args.tree.now) c.args.now c.in-Ok.ensures.answer
+    (at_time _ g.F.Tree.tells (g.F.Tree.contents c.args.tree.now) (Ok c.in-Ok.command) (to_z-of_z w64 c.args.now fits) c.carry_out.ensures.carries)
 
 pub returns-in-Err-OutOfMemory-clause-carries : goal.returns-in-Err-OutOfMemory-clause-carries
-returns-in-Err-OutOfMemory-clause-carries g c = no_words g.F.Tree.tells (g.F.Tree.contents c.args.tree.now) c.args.now (command_of (map string_bytes c.args.words.now))
+returns-in-Err-OutOfMemory-clause-carries g c = no_words _ g.F.Tree.tells (g.F.Tree.contents c.args.tree.now) c.args.now (command_of (map string_bytes c.args.words.now))
 
 pub returns-in-Err-clause-carries : goal.returns-in-Err-clause-carries
-returns-in-Err-clause-carries g c = words_refused g.F.Tree.tells (g.F.Tree.contents c.args.tree.now) c.args.now (command_of (map string_bytes c.args.words.now)) c.in-Err.fault c.words_cause.result c.words_cause.ensures c.in-Err.ensures.answer
+returns-in-Err-clause-carries g c = words_refused _ g.F.Tree.tells (g.F.Tree.contents c.args.tree.now) c.args.now (command_of (map string_bytes c.args.words.now)) c.in-Err.fault c.words_cause.result c.words_cause.ensures c.in-Err.ensures.answer
 
 pub returns-in-Err-OutOfMemory-clause-stays : goal.returns-in-Err-OutOfMemory-clause-stays
 returns-in-Err-OutOfMemory-clause-stays g c t = stays_unmade (command_of (map string_bytes c.args.words.now)) (g.F.Tree.contents c.args.tree.now)

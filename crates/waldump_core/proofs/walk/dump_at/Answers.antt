@@ -19,14 +19,14 @@ returns-in_err-cursor-clause-shown g c = λ told.
 pub returns-clause-answer : goal.returns-clause-answer
 returns-clause-answer g c = λ told.
     let contents = g.F.Tree.contents c.args.tree.now in
-    let whole = left_from c.args.sel.now c.in_ok-cursor.cursor contents c.args.log c.args.place (ap (λ (v : CursorView). v.log) c.in_ok-cursor.ensures.ok) (c.in_ok-cursor.ensures.starts contents) in
+    let whole = left_from _ c.args.sel.now c.in_ok-cursor.cursor contents c.args.log c.args.place (ap (λ (v : CursorView). v.log) c.in_ok-cursor.ensures.ok) (c.in_ok-cursor.ensures.starts contents) in
     subst (λ (d : Dump). Meets IsFree d.answer c.walk.result) whole (c.walk.ensures.answer told)
 
 pub returns-clause-shown : goal.returns-clause-shown
 returns-clause-shown g c = λ told.
     let contents = g.F.Tree.contents c.args.tree.now in
     let calls = g.F.Tree.calls c.args.tree.now in
-    let whole = left_from c.args.sel.now c.in_ok-cursor.cursor contents c.args.log c.args.place (ap (λ (v : CursorView). v.log) c.in_ok-cursor.ensures.ok) (c.in_ok-cursor.ensures.starts contents) in
+    let whole = left_from _ c.args.sel.now c.in_ok-cursor.cursor contents c.args.log c.args.place (ap (λ (v : CursorView). v.log) c.in_ok-cursor.ensures.ok) (c.in_ok-cursor.ensures.starts contents) in
     subst (λ (d : Dump). Performs g.O.Sink.tells false (ending_of c.walk.result) (prints d.lines)
     (seen contents calls (sunk (g.O.Sink.written c.args.out.now) (g.O.Sink.failed_writes c.args.out.now)) (sunk [] 0))
     (seen contents calls (sunk (g.O.Sink.written c.walk.new.out) (g.O.Sink.failed_writes c.walk.new.out)) (sunk [] 0))) whole (c.walk.ensures.shown told)

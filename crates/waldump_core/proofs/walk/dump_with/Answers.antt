@@ -2,10 +2,11 @@ use Rattle.std.proofs.Common.{None, Some, Err, ap, refl, ◌∙◌}
 use Rattle.std.proofs.lemmas.Result.{err_from_is_err_and}
 use Rattle.wal_base.specs.Segment.{bytes_of}
 use Rattle.wal_records.specs.Further.{pages_of}
+use Rattle.rmgr_hooks.specs.Custom.{handed_in}
 use Rattle.waldump_core.specs.Dump.{dump_from, dump_of}
 use Rattle.waldump_core.proofs.SinkLemmas.{paused_before, put_after_reads, refused_before}
 use Rattle.waldump_core.proofs.StepLemmas.{from_first}
-use Rattle.waldump_core.proofs.walk.dump.Goals as goal
+use Rattle.waldump_core.proofs.walk.dump_with.Goals as goal
 
 -- nothing was read of the log, so no line was put
 pub returns-in_err-place-clause-shown : goal.returns-in_err-place-clause-shown
@@ -19,8 +20,9 @@ returns-in-Some-clause-shown g c = λ told err_tells err.
     let later = g.F.Tree.contents c.place_from.new.tree in
     let pages = pages_of c.args.log in
     let size = bytes_of c.args.log.size in
-    let whole = from_first c.args.sel.now c.args.log contents later c.in_ok-place.field-0 (Some c.in-Some.place) c.in_ok-place.ensures.reads.same (c.in_ok-place.ensures.place told) c.in-Some.is in
-    put_after_reads (dump_of (pages contents) size c.args.sel.now) (dump_from (pages later) size c.args.sel.now (Some c.in-Some.place)) err_tells err whole
+    let custom = handed_in g.M.Manager.ID g.M.Manager.text c.args.custom in
+    let whole = from_first custom c.args.sel.now c.args.log contents later c.in_ok-place.field-0 (Some c.in-Some.place) c.in_ok-place.ensures.reads.same (c.in_ok-place.ensures.place told) c.in-Some.is in
+    put_after_reads (dump_of custom (pages contents) size c.args.sel.now) (dump_from custom (pages later) size c.args.sel.now (Some c.in-Some.place)) err_tells err whole
     (c.dump_at.ensures.reads.same ∙ c.in_ok-place.ensures.reads.same) (c.dump_at.ensures.reads.uncalled ∙ c.in_ok-place.ensures.reads.uncalled) (c.dump_at.ensures.shown told)
 
 -- there is no place at which a record can begin
@@ -29,5 +31,6 @@ returns-in-None-clause-shown g c = λ told err_tells err.
     let contents = g.F.Tree.contents c.args.tree.now in
     let pages = pages_of c.args.log in
     let size = bytes_of c.args.log.size in
-    let whole = from_first c.args.sel.now c.args.log contents contents c.in_ok-place.field-0 None refl (c.in_ok-place.ensures.place told) c.in-None.is in
-    refused_before (dump_of (pages contents) size c.args.sel.now) (dump_from (pages contents) size c.args.sel.now None) whole refl c.in_ok-place.ensures.reads.same c.in_ok-place.ensures.reads.uncalled
+    let custom = handed_in g.M.Manager.ID g.M.Manager.text c.args.custom in
+    let whole = from_first custom c.args.sel.now c.args.log contents contents c.in_ok-place.field-0 None refl (c.in_ok-place.ensures.place told) c.in-None.is in
+    refused_before (dump_of custom (pages contents) size c.args.sel.now) (dump_from custom (pages contents) size c.args.sel.now None) whole refl c.in_ok-place.ensures.reads.same c.in_ok-place.ensures.reads.uncalled

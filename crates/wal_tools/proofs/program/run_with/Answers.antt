@@ -11,13 +11,13 @@ use Rattle.wal_tools.proofs.RunLemmas.{at_time, exact_told, leaves_done, stays_t
 use Rattle.wal_tools.proofs.ResumableLemmas.{resumable_at}
 use Rattle.wal_tools.proofs.StopLemmas.{durable_done, left_at}
 use Rattle.rewind_core.specs.Over.{without_own}
-use Rattle.wal_tools.proofs.program.run.Goals as goal
+use Rattle.wal_tools.proofs.program.run_with.Goals as goal
 
 pub returns-clause-exact : goal.returns-clause-exact
 returns-clause-exact g c h =
     let fits : FitsSigned w64 c.args.now = search rules in
-    exact_told g.F.Tree.tells (g.F.Tree.contents c.args.tree.now) c.args.now (command_of (map string_bytes c.args.words.now)) c.cause_of.ensures c.finish.ensures.cause
-    (at_time g.F.Tree.tells (g.F.Tree.contents c.args.tree.now) (command_of (map string_bytes c.args.words.now)) (to_z-of_z w64 c.args.now fits) c.answer-outcome.ensures.carries) h
+    exact_told _ g.F.Tree.tells (g.F.Tree.contents c.args.tree.now) c.args.now (command_of (map string_bytes c.args.words.now)) c.cause_of.ensures c.finish.ensures.cause
+    (at_time _ g.F.Tree.tells (g.F.Tree.contents c.args.tree.now) (command_of (map string_bytes c.args.words.now)) (to_z-of_z w64 c.args.now fits) c.answer-outcome.ensures.carries) h
 
 pub returns-clause-runs : goal.returns-clause-runs
 returns-clause-runs g c =
@@ -27,7 +27,7 @@ returns-clause-runs g c =
       told = seen (g.F.Tree.contents c.answer-outcome.new.tree) (g.F.Tree.calls c.answer-outcome.new.tree)
           (sunk (g.O.Sink.written c.answer-outcome.new.out) (g.O.Sink.failed_writes c.answer-outcome.new.out))
           (sunk (g.E.Sink.written c.answer-outcome.new.err) (g.E.Sink.failed_writes c.answer-outcome.new.err));
-      acts = unseen_told c.cause_of.ensures (at_time g.F.Tree.tells (g.F.Tree.contents c.args.tree.now) (command_of (map string_bytes c.args.words.now)) (to_z-of_z w64 c.args.now fits) c.answer-outcome.ensures.carries);
+      acts = unseen_told c.cause_of.ensures (at_time _ g.F.Tree.tells (g.F.Tree.contents c.args.tree.now) (command_of (map string_bytes c.args.words.now)) (to_z-of_z w64 c.args.now fits) c.answer-outcome.ensures.carries);
       out = (unseen_grow c.answer-outcome.ensures.carries).0;
       err = (unseen_grow c.answer-outcome.ensures.carries).1;
       cause = c.finish.ensures.cause;
