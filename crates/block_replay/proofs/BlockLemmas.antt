@@ -17,46 +17,47 @@ use Rattle.block_replay.specs.Blocks.{block_after, by_act, each_after, placed_af
 use Rattle.block_replay.specs.Faults.{IsFreeFault}
 use Rattle.block_replay.specs.World.{BlockWorld}
 use Rattle.block_replay.specs.declared.faults.RecordFault.{RecordFault}
+use Rattle.rmgr_hooks.specs.Custom.{Extension}
 
 abbrev pub ref_of : Option Placed → Option BlockRef
 ref_of at = option_map (λ (placed : Placed). placed.block) at
 
-module _ (root : PathValue) (per : ℕ) (rec : LogRecord) (parts : PartsView) where
+module _ (custom : Option Extension) (root : PathValue) (per : ℕ) (rec : LogRecord) (parts : PartsView) where
   -- the one at a place
 
-  pub at-none : (at : Option Placed) (w : BlockWorld) → None ≡ ref_of at → placed_after root per rec parts at w ≡ Ok w
+  pub at-none : (at : Option Placed) (w : BlockWorld) → None ≡ ref_of at → placed_after custom root per rec parts at w ≡ Ok w
   at-none None w e = refl
   at-none (Some placed) w e = cc e
 
-  pub at-some : {A : Type 0} (at : Option Placed) (block : BlockRef) (w v : BlockWorld) (r : Result A RecordFault) → Some block ≡ ref_of at → MeetsInto IsFreeFault (by_act root per rec parts block w (act_on rec parts block)) v r → MeetsInto IsFreeFault (placed_after root per rec parts at w) v r
+  pub at-some : {A : Type 0} (at : Option Placed) (block : BlockRef) (w v : BlockWorld) (r : Result A RecordFault) → Some block ≡ ref_of at → MeetsInto IsFreeFault (by_act custom root per rec parts block w (act_on custom rec parts block)) v r → MeetsInto IsFreeFault (placed_after custom root per rec parts at w) v r
   unfolding block_after
   at-some None block w v r e done = cc e
   at-some (Some placed) block w v r e done =
       let same : block ≡ placed.block = cc e in
-      subst (λ (b : BlockRef). MeetsInto IsFreeFault (by_act root per rec parts b w (act_on rec parts b)) v r) same done
+      subst (λ (b : BlockRef). MeetsInto IsFreeFault (by_act custom root per rec parts b w (act_on custom rec parts b)) v r) same done
 
   -- and then those behind it
 
-  next : (xs : List Placed) (i : ℕ) (w : BlockWorld) → each_after root per rec parts (drop i xs) w ≡ given (placed_after root per rec parts (slice_get xs i) w) (each_after root per rec parts (drop (i + 1) xs))
+  next : (xs : List Placed) (i : ℕ) (w : BlockWorld) → each_after custom root per rec parts (drop i xs) w ≡ given (placed_after custom root per rec parts (slice_get xs i) w) (each_after custom root per rec parts (drop (i + 1) xs))
   unfolding each_after
   next [] zero w = refl
-  next [] (suc i) w = sym (ap (λ ns. each_after root per rec parts ns w) (drop_all (suc i + 1) [] (omega arith)))
+  next [] (suc i) w = sym (ap (λ ns. each_after custom root per rec parts ns w) (drop_all (suc i + 1) [] (omega arith)))
   next (x ∷ xs) zero w = refl
   next (x ∷ xs) (suc i) w =
       let behind : suc (i + 1) ≡ suc i + 1 = omega arith in
-      next xs i w ∙ ap (λ n. given (placed_after root per rec parts (slice_get xs i) w) (each_after root per rec parts (drop n (x ∷ xs)))) behind
+      next xs i w ∙ ap (λ n. given (placed_after custom root per rec parts (slice_get xs i) w) (each_after custom root per rec parts (drop n (x ∷ xs)))) behind
 
-  pub each-end : (xs : List Placed) (i : ℕ) (w : BlockWorld) → length xs ≤ i → each_after root per rec parts (drop i xs) w ≡ Ok w
+  pub each-end : (xs : List Placed) (i : ℕ) (w : BlockWorld) → length xs ≤ i → each_after custom root per rec parts (drop i xs) w ≡ Ok w
   unfolding each_after
-  each-end xs i w l = ap (λ ns. each_after root per rec parts ns w) (drop_all i xs l)
+  each-end xs i w l = ap (λ ns. each_after custom root per rec parts ns w) (drop_all i xs l)
 
-  pub each-more : (xs : List Placed) (i : ℕ) (w v : BlockWorld) → placed_after root per rec parts (slice_get xs i) w ≡ Ok v → each_after root per rec parts (drop i xs) w ≡ each_after root per rec parts (drop (i + 1) xs) v
-  each-more xs i w v is = next xs i w ∙ ap (λ r. given r (each_after root per rec parts (drop (i + 1) xs))) is
+  pub each-more : (xs : List Placed) (i : ℕ) (w v : BlockWorld) → placed_after custom root per rec parts (slice_get xs i) w ≡ Ok v → each_after custom root per rec parts (drop i xs) w ≡ each_after custom root per rec parts (drop (i + 1) xs) v
+  each-more xs i w v is = next xs i w ∙ ap (λ r. given r (each_after custom root per rec parts (drop (i + 1) xs))) is
 
   -- why a reference refuses is why all do
-  pub each-refused : (xs : List Placed) (i : ℕ) (w : BlockWorld) (e : RecordFault) → (IsFreeFault e ⊎ (placed_after root per rec parts (slice_get xs i) w ≡ Err e)) → IsFreeFault e ⊎ (each_after root per rec parts (drop i xs) w ≡ Err e)
+  pub each-refused : (xs : List Placed) (i : ℕ) (w : BlockWorld) (e : RecordFault) → (IsFreeFault e ⊎ (placed_after custom root per rec parts (slice_get xs i) w ≡ Err e)) → IsFreeFault e ⊎ (each_after custom root per rec parts (drop i xs) w ≡ Err e)
   each-refused xs i w e (inl free) = inl free
-  each-refused xs i w e (inr is) = inr (next xs i w ∙ ap (λ r. given r (each_after root per rec parts (drop (i + 1) xs))) is)
+  each-refused xs i w e (inr is) = inr (next xs i w ∙ ap (λ r. given r (each_after custom root per rec parts (drop (i + 1) xs))) is)
 
 -- an answer that is handed on
 pub handed : {A B : Type 0} (meant other : Result B RecordFault) (new : B) (r : Result A RecordFault) (e : RecordFault) → meant ≡ other → ((f : RecordFault) × (r ≡ Err f) × (f ≡ e)) → (IsFreeFault e ⊎ (meant ≡ Err e)) → MeetsInto IsFreeFault other new r

@@ -24,55 +24,56 @@ use Rattle.block_replay.specs.Faults.{of_files}
 use Rattle.block_replay.specs.Pages.{image_at, image_put, older_put, page_there, redone_put}
 use Rattle.block_replay.specs.World.{BlockWorld, with_name}
 use Rattle.block_replay.specs.declared.faults.RecordFault.{RecordFault}
+use Rattle.rmgr_hooks.specs.Custom.{Extension}
 
 -- other files, and the names as they were
 abbrev pub with_files : List BlockName → Result Contents RecordFault → Result BlockWorld RecordFault
 with_files skipped files = given files (λ c. Ok (record { files = c; skipped = skipped }))
 
 -- what the record's manager makes of the page of a reference
-abbrev pub redone : LogRecord → PartsView → BlockRef → List ℕ → Redone
-redone rec parts block = stamped rec.end ((rules_of rec).operation rec parts block.id)
+abbrev pub redone : Option Extension → LogRecord → PartsView → BlockRef → List ℕ → Redone
+redone custom rec parts block = stamped rec.end ((rules_of custom rec).operation rec parts block.id)
 
 -- a change is skipped where its block has no page: the name is kept, and the fork's first file made where it isn't there
 abbrev pub change_skipped : PathValue → BlockName → BlockWorld → Result BlockWorld RecordFault
 change_skipped root name w = with_files (with_name name w.skipped) (of_files (created root name.rel name.fork w.files))
 
-abbrev pub change_at : PathValue → (per_file : ℕ) → LogRecord → PartsView → BlockRef → BlockWorld → Found → List ℕ → Result BlockWorld RecordFault
-change_at root per_file rec parts block w found.Absent page = change_skipped root block.name w
-change_at root per_file rec parts block w found.Zero page = change_skipped root block.name w
-change_at root per_file rec parts block w found.Page page = with_files w.skipped (older_put root per_file rec block.name (redone rec parts block) page w.files)
+abbrev pub change_at : Option Extension → PathValue → (per_file : ℕ) → LogRecord → PartsView → BlockRef → BlockWorld → Found → List ℕ → Result BlockWorld RecordFault
+change_at custom root per_file rec parts block w found.Absent page = change_skipped root block.name w
+change_at custom root per_file rec parts block w found.Zero page = change_skipped root block.name w
+change_at custom root per_file rec parts block w found.Page page = with_files w.skipped (older_put root per_file rec block.name (redone custom rec parts block) page w.files)
 
-abbrev pub changed : PathValue → (per_file : ℕ) → LogRecord → PartsView → BlockRef → BlockWorld → Result BlockWorld RecordFault
-changed root per_file rec parts block w =
-    given (page_there root per_file block.name w.files) (λ reading. change_at root per_file rec parts block w reading.found reading.bytes)
+abbrev pub changed : Option Extension → PathValue → (per_file : ℕ) → LogRecord → PartsView → BlockRef → BlockWorld → Result BlockWorld RecordFault
+changed custom root per_file rec parts block w =
+    given (page_there root per_file block.name w.files) (λ reading. change_at custom root per_file rec parts block w reading.found reading.bytes)
 
 -- bits are set in the map's page, which may be missing or zeros
 abbrev pub map_changed : PathValue → (per_file : ℕ) → LogRecord → PartsView → BlockName → Contents → Result Contents RecordFault
 map_changed root per_file rec parts name c =
     given (page_there root per_file name c) (λ reading. older_put root per_file rec name (stamped rec.end (visible_map rec parts)) reading.bytes c)
 
-abbrev pub by_act : PathValue → (per_file : ℕ) → LogRecord → PartsView → BlockRef → BlockWorld → Act → Result BlockWorld RecordFault
-by_act root per_file rec parts block w Nothing = Ok w
-by_act root per_file rec parts block w Gone = Ok w
-by_act root per_file rec parts block w Image = with_files w.skipped (image_put root per_file rec block.name (image_at rec parts block.id) w.files)
-by_act root per_file rec parts block w Make = with_files w.skipped (redone_put root per_file rec block.name (redone rec parts block zeros) w.files)
-by_act root per_file rec parts block w Change = changed root per_file rec parts block w
-by_act root per_file rec parts block w MapPage = with_files w.skipped (map_changed root per_file rec parts block.name w.files)
+abbrev pub by_act : Option Extension → PathValue → (per_file : ℕ) → LogRecord → PartsView → BlockRef → BlockWorld → Act → Result BlockWorld RecordFault
+by_act custom root per_file rec parts block w Nothing = Ok w
+by_act custom root per_file rec parts block w Gone = Ok w
+by_act custom root per_file rec parts block w Image = with_files w.skipped (image_put root per_file rec block.name (image_at rec parts block.id) w.files)
+by_act custom root per_file rec parts block w Make = with_files w.skipped (redone_put root per_file rec block.name (redone custom rec parts block zeros) w.files)
+by_act custom root per_file rec parts block w Change = changed custom root per_file rec parts block w
+by_act custom root per_file rec parts block w MapPage = with_files w.skipped (map_changed root per_file rec parts block.name w.files)
 
 -- what a record leaves of the block of a reference
-unfoldable pub block_after : PathValue → (per_file : ℕ) → LogRecord → PartsView → Placed → BlockWorld → Result BlockWorld RecordFault
-block_after root per_file rec parts placed w = by_act root per_file rec parts placed.block w (act_on rec parts placed.block)
+unfoldable pub block_after : Option Extension → PathValue → (per_file : ℕ) → LogRecord → PartsView → Placed → BlockWorld → Result BlockWorld RecordFault
+block_after custom root per_file rec parts placed w = by_act custom root per_file rec parts placed.block w (act_on custom rec parts placed.block)
 
 -- of each of some references, in turn
-unfoldable pub each_after : PathValue → (per_file : ℕ) → LogRecord → PartsView → List Placed → BlockWorld → Result BlockWorld RecordFault
-each_after root per_file rec parts [] w = Ok w
-each_after root per_file rec parts (placed ∷ more) w = given (block_after root per_file rec parts placed w) (each_after root per_file rec parts more)
+unfoldable pub each_after : Option Extension → PathValue → (per_file : ℕ) → LogRecord → PartsView → List Placed → BlockWorld → Result BlockWorld RecordFault
+each_after custom root per_file rec parts [] w = Ok w
+each_after custom root per_file rec parts (placed ∷ more) w = given (block_after custom root per_file rec parts placed w) (each_after custom root per_file rec parts more)
 
 -- of one, if there is one
-abbrev pub placed_after : PathValue → (per_file : ℕ) → LogRecord → PartsView → Option Placed → BlockWorld → Result BlockWorld RecordFault
-placed_after root per_file rec parts None w = Ok w
-placed_after root per_file rec parts (Some placed) w = block_after root per_file rec parts placed w
+abbrev pub placed_after : Option Extension → PathValue → (per_file : ℕ) → LogRecord → PartsView → Option Placed → BlockWorld → Result BlockWorld RecordFault
+placed_after custom root per_file rec parts None w = Ok w
+placed_after custom root per_file rec parts (Some placed) w = block_after custom root per_file rec parts placed w
 
 -- of all, in the order of their ids
-abbrev pub blocks_after : PathValue → (per_file : ℕ) → LogRecord → PartsView → BlockWorld → Result BlockWorld RecordFault
-blocks_after root per_file rec parts w = each_after root per_file rec parts parts.blocks w
+abbrev pub blocks_after : Option Extension → PathValue → (per_file : ℕ) → LogRecord → PartsView → BlockWorld → Result BlockWorld RecordFault
+blocks_after custom root per_file rec parts w = each_after custom root per_file rec parts parts.blocks w

@@ -12,12 +12,14 @@ ghost use Rattle.block_replay.specs.Faults.{IsFreeFault};
 ghost use Rattle.file_effects.specs.Own.{is_replayed};
 ghost use Rattle.block_replay.specs.Blocks.{redone};
 ghost use Rattle.block_replay.specs.Pages.{image_at, image_put, older_put, redone_put};
+ghost use Rattle.rmgr_hooks.specs.Custom.{handed_in};
 
 use crate::faults::RecordFault;
 use crate::pages::{clear, make_image, put_page, redo_page, stamp_image};
 use block_refs::{BlockRef, Parts};
 use cluster_tree::{FileFault, Tree};
 use page_layout::Page;
+use rmgr_hooks::Manager;
 use std::alloc::Global;
 use storage_replay::Files;
 use wal_records::Record;
@@ -56,7 +58,7 @@ pub(crate) fn put_image<F: Tree>(
 }
 
 /// Redoes a record on the page of a reference, and puts it in place.
-fn put_redone<F: Tree>(
+fn put_redone<F: Tree, M: Manager>(
     alloc: Global,
     tree: &mut F,
     at: &Files,
@@ -64,13 +66,15 @@ fn put_redone<F: Tree>(
     parts: &Parts,
     block: &BlockRef,
     page: &mut Page,
+    custom: Option<&M>,
 ) -> Result<(), RecordFault>
     requires fit { AreFit at.now }
     requires parts { ArePartsOf rec.now parts.now }
     requires block { block.now.name.block ≢ 0xFFFFFFFF }
     ensures exact { IsTrue F.tells → MeetsInto IsFreeFault
         (redone_put at.now.root at.now.per_file rec.now block.now.name
-        (redone rec.now parts.now block.now page.old) (F.contents tree.old))
+        (redone (handed_in M.Manager custom.entry) rec.now parts.now block.now page.old)
+        (F.contents tree.old))
         (F.contents tree.new) result }
     ensures frame { Came F.Tree tree.old tree.new }
     ensures own { IsTrue F.tells → OnOwn F.calls (is_replayed at.now.root) tree.old tree.new }
@@ -81,12 +85,12 @@ fn put_redone<F: Tree>(
     ensures changed { IsTrue F.tells → (p : PathValue) →
         result ≢ Err (RecordFault.File (FileFault.Changed p)) }
 {
-    redo_page(rec, parts, block, page)?;
+    redo_page(rec, parts, block, page, custom)?;
     put_page(alloc, tree, at, block.name, page)
 }
 
 /// Makes the page of a reference anew, from zeros.
-pub(crate) fn put_made<F: Tree>(
+pub(crate) fn put_made<F: Tree, M: Manager>(
     alloc: Global,
     tree: &mut F,
     at: &Files,
@@ -94,13 +98,15 @@ pub(crate) fn put_made<F: Tree>(
     parts: &Parts,
     block: &BlockRef,
     page: &mut Page,
+    custom: Option<&M>,
 ) -> Result<(), RecordFault>
     requires fit { AreFit at.now }
     requires parts { ArePartsOf rec.now parts.now }
     requires block { block.now.name.block ≢ 0xFFFFFFFF }
     ensures exact { IsTrue F.tells → MeetsInto IsFreeFault
         (redone_put at.now.root at.now.per_file rec.now block.now.name
-        (redone rec.now parts.now block.now zeros) (F.contents tree.old))
+        (redone (handed_in M.Manager custom.entry) rec.now parts.now block.now zeros)
+        (F.contents tree.old))
         (F.contents tree.new) result }
     ensures frame { Came F.Tree tree.old tree.new }
     ensures own { IsTrue F.tells → OnOwn F.calls (is_replayed at.now.root) tree.old tree.new }
@@ -112,11 +118,11 @@ pub(crate) fn put_made<F: Tree>(
         result ≢ Err (RecordFault.File (FileFault.Changed p)) }
 {
     clear(page);
-    put_redone(alloc, tree, at, rec, parts, block, page)
+    put_redone(alloc, tree, at, rec, parts, block, page, custom)
 }
 
 /// Redoes a record on the page of a reference, if its LSN is below the record's end.
-pub(crate) fn put_changed<F: Tree>(
+pub(crate) fn put_changed<F: Tree, M: Manager>(
     alloc: Global,
     tree: &mut F,
     at: &Files,
@@ -124,13 +130,15 @@ pub(crate) fn put_changed<F: Tree>(
     parts: &Parts,
     block: &BlockRef,
     page: &mut Page,
+    custom: Option<&M>,
 ) -> Result<(), RecordFault>
     requires fit { AreFit at.now }
     requires parts { ArePartsOf rec.now parts.now }
     requires block { block.now.name.block ≢ 0xFFFFFFFF }
     ensures exact { IsTrue F.tells → MeetsInto IsFreeFault
         (older_put at.now.root at.now.per_file rec.now block.now.name
-        (redone rec.now parts.now block.now) page.old (F.contents tree.old))
+        (redone (handed_in M.Manager custom.entry) rec.now parts.now block.now) page.old
+        (F.contents tree.old))
         (F.contents tree.new) result }
     ensures frame { Came F.Tree tree.old tree.new }
     ensures own { IsTrue F.tells → OnOwn F.calls (is_replayed at.now.root) tree.old tree.new }
@@ -144,5 +152,5 @@ pub(crate) fn put_changed<F: Tree>(
     if page.lsn() >= rec.end() {
         return Ok(());
     }
-    put_redone(alloc, tree, at, rec, parts, block, page)
+    put_redone(alloc, tree, at, rec, parts, block, page, custom)
 }

@@ -13,6 +13,7 @@ ghost use Rattle.std.specs.List.{slice_get};
 ghost use Rattle.record_effects.specs.Acts.{act_on};
 ghost use Rattle.replay_profile.specs.Names.{are_known};
 ghost use Rattle.block_replay.specs.Blocks.{blocks_after, by_act, placed_after};
+ghost use Rattle.rmgr_hooks.specs.Custom.{handed_in};
 
 use crate::acts::{put_image, put_made};
 use crate::changes::{change, set_map_bits};
@@ -22,12 +23,13 @@ use block_refs::{BlockRef, Parts};
 use cluster_tree::{FileFault, Tree};
 use page_layout::Page;
 use record_effects::{Act, act_on};
+use rmgr_hooks::Manager;
 use std::alloc::Global;
 use storage_replay::Files;
 use wal_records::Record;
 
 /// Does what a record does to the block of a reference.
-fn replay_block<F: Tree>(
+fn replay_block<F: Tree, M: Manager>(
     alloc: Global,
     tree: &mut F,
     at: &Files,
@@ -36,14 +38,16 @@ fn replay_block<F: Tree>(
     parts: &Parts,
     block: &BlockRef,
     page: &mut Page,
+    custom: Option<&M>,
 ) -> Result<(), RecordFault>
     requires fit { AreFit at.now }
     requires parts { ArePartsOf rec.now parts.now }
     requires block { block.now.name.block ≢ 0xFFFFFFFF }
     ensures exact { IsTrue F.tells → MeetsInto IsFreeFault
-        (by_act at.now.root at.now.per_file rec.now parts.now block.now
+        (by_act (handed_in M.Manager custom.entry) at.now.root at.now.per_file rec.now parts.now
+        block.now
         (record { files = F.contents tree.old; skipped = skipped.old })
-        (act_on rec.now parts.now block.now))
+        (act_on (handed_in M.Manager custom.entry) rec.now parts.now block.now))
         (record { files = F.contents tree.new; skipped = skipped.new }) result }
     ensures frame { Came F.Tree tree.old tree.new }
     ensures own { IsTrue F.tells → OnOwn F.calls (is_replayed at.now.root) tree.old tree.new }
@@ -54,17 +58,17 @@ fn replay_block<F: Tree>(
     ensures changed { IsTrue F.tells → (p : PathValue) →
         result ≢ Err (RecordFault.File (FileFault.Changed p)) }
 {
-    match act_on(rec, parts, block) {
+    match act_on(rec, parts, block, custom) {
         Act::Nothing | Act::Gone => Ok(()),
         Act::Image => put_image(alloc, tree, at, rec, parts, block, page),
-        Act::Make => put_made(alloc, tree, at, rec, parts, block, page),
-        Act::Change => change(alloc, tree, at, skipped, rec, parts, block, page),
+        Act::Make => put_made(alloc, tree, at, rec, parts, block, page, custom),
+        Act::Change => change(alloc, tree, at, skipped, rec, parts, block, page, custom),
         Act::MapPage => set_map_bits(alloc, tree, at, rec, parts, block.name, page),
     }
 }
 
 /// Does what a record does to the block of the reference at a place, if there is one.
-fn replay_at<F: Tree>(
+fn replay_at<F: Tree, M: Manager>(
     alloc: Global,
     tree: &mut F,
     at: &Files,
@@ -73,12 +77,13 @@ fn replay_at<F: Tree>(
     parts: &Parts,
     index: usize,
     page: &mut Page,
+    custom: Option<&M>,
 ) -> Result<(), RecordFault>
     requires fit { AreFit at.now }
     requires parts { ArePartsOf rec.now parts.now }
     requires known { are_known parts.now.blocks ≡ true }
     ensures exact { IsTrue F.tells → MeetsInto IsFreeFault
-        (placed_after at.now.root at.now.per_file rec.now parts.now
+        (placed_after (handed_in M.Manager custom.entry) at.now.root at.now.per_file rec.now parts.now
         (slice_get parts.now.blocks index)
         (record { files = F.contents tree.old; skipped = skipped.old }))
         (record { files = F.contents tree.new; skipped = skipped.new }) result }
@@ -92,7 +97,7 @@ fn replay_at<F: Tree>(
         result ≢ Err (RecordFault.File (FileFault.Changed p)) }
 {
     match parts.get(index) {
-        Some(block) => replay_block(alloc, tree, at, skipped, rec, parts, &block, page),
+        Some(block) => replay_block(alloc, tree, at, skipped, rec, parts, &block, page, custom),
         None => Ok(()),
     }
 }
@@ -106,7 +111,7 @@ fn replay_at<F: Tree>(
 /// Answers `RedoFailed` with the record's start, the block and why its page can't be redone, and `File`
 /// with a fault of the files, of which that of reading a page comes before its redo. After a fault
 /// `skipped` is open.
-pub fn replay_blocks<F: Tree>(
+pub fn replay_blocks<F: Tree, M: Manager>(
     alloc: Global,
     tree: &mut F,
     at: &Files,
@@ -114,12 +119,13 @@ pub fn replay_blocks<F: Tree>(
     rec: &Record,
     parts: &Parts,
     page: &mut Page,
+    custom: Option<&M>,
 ) -> Result<(), RecordFault>
     requires fit { AreFit at.now }
     requires parts { ArePartsOf rec.now parts.now }
     requires known { are_known parts.now.blocks ≡ true }
     ensures exact { IsTrue F.tells → MeetsInto IsFreeFault
-        (blocks_after at.now.root at.now.per_file rec.now parts.now
+        (blocks_after (handed_in M.Manager custom.entry) at.now.root at.now.per_file rec.now parts.now
         (record { files = F.contents tree.old; skipped = skipped.old }))
         (record { files = F.contents tree.new; skipped = skipped.new }) result }
     ensures frame { Came F.Tree tree.old tree.new }
@@ -132,7 +138,7 @@ pub fn replay_blocks<F: Tree>(
         result ≢ Err (RecordFault.File (FileFault.Changed p)) }
 {
     for index in 0..parts.count() {
-        replay_at(alloc, tree, at, skipped, rec, parts, index, page)?;
+        replay_at(alloc, tree, at, skipped, rec, parts, index, page, custom)?;
     }
     Ok(())
 }

@@ -13,6 +13,7 @@ ghost use Rattle.block_replay.specs.Faults.{IsFreeFault};
 ghost use Rattle.file_effects.specs.Own.{is_replayed};
 ghost use Rattle.block_replay.specs.Blocks.{change_at, change_skipped, changed, map_changed};
 ghost use Rattle.block_replay.specs.Pages.{older_put, redone_put};
+ghost use Rattle.rmgr_hooks.specs.Custom.{handed_in};
 
 use crate::acts::put_changed;
 use crate::faults::RecordFault;
@@ -21,6 +22,7 @@ use crate::skipped::Skipped;
 use block_refs::{BlockName, BlockRef, Parts};
 use cluster_tree::{FileFault, Tree};
 use page_layout::Page;
+use rmgr_hooks::Manager;
 use std::alloc::Global;
 use storage_replay::{Files, Found, create};
 use wal_records::Record;
@@ -145,7 +147,7 @@ fn skip<F: Tree>(
 }
 
 /// Changes a block as it was found.
-fn change_found<F: Tree>(
+fn change_found<F: Tree, M: Manager>(
     alloc: Global,
     tree: &mut F,
     at: &Files,
@@ -155,12 +157,14 @@ fn change_found<F: Tree>(
     block: &BlockRef,
     found: Found,
     page: &mut Page,
+    custom: Option<&M>,
 ) -> Result<(), RecordFault>
     requires fit { AreFit at.now }
     requires parts { ArePartsOf rec.now parts.now }
     requires block { block.now.name.block ≢ 0xFFFFFFFF }
     ensures exact { IsTrue F.tells → MeetsInto IsFreeFault
-        (change_at at.now.root at.now.per_file rec.now parts.now block.now
+        (change_at (handed_in M.Manager custom.entry) at.now.root at.now.per_file rec.now parts.now
+        block.now
         (record { files = F.contents tree.old; skipped = skipped.old })
         found page.old)
         (record { files = F.contents tree.new; skipped = skipped.new }) result }
@@ -174,13 +178,13 @@ fn change_found<F: Tree>(
         result ≢ Err (RecordFault.File (FileFault.Changed p)) }
 {
     match found {
-        Found::Page => put_changed(alloc, tree, at, rec, parts, block, page),
+        Found::Page => put_changed(alloc, tree, at, rec, parts, block, page, custom),
         Found::Absent | Found::Zero => skip(alloc, tree, at, skipped, block.name),
     }
 }
 
 /// Changes the block of a reference.
-pub(crate) fn change<F: Tree>(
+pub(crate) fn change<F: Tree, M: Manager>(
     alloc: Global,
     tree: &mut F,
     at: &Files,
@@ -189,12 +193,14 @@ pub(crate) fn change<F: Tree>(
     parts: &Parts,
     block: &BlockRef,
     page: &mut Page,
+    custom: Option<&M>,
 ) -> Result<(), RecordFault>
     requires fit { AreFit at.now }
     requires parts { ArePartsOf rec.now parts.now }
     requires block { block.now.name.block ≢ 0xFFFFFFFF }
     ensures exact { IsTrue F.tells → MeetsInto IsFreeFault
-        (changed at.now.root at.now.per_file rec.now parts.now block.now
+        (changed (handed_in M.Manager custom.entry) at.now.root at.now.per_file rec.now parts.now
+        block.now
         (record { files = F.contents tree.old; skipped = skipped.old }))
         (record { files = F.contents tree.new; skipped = skipped.new }) result }
     ensures frame { Came F.Tree tree.old tree.new }
@@ -207,5 +213,7 @@ pub(crate) fn change<F: Tree>(
         result ≢ Err (RecordFault.File (FileFault.Changed p)) }
 {
     let found = read_page(alloc, tree, at, block.name, page)?;
-    change_found(alloc, tree, at, skipped, rec, parts, block, found, page)
+    change_found(
+        alloc, tree, at, skipped, rec, parts, block, found, page, custom,
+    )
 }

@@ -15,12 +15,14 @@ ghost use Rattle.block_replay.specs.Blocks.{redone};
 ghost use Rattle.block_replay.specs.Faults.{IsFreeFault, Leaves, of_redo};
 ghost use Rattle.file_effects.specs.Own.{is_replayed};
 ghost use Rattle.block_replay.specs.Pages.{image_at, image_left, page_put};
+ghost use Rattle.rmgr_hooks.specs.Custom.{handed_in};
 
 use crate::faults::RecordFault;
 use block_refs::{BlockName, BlockRef, Parts, image_page};
 use cluster_tree::{FileFault, Tree};
 use page_layout::Page;
 use record_effects::redo;
+use rmgr_hooks::Manager;
 use std::alloc::Global;
 use storage_pages::redo_map;
 use storage_replay::{Files, Found, read_block, write_block};
@@ -116,17 +118,19 @@ pub(crate) fn stamp_image(rec: &Record, page: &mut Page)
 }
 
 /// Redoes a record on the page of a reference.
-pub(crate) fn redo_page(
+pub(crate) fn redo_page<M: Manager>(
     rec: &Record,
     parts: &Parts,
     block: &BlockRef,
     page: &mut Page,
+    custom: Option<&M>,
 ) -> Result<(), RecordFault>
     requires parts { ArePartsOf rec.now parts.now }
-    ensures exact { Leaves (of_redo rec.now block.now.name (redone rec.now parts.now block.now
+    ensures exact { Leaves (of_redo rec.now block.now.name
+        (redone (handed_in M.Manager custom.entry) rec.now parts.now block.now
         page.old)) page.new result }
 {
-    match redo(rec, parts, block.id, page) {
+    match redo(rec, parts, block.id, page, custom) {
         Ok(()) => Ok(()),
         Err(why) => Err(RecordFault::RedoFailed(rec.start(), block.name, why)),
     }

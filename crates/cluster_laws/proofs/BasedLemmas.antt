@@ -1,5 +1,6 @@
 -- One cluster before a log, of which each block fits the base or is changed by no record: none is refused, and no change is skipped.
 use Rattle.std.proofs.Common.{◌≡◌, ℕ, false, List, [], Option, Ok, Err, refl, ap, sym, ◌∙◌, inl, inr, true≢false}
+use Rattle.rmgr_hooks.specs.Custom.{Extension, IsSound}
 use Rattle.alike_clusters.specs.Clusters.{AlikeClusters, is_alike}
 use Rattle.alike_clusters.proofs.NameLemmas.{file-lies, file_parts}
 use Rattle.block_refs.specs.declared.names.BlockName.{BlockName}
@@ -26,26 +27,26 @@ use Rattle.wal_records.specs.Reading.{LogRecord}
 use Rattle.cluster_laws.specs.Converging.{IsBased}
 use Rattle.cluster_laws.proofs.SkippedLemmas.{log-main, none-skipped}
 
-module _ (base : BlockName → Option (List ℕ)) (start redo : ℕ) (records : List LogRecord) (root : PathValue) (per : ℕ) (w : World) (taken : AreTaken start records) (based : IsBased base redo records root per w) where
-  fit : (name : BlockName) → IsMainBlock name → IsFit root per redo name (base name) records w
+module _ (custom : Option Extension) (sound : IsSound custom) (base : BlockName → Option (List ℕ)) (start redo : ℕ) (records : List LogRecord) (root : PathValue) (per : ℕ) (w : World) (taken : AreTaken custom start records) (based : IsBased custom base redo records root per w) where
+  fit : (name : BlockName) → IsMainBlock name → IsFit custom root per redo name (base name) records w
   fit name main = by_test (has_init w.files root name.rel)
       (λ so. inr (based.unchanged name main so))
       (λ logged. inl (based.life name main logged, based.fits name main logged))
 
-  pub based-goes : (SomeLacksLayout records → ⊥) → (at : Lsn) (name : BlockName) (why : RedoWhy) → records_after root per records w ≡ Err (RedoFailed at name why) → ⊥
-  based-goes enough at name why is = not-refused_at root per start redo base records at name why w taken enough based.begins fit is
+  pub based-goes : (SomeLacksLayout records → ⊥) → (at : Lsn) (name : BlockName) (why : RedoWhy) → records_after custom root per records w ≡ Err (RedoFailed at name why) → ⊥
+  based-goes enough at name why is = not-refused_at custom sound root per start redo base records at name why w taken enough based.begins fit is
 
-  no_skip : (v : World) → records_after root per records w ≡ Ok v → (name : BlockName) → IsMainBlock name → is_among name v.skipped ≡ false
+  no_skip : (v : World) → records_after custom root per records w ≡ Ok v → (name : BlockName) → IsMainBlock name → is_among name v.skipped ≡ false
   no_skip v is name main = by_test (has_init w.files root name.rel)
-      (λ so. ap (λ (h : Held). h.skipped) (unchanged-ends name start records root per w v main taken (based.unchanged name main so) based.begins is))
+      (λ so. ap (λ (h : Held). h.skipped) (unchanged-ends custom sound name start records root per w v main taken (based.unchanged name main so) based.begins is))
       (λ logged.
-      (blocks-converge name start redo (base name) records root root per per w v w v main taken (based.life name main logged)
+      (blocks-converge custom sound name start redo (base name) records root root per per w v w v main taken (based.life name main logged)
       based.begins (based.fits name main logged) based.begins (based.fits name main logged) is is).0)
 
-  pub none-left : (v : World) → records_after root per records w ≡ Ok v → v.skipped ≡ []
+  pub none-left : (v : World) → records_after custom root per records w ≡ Ok v → v.skipped ≡ []
   none-left v is =
       none-skipped v.skipped
-      (log-main root per start records w v taken (λ name among. absurd (true≢false (sym among ∙ ap (is_among name) based.begins.none))) is)
+      (log-main custom root per start records w v taken (λ name among. absurd (true≢false (sym among ∙ ap (is_among name) based.begins.none))) is)
       (no_skip v is)
 
 -- in alike clusters the same relations have an init fork

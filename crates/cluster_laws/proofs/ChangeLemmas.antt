@@ -1,5 +1,6 @@
 -- What a record does at a reference of it, over alike clusters.
 use Rattle.std.proofs.Common.{◌≡◌, ℕ, ◌*◌, ◌/◌, ◌%◌, ◌<◌, ◌==◌, Bool, true, false, ◌&&◌, nat_lt, List, ◌++◌, length, drop, replicate, Option, None, Some, Result, Ok, Err, is_some, refl, sym, ap, subst, ◌∙◌, true≢false, arith}
+use Rattle.rmgr_hooks.specs.Custom.{Extension}
 use Rattle.std.specs.Prelude.{IsTrue, if◌then◌else◌}
 use Rattle.std.proofs.lemmas.List.{length-append, length-replicate, length-take}
 use Rattle.alike_clusters.specs.Clusters.{AlikeClusters, is_alike}
@@ -70,10 +71,10 @@ filled_size : (at : ℕ) (bytes : List ℕ) → length (filled_from at 8192 byte
 filled_size at bytes =
     omega (arith, length-take 8192 (drop at bytes ++ replicate 8192 0), length-append (drop at bytes) (replicate 8192 0), length-replicate {A = ℕ} 8192 0)
 
-module _ (root : PathValue) (per : ℕ) (some : 0 < per) (rec : LogRecord) (parts : PartsView) (block : BlockRef) (small : IsBlock block.name) (w : BlockWorld)
+module _ (custom : Option Extension) (root : PathValue) (per : ℕ) (some : 0 < per) (rec : LogRecord) (parts : PartsView) (block : BlockRef) (small : IsBlock block.name) (w : BlockWorld)
     (own : IsOwn per root w.files) (gapless : HasNoGap root per block.name.rel block.name.fork w.files) (there : is_some (block_in root per block.name w.files) ≡ true)
     (main : is_some (relation_of (path_of false (file_parts block.name.rel block.name.fork (block.name.block / per)))) ≡ true)
-    (changes : IsEffect (view block.name.block) rec.end (Change (redone rec parts block))) where
+    (changes : IsEffect (view block.name.block) rec.end (Change (redone custom rec parts block))) where
   abbrev Sized : Result BlockWorld RecordFault → Type 0
   Sized r = IsSized per root w.files r
 
@@ -82,21 +83,21 @@ module _ (root : PathValue) (per : ℕ) (some : 0 < per) (rec : LogRecord) (part
       subst (λ (r : Result Contents FileFault). Sized (with_files (with_name block.name w.skipped) (of_files r)))
       (sym (created-there root per some block.name small w.files gapless there)) (kept-same per root w.files own)
 
-  sized_redone : (bytes : List ℕ) (r : Redone) → IsTrue (is_page bytes) → redone rec parts block bytes ≡ r → Sized (with_files w.skipped (redone_put root per rec block.name r w.files))
+  sized_redone : (bytes : List ℕ) (r : Redone) → IsTrue (is_page bytes) → redone custom rec parts block bytes ≡ r → Sized (with_files w.skipped (redone_put root per rec block.name r w.files))
   sized_redone bytes (Err why) page is = tt
   sized_redone bytes (Ok new) page is =
       subst (λ (r : Result Contents FileFault). Sized (with_files w.skipped (of_files r)))
       (sym (put-there root per some block.name small w.files gapless there new))
       (kept-put root per some block.name small w.files gapless there own new (page_size new (changes.page bytes new page is)) main)
 
-  sized_older : (bytes : List ℕ) → IsTrue (is_page bytes) → Sized (with_files w.skipped (older_put root per rec block.name (redone rec parts block) bytes w.files))
+  sized_older : (bytes : List ℕ) → IsTrue (is_page bytes) → Sized (with_files w.skipped (older_put root per rec block.name (redone custom rec parts block) bytes w.files))
   sized_older bytes page =
-      elim (nat_lt (lsn bytes) rec.end) as (λ t. Sized (with_files w.skipped (if t then redone_put root per rec block.name (redone rec parts block bytes) w.files else Ok w.files))) [
-        | true ↦ sized_redone bytes (redone rec parts block bytes) page refl
+      elim (nat_lt (lsn bytes) rec.end) as (λ t. Sized (with_files w.skipped (if t then redone_put root per rec block.name (redone custom rec parts block bytes) w.files else Ok w.files))) [
+        | true ↦ sized_redone bytes (redone custom rec parts block bytes) page refl
         | false ↦ kept-same per root w.files own
       ]
 
-  sized_at : (bytes : List ℕ) (z : Bool) → length bytes ≡ 8192 → is_zero bytes ≡ z → Sized (change_at root per rec parts block w (if z then found.Zero else found.Page) bytes)
+  sized_at : (bytes : List ℕ) (z : Bool) → length bytes ≡ 8192 → is_zero bytes ≡ z → Sized (change_at custom root per rec parts block w (if z then found.Zero else found.Page) bytes)
   sized_at bytes true size is = sized_skipped
   sized_at bytes false size is = sized_older bytes (page-is bytes size is)
 
@@ -109,17 +110,17 @@ module _ (root : PathValue) (per : ℕ) (some : 0 < per) (rec : LogRecord) (part
   read_ok : block_from_file root per block.name w.files ≡ Ok (record { found = found_in bytes_read; bytes = bytes_read })
   read_ok = ap (λ o. page_read (read_of (block.name.block % per * 8192) 8192 (bytes_at w.files path) (file_asked path o))) (own-entry root per some block.name small w.files gapless there)
 
-  pub changed-sized : has_block root per block.name.rel block.name.fork block.name.block w.files ≡ Ok true → Sized (changed root per rec parts block w)
+  pub changed-sized : has_block root per block.name.rel block.name.fork block.name.block w.files ≡ Ok true → Sized (changed custom root per rec parts block w)
   unfolding block_read
   changed-sized has =
       let read : block_read root per block.name w.files zeros ≡ Ok (record { found = found_in bytes_read; bytes = bytes_read }) =
       ap (λ r. given r (λ there. if there then block_from_file root per block.name w.files else Ok (record { found = found.Absent; bytes = zeros }))) has ∙ read_ok in
-      subst (λ (r : Result Reading FileFault). Sized (given (of_files r) (λ reading. change_at root per rec parts block w reading.found reading.bytes))) (sym read)
+      subst (λ (r : Result Reading FileFault). Sized (given (of_files r) (λ reading. change_at custom root per rec parts block w reading.found reading.bytes))) (sym read)
       (sized_at bytes_read (is_zero bytes_read) (filled_size (block.name.block % per * 8192) (bytes_at w.files path)) refl)
 
 -- ---- over both
 
-module _ (root other : PathValue) (per : ℕ) (some : 0 < per) (rec : LogRecord) (parts : PartsView) (of_rec : ArePartsOf rec parts) (ends : 0 < rec.end) (block : BlockRef) (small : IsBlock block.name) where
+module _ (custom : Option Extension) (root other : PathValue) (per : ℕ) (some : 0 < per) (rec : LogRecord) (parts : PartsView) (of_rec : ArePartsOf rec parts) (ends : 0 < rec.end) (block : BlockRef) (small : IsBlock block.name) where
   abbrev pub BothBlocks : BlockWorld → BlockWorld → Type 0
   BothBlocks w x = AlikeClusters per w.files root x.files other
 
@@ -213,26 +214,26 @@ module _ (root other : PathValue) (per : ℕ) (some : 0 < per) (rec : LogRecord)
       let size : length reading.bytes ≡ 8192 = ap (λ (r : Reading). length r.bytes) (read_is c gapless reading made) ∙ read_size c gapless (block_in root per p c) refl in
       older_agree (stamped rec.end (visible_map rec parts)) reading.bytes (λ new made_new. stamped-map_size rec parts reading.bytes new ends size made_new) c d both)
 
-  module _ (w x : BlockWorld) (gapless : HasNoGap root per p.rel p.fork w.files) (changes : IsEffect (view p.block) rec.end (Change (redone rec parts block))) (both : BothBlocks w x) where
+  module _ (w x : BlockWorld) (gapless : HasNoGap root per p.rel p.fork w.files) (changes : IsEffect (view p.block) rec.end (Change (redone custom rec parts block))) (both : BothBlocks w x) where
     page_agree : (bytes : List ℕ) (z : Bool) → length bytes ≡ 8192 → is_zero bytes ≡ z
-        → AgreeOn BothBlocks root other (change_at root per rec parts block w (if z then found.Zero else found.Page) bytes) (change_at other per rec parts block x (if z then found.Zero else found.Page) bytes)
+        → AgreeOn BothBlocks root other (change_at custom root per rec parts block w (if z then found.Zero else found.Page) bytes) (change_at custom other per rec parts block x (if z then found.Zero else found.Page) bytes)
     page_agree bytes true size is = skipped_agree w x both
     page_agree bytes false size is =
-        with_agree w.skipped x.skipped (older_put root per rec p (redone rec parts block) bytes w.files) (older_put other per rec p (redone rec parts block) bytes x.files)
-        (older_agree (redone rec parts block) bytes (λ new made. page_size new (changes.page bytes new (page-is bytes size is) made)) w.files x.files both)
+        with_agree w.skipped x.skipped (older_put root per rec p (redone custom rec parts block) bytes w.files) (older_put other per rec p (redone custom rec parts block) bytes x.files)
+        (older_agree (redone custom rec parts block) bytes (λ new made. page_size new (changes.page bytes new (page-is bytes size is) made)) w.files x.files both)
 
     state_agree : (state : Option (List ℕ)) → block_in root per p w.files ≡ state
-        → AgreeOn BothBlocks root other (change_at root per rec parts block w (reading_of zeros state).found (reading_of zeros state).bytes) (change_at other per rec parts block x (reading_of zeros state).found (reading_of zeros state).bytes)
+        → AgreeOn BothBlocks root other (change_at custom root per rec parts block w (reading_of zeros state).found (reading_of zeros state).bytes) (change_at custom other per rec parts block x (reading_of zeros state).found (reading_of zeros state).bytes)
     state_agree None there = skipped_agree w x both
     state_agree (Some bytes) there = page_agree bytes (is_zero bytes) (state-size root per p w.files bytes there) refl
 
-    same_agree : HasSame → AgreeOn BothBlocks root other (changed root per rec parts block w) (changed other per rec parts block x)
+    same_agree : HasSame → AgreeOn BothBlocks root other (changed custom root per rec parts block w) (changed custom other per rec parts block x)
     same_agree same =
         told-agree_is per root other BothBlocks (block_read root per p w.files zeros) (block_read other per p x.files zeros)
-        (λ reading. change_at root per rec parts block w reading.found reading.bytes) (λ reading. change_at other per rec parts block x reading.found reading.bytes)
+        (λ reading. change_at custom root per rec parts block w reading.found reading.bytes) (λ reading. change_at custom other per rec parts block x reading.found reading.bytes)
         (reading_same w.files x.files same both)
         (λ reading made.
-        subst (λ (r : Reading). AgreeOn BothBlocks root other (change_at root per rec parts block w r.found r.bytes) (change_at other per rec parts block x r.found r.bytes))
+        subst (λ (r : Reading). AgreeOn BothBlocks root other (change_at custom root per rec parts block w r.found r.bytes) (change_at custom other per rec parts block x r.found r.bytes))
         (sym (read_is w.files gapless reading made)) (state_agree (block_in root per p w.files) refl))
 
   -- ---- where it is one of a main fork: the block is there in both, or in neither
@@ -240,39 +241,39 @@ module _ (root other : PathValue) (per : ℕ) (some : 0 < per) (rec : LogRecord)
   abbrev with_has : (at : PathValue) → BlockWorld → Result Bool FileFault → Result BlockWorld RecordFault
   with_has at w r =
       given (of_files (given r (λ there. if there then block_from_file at per p w.files else Ok (record { found = found.Absent; bytes = zeros }))))
-      (λ reading. change_at at per rec parts block w reading.found reading.bytes)
+      (λ reading. change_at custom at per rec parts block w reading.found reading.bytes)
 
-  by_has : (at : PathValue) (w : BlockWorld) (r : Result Bool FileFault) → has_block at per p.rel p.fork p.block w.files ≡ r → changed at per rec parts block w ≡ with_has at w r
+  by_has : (at : PathValue) (w : BlockWorld) (r : Result Bool FileFault) → has_block at per p.rel p.fork p.block w.files ≡ r → changed custom at per rec parts block w ≡ with_has at w r
   unfolding block_read
   by_has at w r is = ap (with_has at w) is
 
   module _ (w x : BlockWorld) (gapless : HasNoGap root per p.rel p.fork w.files) (other_gapless : HasNoGap other per p.rel p.fork x.files)
-      (changes : IsEffect (view p.block) rec.end (Change (redone rec parts block))) (both : BothBlocks w x) where
+      (changes : IsEffect (view p.block) rec.end (Change (redone custom rec parts block))) (both : BothBlocks w x) where
     main_agree : is_some (relation_of (path_of false (file_parts p.rel p.fork segment))) ≡ true → (r s : Result Bool FileFault)
         → has_block root per p.rel p.fork p.block w.files ≡ r → has_block other per p.rel p.fork p.block x.files ≡ s → SameAnswers root other r s
-        → AgreeOn BothBlocks root other (changed root per rec parts block w) (changed other per rec parts block x)
+        → AgreeOn BothBlocks root other (changed custom root per rec parts block w) (changed custom other per rec parts block x)
     main_agree main (Ok true) (Ok true) is so same =
-        sized_agree w x (changed root per rec parts block w) (changed other per rec parts block x) both
-        (changed-sized root per some rec parts block small w (own-first per w.files x.files root other both) gapless (has-block root per p.rel p.fork w.files some p.block is) main changes is)
-        (changed-sized other per some rec parts block small x (own-second per w.files x.files root other both) other_gapless (has-block other per p.rel p.fork x.files some p.block so) main changes so)
+        sized_agree w x (changed custom root per rec parts block w) (changed custom other per rec parts block x) both
+        (changed-sized custom root per some rec parts block small w (own-first per w.files x.files root other both) gapless (has-block root per p.rel p.fork w.files some p.block is) main changes is)
+        (changed-sized custom other per some rec parts block small x (own-second per w.files x.files root other both) other_gapless (has-block other per p.rel p.fork x.files some p.block so) main changes so)
     main_agree main (Ok false) (Ok false) is so same =
-        subst (λ r. AgreeOn BothBlocks root other r (changed other per rec parts block x)) (sym (by_has root w (Ok false) is))
+        subst (λ r. AgreeOn BothBlocks root other r (changed custom other per rec parts block x)) (sym (by_has root w (Ok false) is))
         (subst (λ s. AgreeOn BothBlocks root other (change_skipped root p w) s) (sym (by_has other x (Ok false) so)) (skipped_agree w x both))
     main_agree main (Ok true) (Ok false) is so same = absurd (true≢false same)
     main_agree main (Ok false) (Ok true) is so same = absurd (true≢false (sym same))
     main_agree main (Ok a) (Err f) is so same = absurd same
     main_agree main (Err e) (Ok b) is so same = absurd same
     main_agree main (Err e) (Err f) is so same =
-        subst (λ r. AgreeOn BothBlocks root other r (changed other per rec parts block x)) (sym (by_has root w (Err e) is))
+        subst (λ r. AgreeOn BothBlocks root other r (changed custom other per rec parts block x)) (sym (by_has root w (Err e) is))
         (subst (λ s. AgreeOn BothBlocks root other (Err (File e)) s) (sym (by_has other x (Err f) so)) same)
 
-    by_relation : (at : Option (RelName × ℕ)) → relation_of (path_of false (file_parts p.rel p.fork segment)) ≡ at → AgreeOn BothBlocks root other (changed root per rec parts block w) (changed other per rec parts block x)
+    by_relation : (at : Option (RelName × ℕ)) → relation_of (path_of false (file_parts p.rel p.fork segment)) ≡ at → AgreeOn BothBlocks root other (changed custom root per rec parts block w) (changed custom other per rec parts block x)
     by_relation None is = same_agree w x gapless changes both (same-bytes per (file_parts p.rel p.fork segment) (file-no_version p.rel p.fork segment) is)
     by_relation (Some at) is =
         main_agree (ap is_some is) (has_block root per p.rel p.fork p.block w.files) (has_block other per p.rel p.fork p.block x.files) refl refl
         (has-same per root other p.rel p.fork p.block w.files x.files both)
 
-    changed_agree : AgreeOn BothBlocks root other (changed root per rec parts block w) (changed other per rec parts block x)
+    changed_agree : AgreeOn BothBlocks root other (changed custom root per rec parts block w) (changed custom other per rec parts block x)
     changed_agree = by_relation (relation_of (path_of false (file_parts p.rel p.fork segment))) refl
 
   -- ---- whatever is done
@@ -297,16 +298,16 @@ module _ (root other : PathValue) (per : ℕ) (some : 0 < per) (rec : LogRecord)
   map_fork Visibility h = refl
   map_fork Init h = absurd (true≢false (sym h))
 
-  map_same : act_on rec parts block ≡ act.MapPage → HasSame
+  map_same : act_on custom rec parts block ≡ act.MapPage → HasSame
   map_same chosen =
-      let is : is_map_page rec block ≡ true = map_chosen (is_gone rec parts p) (is_left p.fork) (is_some (applied block.image)) (is_main p.fork && (rules_of rec).acts rec parts block.id) ((rules_of rec).fresh rec parts block.id) (is_map_page rec block) chosen in
+      let is : is_map_page rec block ≡ true = map_chosen (is_gone rec parts p) (is_left p.fork) (is_some (applied block.image)) (is_main p.fork && (rules_of custom rec).acts rec parts block.id) ((rules_of custom rec).fresh rec parts block.id) (is_map_page rec block) chosen in
       let fork : p.fork ≡ Visibility = map_fork p.fork (second (sets_map_bits (done_by rec) && block.id == 0) (is_map p.fork) is) in
       same-bytes per (file_parts p.rel p.fork segment) (file-no_version p.rel p.fork segment)
       (subst (λ f. relation_of (path_of false (file_parts p.rel f segment)) ≡ None) (sym fork) (map-not_main p.rel segment))
 
   pub act-agree : (a : Act) (w x : BlockWorld) → HasNoGap root per p.rel p.fork w.files → HasNoGap other per p.rel p.fork x.files
-      → act_on rec parts block ≡ a → IsDone rec parts block.id a (effect_on rec parts p) → IsEffect (view p.block) rec.end (effect_on rec parts p) → BothBlocks w x
-      → AgreeOn BothBlocks root other (by_act root per rec parts block w a) (by_act other per rec parts block x a)
+      → act_on custom rec parts block ≡ a → IsDone custom rec parts block.id a (effect_on custom rec parts p) → IsEffect (view p.block) rec.end (effect_on custom rec parts p) → BothBlocks w x
+      → AgreeOn BothBlocks root other (by_act custom root per rec parts block w a) (by_act custom other per rec parts block x a)
   act-agree act.Nothing w x gapless other_gapless is done meets both = both
   act-agree act.Gone w x gapless other_gapless is done meets both = both
   act-agree act.Image w x gapless other_gapless is done meets both =
@@ -314,8 +315,8 @@ module _ (root other : PathValue) (per : ℕ) (some : 0 < per) (rec : LogRecord)
       with_agree w.skipped x.skipped (image_put root per rec p (image_at rec parts block.id) w.files) (image_put other per rec p (image_at rec parts block.id) x.files)
       (image_agree (image_at rec parts block.id) done.0 done.1 size w.files x.files both)
   act-agree act.Make w x gapless other_gapless is done meets both =
-      with_agree w.skipped x.skipped (redone_put root per rec p (redone rec parts block zeros) w.files) (redone_put other per rec p (redone rec parts block zeros) x.files)
-      (redone_agree (redone rec parts block zeros) (λ page made. page_size page (subst (λ r. IsEffect (view p.block) rec.end (effect.Init r)) made (subst (IsEffect (view p.block) rec.end) done meets)).page) w.files x.files both)
+      with_agree w.skipped x.skipped (redone_put root per rec p (redone custom rec parts block zeros) w.files) (redone_put other per rec p (redone custom rec parts block zeros) x.files)
+      (redone_agree (redone custom rec parts block zeros) (λ page made. page_size page (subst (λ r. IsEffect (view p.block) rec.end (effect.Init r)) made (subst (IsEffect (view p.block) rec.end) done meets)).page) w.files x.files both)
   act-agree act.Change w x gapless other_gapless is done meets both = changed_agree w x gapless other_gapless (subst (IsEffect (view p.block) rec.end) done meets) both
   act-agree act.MapPage w x gapless other_gapless is done meets both =
       with_agree w.skipped x.skipped (map_changed root per rec parts p w.files) (map_changed other per rec parts p x.files) (map_agree w.files x.files gapless (map_same is) both)

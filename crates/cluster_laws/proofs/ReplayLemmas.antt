@@ -1,5 +1,6 @@
 -- Two alike clusters that are replayed.
 use Rattle.std.proofs.Common.{◌≡◌, ℕ, false, List, [], ◌∷◌, length, Option, None, Result, Ok, Err, refl, sym, ap, subst, ◌∙◌}
+use Rattle.rmgr_hooks.specs.Custom.{Extension, IsSound}
 use Rattle.alike_clusters.specs.Clusters.{AlikeClusters}
 use Rattle.block_refs.specs.declared.names.BlockName.{BlockName}
 use Rattle.block_replay.specs.declared.faults.RecordFault.{RecordFault}
@@ -75,43 +76,43 @@ same_start s t a b e =
     ∙ ap (λ x. record { control = s.control; label = x; log = t.log; records = t.records }) b
     ∙ ap (λ x. record { control = s.control; label = s.label; log = t.log; records = x }) e
 
-module _ (base : BlockName → Option (List ℕ)) (redo : ℕ) (c d : Contents) (root other : PathValue) (s : Start) (after : After)
-    (both : AlikeClusters s.control.relseg c root d other) (holds : HoldsBytes c root) (passes : start_of c root ≡ Ok s) (enough : ¬ (SomeLacksLayout s.records))
-    (one : IsBased base redo s.records root s.control.relseg (first_world c root s)) (two : IsBased base redo s.records other s.control.relseg (first_world d other s))
-    (ends : after_replay c root ≡ Ok after) where
+module _ (custom : Option Extension) (sound : IsSound custom) (base : BlockName → Option (List ℕ)) (redo : ℕ) (c d : Contents) (root other : PathValue) (s : Start) (after : After)
+    (both : AlikeClusters s.control.relseg c root d other) (holds : HoldsBytes c root) (passes : start_of custom c root ≡ Ok s) (enough : ¬ (SomeLacksLayout s.records))
+    (one : IsBased custom base redo s.records root s.control.relseg (first_world c root s)) (two : IsBased custom base redo s.records other s.control.relseg (first_world d other s))
+    (ends : after_replay custom c root ≡ Ok after) where
   abbrev per : ℕ
   per = s.control.relseg
 
-  taken : AreTaken s.label.start.0 s.records
-  taken = start-taken c root s holds passes
+  taken : AreTaken custom s.label.start.0 s.records
+  taken = start-taken custom c root s holds passes
 
-  run : replayed_into root s (first_world c root s) ≡ Ok after
+  run : replayed_into custom root s (first_world c root s) ≡ Ok after
   unfolding after_replay
-  run = sym (ap (λ r. given r (λ t. replayed_into root t (first_world c root t))) passes) ∙ ends
+  run = sym (ap (λ r. given r (λ t. replayed_into custom root t (first_world c root t))) passes) ∙ ends
 
   alike : AlikeWorlds root other per (first_world c root s) (first_world d other s)
   alike = record { files = begun-both per root other c d both; whole = one.begins.whole; other_whole = two.begins.whole; control = refl }
 
   record Ended : Type 0 where
     world : World
-    is : records_after root per s.records (first_world c root s) ≡ Ok world
+    is : records_after custom root per s.records (first_world c root s) ≡ Ok world
     none : missing_page world.skipped ≡ None
     after_is : closed root (timeline_of s.control) (length s.records) (end_of s) world ≡ after
 
   ended_one : Ended
   ended_one =
-      let got = given-ok (recorded (records_after root per s.records (first_world c root s))) (closed_or root (timeline_of s.control) (length s.records) (end_of s)) after run in
+      let got = given-ok (recorded (records_after custom root per s.records (first_world c root s))) (closed_or root (timeline_of s.control) (length s.records) (end_of s)) after run in
       let last = not-refused (missing_page got.0.skipped) (OkAfter (closed root (timeline_of s.control) (length s.records) (end_of s) got.0)) after got.2 in
-      record { world = got.0; is = recorded_ok (records_after root per s.records (first_world c root s)) got.0 got.1; none = last.0; after_is = one_after (closed root (timeline_of s.control) (length s.records) (end_of s) got.0) after last.1 }
+      record { world = got.0; is = recorded_ok (records_after custom root per s.records (first_world c root s)) got.0 got.1; none = last.0; after_is = one_after (closed root (timeline_of s.control) (length s.records) (end_of s) got.0) after last.1 }
 
   abbrev v : World
   v = ended_one.world
 
-  ended_two : Other root other per v (records_after other per s.records (first_world d other s))
+  ended_two : Other root other per v (records_after custom other per s.records (first_world d other s))
   ended_two =
-      other_end root other per v (records_after other per s.records (first_world d other s))
-      (subst (λ r. EndAlike root other per r (records_after other per s.records (first_world d other s))) ended_one.is
-      (converge base s.label.start.0 redo s.records root other per (first_world c root s) (first_world d other s) taken enough alike one two))
+      other_end root other per v (records_after custom other per s.records (first_world d other s))
+      (subst (λ r. EndAlike root other per r (records_after custom other per s.records (first_world d other s))) ended_one.is
+      (converge custom sound base s.label.start.0 redo s.records root other per (first_world c root s) (first_world d other s) taken enough alike one two))
 
   abbrev y : World
   y = ended_two.world
@@ -139,22 +140,22 @@ module _ (base : BlockName → Option (List ℕ)) (redo : ℕ) (c d : Contents) 
   after_files : all_changed v.files (closing root left) ≡ after.files
   after_files = ap (λ (a : After). a.files) ended_one.after_is
 
-  there : StartsAs d other s
-  there = starts-as per root other c d both s passes
+  there : StartsAs custom d other s
+  there = starts-as custom per root other c d both s passes
 
-  other_run : replayed_into other (said s there.start.log) (first_world d other s) ≡ Ok other_after
+  other_run : replayed_into custom other (said s there.start.log) (first_world d other s) ≡ Ok other_after
   other_run =
       ap (λ r. given (recorded r) (closed_or other (timeline_of s.control) (length s.records) (end_of s))) ended_two.is
       ∙ ap (λ o. unless o (OkAfter (closed other (timeline_of s.control) (length s.records) (end_of s) y))) (no_missing y.skipped ended_two.converged.other_none)
 
-  other_ends : after_replay d other ≡ Ok other_after
+  other_ends : after_replay custom d other ≡ Ok other_after
   unfolding after_replay
   other_ends =
-      ap (λ r. given r (λ t. replayed_into other t (first_world d other t))) there.passes
-      ∙ ap (λ (t : Start). replayed_into other t (first_world d other t)) (same_start s there.start there.control there.label there.records)
+      ap (λ r. given r (λ t. replayed_into custom other t (first_world d other t))) there.passes
+      ∙ ap (λ (t : Start). replayed_into custom other t (first_world d other t)) (same_start s there.start there.control there.label there.records)
       ∙ other_run
 
-  pub ends-as : EndsAs per after.files root d other
+  pub ends-as : EndsAs custom per after.files root d other
   ends-as = record {
     after = other_after;
     ends = other_ends;

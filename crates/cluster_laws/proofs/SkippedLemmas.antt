@@ -1,5 +1,6 @@
 -- A change is skipped at blocks of main forks alone.
-use Rattle.std.proofs.Common.{◌≡◌, ◌⊎◌, ℕ, Bool, true, false, not, ◌&&◌, ◌||◌, List, [], ◌∷◌, Result, Ok, is_some, inl, inr, refl, sym, ap, subst, ◌∙◌, true≢false}
+use Rattle.std.proofs.Common.{Option, ◌≡◌, ◌⊎◌, ℕ, Bool, true, false, not, ◌&&◌, ◌||◌, List, [], ◌∷◌, Result, Ok, is_some, inl, inr, refl, sym, ap, subst, ◌∙◌, true≢false}
+use Rattle.rmgr_hooks.specs.Custom.{Extension}
 use Rattle.std.specs.Prelude.{if◌then◌else◌}
 use Rattle.block_effects.specs.Effects.{applied, is_left, zeros}
 use Rattle.block_effects.specs.Gone.{is_gone, is_main}
@@ -79,66 +80,66 @@ main_fork FreeSpace h = absurd (true≢false (sym h))
 main_fork Visibility h = absurd (true≢false (sym h))
 main_fork Init h = absurd (true≢false (sym h))
 
-module _ (root : PathValue) (per : ℕ) (rec : LogRecord) (parts : PartsView) (block : BlockRef) (w : BlockWorld) (are : AreMain w.skipped) where
+module _ (custom : Option Extension) (root : PathValue) (per : ℕ) (rec : LogRecord) (parts : PartsView) (block : BlockRef) (w : BlockWorld) (are : AreMain w.skipped) where
   files_main : (skipped : List BlockName) (r : Result Contents RecordFault) (v : BlockWorld) → AreMain skipped → with_files skipped r ≡ Ok v → AreMain v.skipped
   files_main skipped r v main made =
       let two = with-files_ok skipped r v made in
       subst (λ (u : BlockWorld). AreMain u.skipped) two.2 main
 
-  found_main : (told : Found) (page : List ℕ) (v : BlockWorld) → IsMainBlock block.name → change_at root per rec parts block w told page ≡ Ok v → AreMain v.skipped
+  found_main : (told : Found) (page : List ℕ) (v : BlockWorld) → IsMainBlock block.name → change_at custom root per rec parts block w told page ≡ Ok v → AreMain v.skipped
   found_main found.Absent page v main made = files_main (with_name block.name w.skipped) (of_files (created root block.name.rel block.name.fork w.files)) v (main_with block.name w.skipped main are) made
   found_main found.Zero page v main made = files_main (with_name block.name w.skipped) (of_files (created root block.name.rel block.name.fork w.files)) v (main_with block.name w.skipped main are) made
-  found_main found.Page page v main made = files_main w.skipped (older_put root per rec block.name (redone rec parts block) page w.files) v are made
+  found_main found.Page page v main made = files_main w.skipped (older_put root per rec block.name (redone custom rec parts block) page w.files) v are made
 
-  act_main : (a : Act) (v : BlockWorld) → (a ≡ act.Change → IsMainBlock block.name) → by_act root per rec parts block w a ≡ Ok v → AreMain v.skipped
+  act_main : (a : Act) (v : BlockWorld) → (a ≡ act.Change → IsMainBlock block.name) → by_act custom root per rec parts block w a ≡ Ok v → AreMain v.skipped
   act_main act.Nothing v main made = subst (λ (u : BlockWorld). AreMain u.skipped) (one_world w v made) are
   act_main act.Gone v main made = subst (λ (u : BlockWorld). AreMain u.skipped) (one_world w v made) are
   act_main act.Image v main made = files_main w.skipped (image_put root per rec block.name (image_at rec parts block.id) w.files) v are made
-  act_main act.Make v main made = files_main w.skipped (redone_put root per rec block.name (redone rec parts block zeros) w.files) v are made
+  act_main act.Make v main made = files_main w.skipped (redone_put root per rec block.name (redone custom rec parts block zeros) w.files) v are made
   act_main act.Change v main made =
-      let read = given-ok (page_there root per block.name w.files) (λ reading. change_at root per rec parts block w reading.found reading.bytes) v made in
+      let read = given-ok (page_there root per block.name w.files) (λ reading. change_at custom root per rec parts block w reading.found reading.bytes) v made in
       found_main read.0.found read.0.bytes v (main refl) read.2
   act_main act.MapPage v main made = files_main w.skipped (map_changed root per rec parts block.name w.files) v are made
 
-is_main_block : (rec : LogRecord) (parts : PartsView) (placed : Placed) (more : List Placed) → IsOwn placed more → act_on rec parts placed.block ≡ act.Change → IsMainBlock placed.block.name
-is_main_block rec parts placed more own chosen =
+is_main_block : (custom : Option Extension) (rec : LogRecord) (parts : PartsView) (placed : Placed) (more : List Placed) → IsOwn placed more → act_on custom rec parts placed.block ≡ act.Change → IsMainBlock placed.block.name
+is_main_block custom rec parts placed more own chosen =
     let name = placed.block.name in
     record {
-      main = main_fork name.fork (main_chosen (is_gone rec parts name) (is_left name.fork) (is_some (applied placed.block.image)) (is_main name.fork) ((rules_of rec).acts rec parts placed.block.id) ((rules_of rec).fresh rec parts placed.block.id) (is_map_page rec placed.block) chosen);
+      main = main_fork name.fork (main_chosen (is_gone rec parts name) (is_left name.fork) (is_some (applied placed.block.image)) (is_main name.fork) ((rules_of custom rec).acts rec parts placed.block.id) ((rules_of custom rec).fresh rec parts placed.block.id) (is_map_page rec placed.block) chosen);
       block = own.block;
       proper = own.proper;
     }
 
 -- ---- in a record, and in a log
 
-each_main : (root : PathValue) (per : ℕ) (rec : LogRecord) (parts : PartsView) (blocks : List Placed) (w v : BlockWorld) → AreOwn blocks → AreMain w.skipped → each_after root per rec parts blocks w ≡ Ok v → AreMain v.skipped
+each_main : (custom : Option Extension) (root : PathValue) (per : ℕ) (rec : LogRecord) (parts : PartsView) (blocks : List Placed) (w v : BlockWorld) → AreOwn blocks → AreMain w.skipped → each_after custom root per rec parts blocks w ≡ Ok v → AreMain v.skipped
 unfolding each_after block_after
-each_main root per rec parts [] w v own are made = subst (λ (u : BlockWorld). AreMain u.skipped) (one_world w v made) are
-each_main root per rec parts (placed ∷ more) w v own are made =
-    let two = given-ok (block_after root per rec parts placed w) (each_after root per rec parts more) v made in
-    each_main root per rec parts more two.0 v own.1 (act_main root per rec parts placed.block w are (act_on rec parts placed.block) two.0 (is_main_block rec parts placed more own.0) two.1) two.2
+each_main custom root per rec parts [] w v own are made = subst (λ (u : BlockWorld). AreMain u.skipped) (one_world w v made) are
+each_main custom root per rec parts (placed ∷ more) w v own are made =
+    let two = given-ok (block_after custom root per rec parts placed w) (each_after custom root per rec parts more) v made in
+    each_main custom root per rec parts more two.0 v own.1 (act_main custom root per rec parts placed.block w are (act_on custom rec parts placed.block) two.0 (is_main_block custom rec parts placed more own.0) two.1) two.2
 
 abbrev OkOf : World → Result World RecordFault
 OkOf w = Ok w
 
-record_main : (root : PathValue) (per : ℕ) (rec : LogRecord) (parts : PartsView) (w v : World) → IsTaken rec parts → AreMain w.skipped → record_after root per rec parts w ≡ Ok v → AreMain v.skipped
+record_main : (custom : Option Extension) (root : PathValue) (per : ℕ) (rec : LogRecord) (parts : PartsView) (w v : World) → IsTaken custom rec parts → AreMain w.skipped → record_after custom root per rec parts w ≡ Ok v → AreMain v.skipped
 unfolding record_after
-record_main root per rec parts w v is are made =
-    let run = (not-refused (short_refusal rec parts) (given (blocks_after root per rec parts (blocks_of w)) (others_after root per rec parts w)) v made).1 in
-    let two = given-ok (blocks_after root per rec parts (blocks_of w)) (others_after root per rec parts w) v run in
+record_main custom root per rec parts w v is are made =
+    let run = (not-refused (short_refusal rec parts) (given (blocks_after custom root per rec parts (blocks_of w)) (others_after root per rec parts w)) v made).1 in
+    let two = given-ok (blocks_after custom root per rec parts (blocks_of w)) (others_after root per rec parts w) v run in
     let after : Contents → World = λ c. record { files = c; control = control_after rec parts w.control; skipped = without_gone rec parts two.0.skipped } in
     let last = given-ok (of_files (files_after root per rec parts two.0.files)) (λ c. OkOf (after c)) v two.2 in
     let same : after last.0 ≡ v = one-world_of (after last.0) v last.2 in
     subst (λ (u : World). AreMain u.skipped) same
-    (main_without rec parts two.0.skipped (each_main root per rec parts parts.blocks (blocks_of w) two.0 (taken-read rec parts is).own are two.1))
+    (main_without rec parts two.0.skipped (each_main custom root per rec parts parts.blocks (blocks_of w) two.0 (taken-read custom rec parts is).own are two.1))
 
-pub log-main : (root : PathValue) (per start : ℕ) (records : List LogRecord) (w v : World) → AreTaken start records → AreMain w.skipped → records_after root per records w ≡ Ok v → AreMain v.skipped
+pub log-main : (custom : Option Extension) (root : PathValue) (per start : ℕ) (records : List LogRecord) (w v : World) → AreTaken custom start records → AreMain w.skipped → records_after custom root per records w ≡ Ok v → AreMain v.skipped
 unfolding records_after
-log-main root per start [] w v taken are made = subst (λ (u : World). AreMain u.skipped) (one-world_of w v made) are
-log-main root per start (rec ∷ records) w v taken are made =
-    let first = first-taken start rec records taken in
-    let two = given-ok (record_after root per rec (parts_or_none (record_parts rec)) w) (records_after root per records) v made in
-    log-main root per rec.end records two.0 v first.1 (record_main root per rec (parts_or_none (record_parts rec)) w two.0 first.0 are two.1) two.2
+log-main custom root per start [] w v taken are made = subst (λ (u : World). AreMain u.skipped) (one-world_of w v made) are
+log-main custom root per start (rec ∷ records) w v taken are made =
+    let first = first-taken custom start rec records taken in
+    let two = given-ok (record_after custom root per rec (parts_or_none (record_parts rec)) w) (records_after custom root per records) v made in
+    log-main custom root per rec.end records two.0 v first.1 (record_main custom root per rec (parts_or_none (record_parts rec)) w two.0 first.0 are two.1) two.2
 
 -- where no block of a main fork is among them, there are none
 pub none-skipped : (skipped : List BlockName) → AreMain skipped → ((name : BlockName) → IsMainBlock name → is_among name skipped ≡ false) → skipped ≡ []

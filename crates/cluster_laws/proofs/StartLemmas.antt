@@ -1,5 +1,6 @@
 -- Alike clusters pass the same checks before a replay, and read one log.
 use Rattle.std.proofs.Common.{◌≡◌, ℕ, ◌==◌, Bool, true, false, not, ◌&&◌, cond, List, [], ◌∷◌, codes, Option, None, Some, Result, Ok, Err, is_some, refl, sym, ap, ap₂, ◌∙◌, append_assoc, true≢false, arith}
+use Rattle.rmgr_hooks.specs.Custom.{Extension}
 use Rattle.std.proofs.Math.Path.{fun_ext}
 use Rattle.std.proofs.lemmas.Bool.Decides.{nat_tests}
 use Rattle.std.specs.Prelude.{if◌then◌else◌, option_map}
@@ -121,7 +122,7 @@ unmarked marks others false true e h = absurd cc
 unmarked marks others false false true h = absurd cc
 unmarked marks others false false false h = refl
 
-module _ (root other : PathValue) where
+module _ (custom : Option Extension) (root other : PathValue) where
   admitted : (r : Result Control ControlFault) (v : Control) → at_root root r ≡ Ok v → at_root other r ≡ Ok v
   admitted (Ok c) v h = h
   admitted (Err (control.Size n)) v h = absurd cc
@@ -167,10 +168,10 @@ module _ (root other : PathValue) where
       by true false h = refl
       by false b h = absurd cc
 
-  refusal_same : (v : Control) (places : LabelPlaces) (records : List LogRecord) → log_refusal root v places records ≡ None → log_refusal other v places records ≡ None
+  refusal_same : (v : Control) (places : LabelPlaces) (records : List LogRecord) → log_refusal custom root v places records ≡ None → log_refusal custom other v places records ≡ None
   unfolding log_refusal first_of
   refusal_same v places records h =
-      by (option_map of_profile (first_outside records)) (ends_too_soon v.minRecoveryPoint (end_after places.start.0 records)) (list_any (is_labelled places) records) h
+      by (option_map of_profile (first_outside custom records)) (ends_too_soon v.minRecoveryPoint (end_after places.start.0 records)) (list_any (is_labelled places) records) h
     where
       by : (a b : Option ReplayFault) (t : Bool) → first_of (a ∷ b ∷ unlabelled root t ∷ []) ≡ None → first_of (a ∷ b ∷ unlabelled other t ∷ []) ≡ None
       by (Some e) b t h = absurd cc
@@ -185,7 +186,7 @@ module _ (root other : PathValue) where
 
 -- ---- what stands at alike paths
 
-module _ (per : ℕ) (root other : PathValue) (c d : Contents) (both : AlikeClusters per c root d other) where
+module _ (custom : Option Extension) (per : ℕ) (root other : PathValue) (c d : Contents) (both : AlikeClusters per c root d other) where
   there_same : (parts : List (List ℕ)) → is_there c (below root parts) ≡ is_there d (below other parts)
   there_same parts = by (entry_at c (below root parts)) (entry_at d (below other parts)) (both.alike parts)
     where
@@ -235,7 +236,7 @@ module _ (per : ℕ) (root other : PathValue) (c d : Contents) (both : AlikeClus
   pages_same : (spans : List Span) (size : SegSize) → pages_of (log_at root spans size) c ≡ pages_of (log_at other spans size) d
   pages_same spans size = fun_ext (λ at.
       same_pages (log_at root spans size) (folder_of c (wal_folder root)) (folder_of d (wal_folder other)) (λ number. folder_same (name_of (segment_of (log_at root spans size) number)) (segment_free (log_at root spans size) number)) at
-      ∙ pages_moved root other spans size (folder_of d (wal_folder other)) at)
+      ∙ pages_moved custom root other spans size (folder_of d (wal_folder other)) at)
 
   unfinished_same : unfinished c root ≡ None → unfinished d other ≡ None
   unfolding unfinished
@@ -253,7 +254,7 @@ module _ (per : ℕ) (root other : PathValue) (c d : Contents) (both : AlikeClus
   control_same v h =
       ap (λ p. control_in other (file_of (entry_at d p))) (control-path other)
       ∙ ap (control_in other) (sym (file_same (codes "global" ∷ codes "pg_control" ∷ []) control-no_version control-not_main))
-      ∙ control_read root other (file_of (entry_at c (below root (codes "global" ∷ codes "pg_control" ∷ [])))) v (ap (λ p. control_in root (file_of (entry_at c p))) (sym (control-path root)) ∙ h)
+      ∙ control_read custom root other (file_of (entry_at c (below root (codes "global" ∷ codes "pg_control" ∷ [])))) v (ap (λ p. control_in root (file_of (entry_at c p))) (sym (control-path root)) ∙ h)
 
   label_no_version : is_version (path_of false (codes "backup_label" ∷ [])) ≡ false
   label_no_version = refl
@@ -262,7 +263,7 @@ module _ (per : ℕ) (root other : PathValue) (c d : Contents) (both : AlikeClus
   unfolding label_at
   label_same v h =
       ap (label_in other) (sym (file_same (codes "backup_label" ∷ []) label_no_version label_not_main))
-      ∙ label_read root other (file_of (entry_at c (below root (codes "backup_label" ∷ [])))) v h
+      ∙ label_read custom root other (file_of (entry_at c (below root (codes "backup_label" ∷ [])))) v h
 
   history_same : (tli : ℕ) (v : List Span) → history_at c root tli ≡ Ok v → history_at d other tli ≡ Ok v
   unfolding history_at
@@ -273,7 +274,7 @@ module _ (per : ℕ) (root other : PathValue) (c d : Contents) (both : AlikeClus
       by true h = h
       by false h =
           ap (history_in other tli) (sym (wal_same (history_name tli) (history_free tli)))
-          ∙ history_read root other tli (file_of (entry_at c (history_path root tli))) v h
+          ∙ history_read custom root other tli (file_of (entry_at c (history_path root tli))) v h
 
   -- ---- so the other cluster passes too, with the same control file, label and log
 
@@ -291,18 +292,18 @@ module _ (per : ℕ) (root other : PathValue) (c d : Contents) (both : AlikeClus
   OkStart s = Ok s
 
   records_start : (v : Control) (places : LabelPlaces) (spans : List Span) (size : SegSize) (s : Start)
-      → in_log c root v places (Some (log_at root spans size)) ≡ Ok s → From s (in_log d other v places (Some (log_at other spans size)))
+      → in_log custom c root v places (Some (log_at root spans size)) ≡ Ok s → From s (in_log custom d other v places (Some (log_at other spans size)))
   records_start v places spans size s h =
       let records : List LogRecord = (log_of (pages_of (log_at root spans size) c) (bytes_of size) places.start.0).records in
       let here : Start = record { control = v; label = places; log = log_at root spans size; records = records } in
       let there : Start = record { control = v; label = places; log = log_at other spans size; records = records } in
-      let two = not-refused (log_refusal root v places records) (Ok here) s h in
+      let two = not-refused (log_refusal custom root v places records) (Ok here) s h in
       let told : here ≡ s = one_start here s two.1 in
-      as_by s (in_log d other v places (Some (log_at other spans size))) (with_records other v places (log_at other spans size) records)
-      (ap (λ (pages : Pages). with_records other v places (log_at other spans size) (log_of pages (bytes_of size) places.start.0).records) (sym (pages_same spans size)))
+      as_by s (in_log custom d other v places (Some (log_at other spans size))) (with_records custom other v places (log_at other spans size) records)
+      (ap (λ (pages : Pages). with_records custom other v places (log_at other spans size) (log_of pages (bytes_of size) places.start.0).records) (sym (pages_same spans size)))
       (record {
         start = there;
-        is = ap (λ o. unless o (Ok there)) (refusal_same root other v places records two.0);
+        is = ap (λ o. unless o (Ok there)) (refusal_same custom root other v places records two.0);
         control = ap (λ (x : Start). x.control) told;
         label = ap (λ (x : Start). x.label) told;
         records = ap (λ (x : Start). x.records) told;
@@ -312,41 +313,41 @@ module _ (per : ℕ) (root other : PathValue) (c d : Contents) (both : AlikeClus
       one_start a b e = cc
 
   log_start : (v : Control) (places : LabelPlaces) (spans : List Span) (s : Start) (size : Option SegSize)
-      → in_log c root v places (option_map (log_at root spans) size) ≡ Ok s → From s (in_log d other v places (option_map (log_at other spans) size))
+      → in_log custom c root v places (option_map (log_at root spans) size) ≡ Ok s → From s (in_log custom d other v places (option_map (log_at other spans) size))
   log_start v places spans s None h = absurd cc
   log_start v places spans s (Some size) h = records_start v places spans size s h
 
-  label_start : (v : Control) (places : LabelPlaces) (s : Start) → from_label c root v places ≡ Ok s → From s (from_label d other v places)
+  label_start : (v : Control) (places : LabelPlaces) (s : Start) → from_label custom c root v places ≡ Ok s → From s (from_label custom d other v places)
   unfolding from_label
   label_start v places s h =
-      let spans = given-ok (told_by (history_at c root (timeline_of v))) (λ spans. in_log c root v places (log_with root v spans)) s h in
-      as_by s (from_label d other v places) (in_log d other v places (log_with other v spans.0))
-      (ap (λ r. given (told_by r) (λ spans. in_log d other v places (log_with other v spans))) (history_same (timeline_of v) spans.0 (told_ok root other (history_at c root (timeline_of v)) spans.0 spans.1)))
+      let spans = given-ok (told_by (history_at c root (timeline_of v))) (λ spans. in_log custom c root v places (log_with root v spans)) s h in
+      as_by s (from_label custom d other v places) (in_log custom d other v places (log_with other v spans.0))
+      (ap (λ r. given (told_by r) (λ spans. in_log custom d other v places (log_with other v spans))) (history_same (timeline_of v) spans.0 (told_ok custom root other (history_at c root (timeline_of v)) spans.0 spans.1)))
       (log_start v places spans.0 s (size_of_bytes v.walSegSize) spans.2)
 
-  control_start : (v : Control) (s : Start) → from_control c root v ≡ Ok s → From s (from_control d other v)
+  control_start : (v : Control) (s : Start) → from_control custom c root v ≡ Ok s → From s (from_control custom d other v)
   unfolding from_control
   control_start v s h =
-      let flags = not-refused (first_of (checksums_on root v ∷ no_hints root v ∷ [])) (given (label_at c root) (from_label c root v)) s h in
-      let places = given-ok (label_at c root) (from_label c root v) s flags.1 in
-      as_by s (from_control d other v) (from_label d other v places.0)
-      (ap (λ o. unless o (given (label_at d other) (from_label d other v))) (flags_same root other v flags.0)
-      ∙ ap (λ r. given r (from_label d other v)) (label_same places.0 places.1))
+      let flags = not-refused (first_of (checksums_on root v ∷ no_hints root v ∷ [])) (given (label_at c root) (from_label custom c root v)) s h in
+      let places = given-ok (label_at c root) (from_label custom c root v) s flags.1 in
+      as_by s (from_control custom d other v) (from_label custom d other v places.0)
+      (ap (λ o. unless o (given (label_at d other) (from_label custom d other v))) (flags_same custom root other v flags.0)
+      ∙ ap (λ r. given r (from_label custom d other v)) (label_same places.0 places.1))
       (label_start v places.0 s places.2)
 
   mapped_none : (o : Option ClusterFault) → option_map fault.Cluster o ≡ None → o ≡ None
   mapped_none None h = refl
   mapped_none (Some e) h = absurd cc
 
-  from_start : (s : Start) → start_of c root ≡ Ok s → From s (start_of d other)
+  from_start : (s : Start) → start_of custom c root ≡ Ok s → From s (start_of custom d other)
   unfolding start_of
   from_start s h =
-      let marks = not-refused (option_map fault.Cluster (unfinished c root)) (given (told_by (control_at c root)) (from_control c root)) s h in
-      let read = given-ok (told_by (control_at c root)) (from_control c root) s marks.1 in
-      as_by s (start_of d other) (from_control d other read.0)
-      (ap (λ o. unless (option_map fault.Cluster o) (given (told_by (control_at d other)) (from_control d other))) (unfinished_same (mapped_none (unfinished c root) marks.0))
-      ∙ ap (λ r. given (told_by r) (from_control d other)) (control_same read.0 (told_ok root other (control_at c root) read.0 read.1)))
+      let marks = not-refused (option_map fault.Cluster (unfinished c root)) (given (told_by (control_at c root)) (from_control custom c root)) s h in
+      let read = given-ok (told_by (control_at c root)) (from_control custom c root) s marks.1 in
+      as_by s (start_of custom d other) (from_control custom d other read.0)
+      (ap (λ o. unless (option_map fault.Cluster o) (given (told_by (control_at d other)) (from_control custom d other))) (unfinished_same (mapped_none (unfinished c root) marks.0))
+      ∙ ap (λ r. given (told_by r) (from_control custom d other)) (control_same read.0 (told_ok custom root other (control_at c root) read.0 read.1)))
       (control_start read.0 s read.2)
 
-  pub starts-as : (s : Start) → start_of c root ≡ Ok s → StartsAs d other s
+  pub starts-as : (s : Start) → start_of custom c root ≡ Ok s → StartsAs custom d other s
   starts-as s h = let x = from_start s h in record { start = x.start; passes = x.is; control = x.control; label = x.label; records = x.records }

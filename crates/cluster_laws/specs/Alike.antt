@@ -1,5 +1,6 @@
 -- Two clusters that replay the same records: PostgreSQL 16, src/backend/access/transam/xlogrecovery.c, ApplyWalRecord. Own: "Alike clusters".
-use Rattle.std.specs.Prelude.{◌≡◌, ℕ, ◌<◌, List}
+use Rattle.std.specs.Prelude.{Option, ◌≡◌, ℕ, ◌<◌, List}
+use Rattle.rmgr_hooks.specs.Custom.{Extension, IsSound}
 use Rattle.alike_clusters.specs.Clusters.{AlikeClusters}
 use Rattle.block_refs.specs.Parts.{PartsView}
 use Rattle.cluster_tree.specs.PathValue.{PathValue}
@@ -19,12 +20,12 @@ pub record AlikeWorlds (root : PathValue) (other : PathValue) (per_file : ℕ) (
 
 -- one record leaves them so
 abbrev pub RecordAlike : Type 0
-RecordAlike = (root other : PathValue) (per_file : ℕ) (rec : LogRecord) (parts : PartsView) (w x : World)
-    → 0 < per_file → IsTaken rec parts → AlikeWorlds root other per_file w x
-    → AgreeOn (AlikeWorlds root other per_file) root other (record_after root per_file rec parts w) (record_after other per_file rec parts x)
+RecordAlike = (custom : Option Extension) → IsSound custom → (root other : PathValue) (per_file : ℕ) (rec : LogRecord) (parts : PartsView) (w x : World)
+    → 0 < per_file → IsTaken custom rec parts → AlikeWorlds root other per_file w x
+    → AgreeOn (AlikeWorlds root other per_file) root other (record_after custom root per_file rec parts w) (record_after custom other per_file rec parts x)
 
 -- and so do the records of a log
 abbrev pub LogAlike : Type 0
-LogAlike = (root other : PathValue) (per_file start : ℕ) (records : List LogRecord) (w x : World)
-    → 0 < per_file → AreTaken start records → AlikeWorlds root other per_file w x
-    → AgreeOn (AlikeWorlds root other per_file) root other (records_after root per_file records w) (records_after other per_file records x)
+LogAlike = (custom : Option Extension) → IsSound custom → (root other : PathValue) (per_file start : ℕ) (records : List LogRecord) (w x : World)
+    → 0 < per_file → AreTaken custom start records → AlikeWorlds root other per_file w x
+    → AgreeOn (AlikeWorlds root other per_file) root other (records_after custom root per_file records w) (records_after custom other per_file records x)

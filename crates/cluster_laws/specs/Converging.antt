@@ -1,6 +1,7 @@
 -- Two clusters that replay one log, block by block and file by file: PostgreSQL 16, src/backend/access/transam/xlogrecovery.c, PerformWalRecovery.
 -- Own: "Alike clusters", "The law of one block", "Relations that aren't logged".
 use Rattle.std.specs.Prelude.{◌≡◌, ℕ, true, false, List, [], map, Option, Result, Ok, Err}
+use Rattle.rmgr_hooks.specs.Custom.{Extension, IsSound}
 use Rattle.block_effects.specs.Lives.{IsLife}
 use Rattle.block_refs.specs.declared.names.BlockName.{BlockName}
 use Rattle.block_replay.specs.declared.faults.RecordFault.{RecordFault}
@@ -24,11 +25,11 @@ use Rattle.cluster_laws.specs.Alike.{AlikeWorlds}
 
 -- a cluster before it replays a log: each of its blocks fits the base under the log, which is a life of the block from this redo position on; but
 -- of a relation that isn't logged, as its init fork tells, no record changes a block
-pub record IsBased (base : BlockName → Option (List ℕ)) (redo : ℕ) (records : List LogRecord) (root : PathValue) (per_file : ℕ) (w : World) : Type 0 where
+pub record IsBased (custom : Option Extension) (base : BlockName → Option (List ℕ)) (redo : ℕ) (records : List LogRecord) (root : PathValue) (per_file : ℕ) (w : World) : Type 0 where
   pub begins : Begins root per_file w
-  pub life : (name : BlockName) → IsMainBlock name → has_init w.files root name.rel ≡ false → IsLife rules_of name redo (base name) (map split_of records)
-  pub fits : (name : BlockName) → IsMainBlock name → has_init w.files root name.rel ≡ false → FitsBase root per_file name (base name) records w
-  pub unchanged : (name : BlockName) → IsMainBlock name → has_init w.files root name.rel ≡ true → HasNoChange (steps name records)
+  pub life : (name : BlockName) → IsMainBlock name → has_init w.files root name.rel ≡ false → IsLife (rules_of custom) name redo (base name) (map split_of records)
+  pub fits : (name : BlockName) → IsMainBlock name → has_init w.files root name.rel ≡ false → FitsBase custom root per_file name (base name) records w
+  pub unchanged : (name : BlockName) → IsMainBlock name → has_init w.files root name.rel ≡ true → HasNoChange (steps custom name records)
 
 -- the worlds that are left are alike, no change of a block was skipped in either, and a block's pages match, but where its relation has an init fork
 pub record AreConverged (root : PathValue) (other : PathValue) (per_file : ℕ) (v : World) (y : World) : Type 0 where
@@ -48,7 +49,7 @@ EndAlike root other per_file (Err (File e)) (Err (File f)) = f ≡ moved root ot
 
 -- So alike clusters of which this holds of one base converge under a log whose records say enough.
 abbrev pub RecordsConverge : Type 0
-RecordsConverge = (base : BlockName → Option (List ℕ)) (start redo : ℕ) (records : List LogRecord) (root other : PathValue) (per_file : ℕ) (w x : World)
-    → AreTaken start records → ¬ (SomeLacksLayout records) → AlikeWorlds root other per_file w x
-    → IsBased base redo records root per_file w → IsBased base redo records other per_file x
-    → EndAlike root other per_file (records_after root per_file records w) (records_after other per_file records x)
+RecordsConverge = (custom : Option Extension) → IsSound custom → (base : BlockName → Option (List ℕ)) (start redo : ℕ) (records : List LogRecord) (root other : PathValue) (per_file : ℕ) (w x : World)
+    → AreTaken custom start records → ¬ (SomeLacksLayout records) → AlikeWorlds root other per_file w x
+    → IsBased custom base redo records root per_file w → IsBased custom base redo records other per_file x
+    → EndAlike root other per_file (records_after custom root per_file records w) (records_after custom other per_file records x)

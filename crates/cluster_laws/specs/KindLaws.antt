@@ -1,5 +1,6 @@
 -- What follows from the definitions, for callers.
-use Rattle.std.specs.Prelude.{ℕ, List, Result, Ok, Err}
+use Rattle.std.specs.Prelude.{Option, ℕ, List, Result, Ok, Err}
+use Rattle.rmgr_hooks.specs.Custom.{Extension}
 use Rattle.block_refs.specs.Parts.{PartsView}
 use Rattle.block_replay.specs.declared.faults.RecordFault.{RecordFault}
 use Rattle.block_replay.specs.declared.faults.RecordFault.TheVariants.{RedoFailed, File}
@@ -16,7 +17,7 @@ FindsKinds root (Err (RedoFailed start name why)) = Unit {0}
 FindsKinds root (Err (File e)) = ⊥
 
 abbrev pub RecordFindsKinds : Type 0
-RecordFindsKinds = (root : PathValue) (per_file : ℕ) (rec : LogRecord) (parts : PartsView) (w : World) → HasKinds root w.files → FindsKinds root (record_after root per_file rec parts w)
+RecordFindsKinds = (custom : Option Extension) (root : PathValue) (per_file : ℕ) (rec : LogRecord) (parts : PartsView) (w : World) → HasKinds root w.files → FindsKinds root (record_after custom root per_file rec parts w)
 
 abbrev pub LogFindsKinds : Type 0
-LogFindsKinds = (root : PathValue) (per_file : ℕ) (records : List LogRecord) (w : World) → HasKinds root w.files → FindsKinds root (records_after root per_file records w)
+LogFindsKinds = (custom : Option Extension) (root : PathValue) (per_file : ℕ) (records : List LogRecord) (w : World) → HasKinds root w.files → FindsKinds root (records_after custom root per_file records w)

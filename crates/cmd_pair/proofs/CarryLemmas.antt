@@ -1,6 +1,6 @@
 -- How what pair does is carried out.
 use Rattle.std.proofs.Common.{◌≡◌, ◌∙◌, ◌⊎◌, ◌++◌, ℕ, Bool, true, false, IsTrue, List, None, Result, Ok, Err, OnOk, OnErr, IfErr, inl, inr, refl, sym, ap, subst}
-use Rattle.acts.specs.Acts.{Breaks, NoMemory, Puts, ReadFailed, Sunk, Seen, WriteFailed, seen}
+use Rattle.acts.specs.Acts.{Breaks, Puts, Sunk, Seen, seen}
 use Rattle.acts.proofs.ActSteps.{look_goes_on, within_breaks, within_goes_on}
 use Rattle.cluster_tree.specs.Contents.{Contents}
 use Rattle.cluster_tree.specs.PathValue.{PathValue}

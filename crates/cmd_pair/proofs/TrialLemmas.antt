@@ -1,5 +1,5 @@
 -- A pair that is rewound, replayed and compared, step by step.
-use Rattle.std.proofs.Common.{◌≡◌, ◌∙◌, ℕ, Result, Ok, Err, OnOk, inl, inr, refl, sym, ap, subst}
+use Rattle.std.proofs.Common.{None, ◌≡◌, ◌∙◌, ℕ, Result, Ok, Err, OnOk, inl, inr, refl, sym, ap, subst}
 use Rattle.cluster_compare.specs.Compared.{compared}
 use Rattle.cluster_compare.specs.Same.{IsSameCluster}
 use Rattle.cluster_compare.specs.declared.compared.Compared.TheVariants.{Same}
@@ -31,10 +31,10 @@ freed {e} path free is = let same : e ≡ cause.Changed path = cc is in unfree (
 after_same : (a b : After) → ◌≡◌ {A = Result After ReplayFault} (Ok a) (Ok b) → a ≡ b
 after_same a b is = cc is
 
-pub replayed-files : (c c' : Contents) (root : PathValue) (told : Replayed) → IsAfter (after_replay c root) told c' → (ends : Ends c root) → c' ≡ ends.after.files
+pub replayed-files : (c c' : Contents) (root : PathValue) (told : Replayed) → IsAfter (after_replay None c root) told c' → (ends : Ends c root) → c' ≡ ends.after.files
 replayed-files c c' root told is ends = is.files_are ∙ ap (λ (a : After). a.files) (after_same is.after ends.after (sym is.is ∙ ends.ends))
 
-pub replay-free : (c : Contents) (root : PathValue) (f : ReplayFault) → Ends c root → IsCause (after_replay c root) f → IsFreeReplay f
+pub replay-free : (c : Contents) (root : PathValue) (f : ReplayFault) → Ends c root → IsCause (after_replay None c root) f → IsFreeReplay f
 replay-free c root f ends (inl (inl is)) = subst IsFreeReplay (sym is) (inl refl)
 replay-free c root f ends (inl (inr (inl is))) = subst IsFreeReplay (sym is) tt
 replay-free c root f ends (inl (inr (inr (inl is)))) = subst IsFreeReplay (sym is) (inr refl)
@@ -44,7 +44,7 @@ replay-free c root f ends (inr meant) = absurd (cc (sym ends.ends ∙ meant))
 -- what a replay leaves, at a path under another name
 files_at : {c : Contents} {one other : PathValue} (is : one ≡ other) (ends : Ends c other) → (subst (Ends c) (sym is) ends).after.files ≡ ends.after.files
 files_at {c} {one} {other} is ends =
-    ap (λ (a : After). a.files) (after_same _ _ (sym (subst (Ends c) (sym is) ends).ends ∙ ap (after_replay c) is ∙ ends.ends))
+    ap (λ (a : After). a.files) (after_same _ _ (sym (subst (Ends c) (sym is) ends).ends ∙ ap (after_replay None c) is ∙ ends.ends))
 
 -- ---- both
 
@@ -76,7 +76,7 @@ module _ (root : PathValue) (seed blocks : ℕ) (c c' : Contents) (pair : HasPai
       target_ends = one.ends;
       target_alone = subst (λ x. StaysBut (target_of root) c' x) one_is one_alone;
       tree = subst IsTree one_is tree;
-      copy_ends = subst (λ x. after_replay x (copy_of root) ≡ Ok two.after) one_is two.ends;
+      copy_ends = subst (λ x. after_replay None x (copy_of root) ≡ Ok two.after) one_is two.ends;
       copy_alone = subst (λ x. StaysBut (copy_of root) x two.after.files) one_is (subst (λ y. StaysBut (copy_of root) d y) two_is two_alone);
     };
     left = two_is;

@@ -1,5 +1,5 @@
 -- What pair leaves in its folder. Own: "A pair from a number", "A rewound target and a whole copy", "Clusters that grew from one state".
-use Rattle.std.specs.Prelude.{◌≡◌, ◌++◌, ◌⊎◌, ℕ, Bool, IsTrue, List, Ok}
+use Rattle.std.specs.Prelude.{None, ◌≡◌, ◌++◌, ◌⊎◌, ℕ, Bool, IsTrue, List, Ok}
 use Rattle.cluster_compare.specs.Compared.{compared}
 use Rattle.cluster_compare.specs.Same.{IsSameCluster}
 use Rattle.cluster_compare.specs.declared.compared.Compared.TheVariants.{Same}
@@ -22,7 +22,7 @@ use Rattle.cmd_pair.specs.Pair.{pair_line}
 -- the replay of a cluster ends, and so
 pub record Ends (c : Contents) (root : PathValue) : Type 0 where
   pub after : After
-  pub ends : after_replay c root ≡ Ok after
+  pub ends : after_replay None c root ≡ Ok after
 
 -- of a pair that stands the target was rewound, at the moment at which its copy was made, and replayed; and then its copy was
 pub record IsReplayedPair (root : PathValue) (seed blocks : ℕ) (c c' : Contents) : Type 0 where

@@ -5,7 +5,7 @@ use Rattle.cluster_tree.specs.Causes.{Meets, Rose}
 use Rattle.cluster_tree.specs.Contents.{Contents}
 use Rattle.cluster_tree.specs.declared.tree.ChangeCall.{ChangeCall}
 use Rattle.cluster_tree.proofs.SinkLemmas.{whole-is_part}
-use Rattle.rmgr_hooks.specs.Custom.{Describer}
+use Rattle.rmgr_hooks.specs.Custom.{Extension}
 use Rattle.waldump_core.specs.Dump.{Dump}
 use Rattle.waldump_core.specs.Texts.{Extends, IsFree as IsFreeFault, ending_of as dump_ending}
 use Rattle.waldump_core.specs.declared.dumped.Dumped.{Dumped}
@@ -116,6 +116,6 @@ folder_free e (inl is) = inl (ap folder_cause is)
 folder_free e (inr is) = inr (inr (inr (ap folder_cause is)))
 
 -- why no log was found is why there is no dump
-pub folder_passes : (custom : Option Describer) (why : Cause) (e : FolderFault) (c : Contents) (r : Result FoundLog FolderFault) → why ≡ folder_cause e → IsFreeOfFolder e ⊎ (r ≡ Err e) → IsFree why ⊎ (found_answer custom c r ≡ refused why)
+pub folder_passes : (custom : Option Extension) (why : Cause) (e : FolderFault) (c : Contents) (r : Result FoundLog FolderFault) → why ≡ folder_cause e → IsFreeOfFolder e ⊎ (r ≡ Err e) → IsFree why ⊎ (found_answer custom c r ≡ refused why)
 folder_passes custom why e c r is (inl f) = inl (subst IsFree (sym is) (folder_free e f))
 folder_passes custom why e c r is (inr m) = inr (ap (found_answer custom c) m ∙ ap refused (sym is))

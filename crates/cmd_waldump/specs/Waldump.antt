@@ -5,7 +5,7 @@ use Rattle.cluster_tree.specs.Contents.{Contents}
 use Rattle.wal_base.specs.Segment.{bytes_of}
 use Rattle.wal_records.specs.Further.{pages_of}
 use Rattle.rmgr_desc.specs.Managers.{manager_names}
-use Rattle.rmgr_hooks.specs.Custom.{Describer}
+use Rattle.rmgr_hooks.specs.Custom.{Extension}
 use Rattle.waldump_core.specs.Dump.{Dump, dump_of}
 use Rattle.waldump_core.specs.declared.dumped.Dumped.{Dumped}
 use Rattle.waldump_core.specs.declared.fault.DumpFault.{DumpFault}
@@ -49,16 +49,16 @@ abbrev pub dump_answer : Dump → Answer
 dump_answer dump = record { acts = prints dump.lines; refusal = dump_refusal dump.answer }
 
 -- the dump of a log that was found, of the records that are selected
-unfoldable pub log_answer : Option Describer → Contents → FoundLog → Answer
+unfoldable pub log_answer : Option Extension → Contents → FoundLog → Answer
 log_answer custom c found = dump_answer (dump_of custom (pages_of found.log c) (bytes_of found.log.size) found.sel)
 
 -- the dump of a log, or why there is none
-abbrev pub found_answer : Option Describer → Contents → Result FoundLog FolderFault → Answer
+abbrev pub found_answer : Option Extension → Contents → Result FoundLog FolderFault → Answer
 found_answer custom c (Ok found) = log_answer custom c found
 found_answer custom c (Err fault) = refused (folder_cause fault)
 
 -- what is done about the words
-abbrev pub waldump_answer : Option Describer → Contents → WaldumpWords → Answer
+abbrev pub waldump_answer : Option Extension → Contents → WaldumpWords → Answer
 waldump_answer custom c asked.Managers = list_answer
 waldump_answer custom c (asked.Dump words) = found_answer custom c (found_in c words)
 

@@ -56,7 +56,7 @@ pub fn waldump<F: Tree, O: Sink, M: Manager>(
     // the answer's acts, over every tree; the answer that is meant where the tree tells, and for the list
     ensures carries { (err_tells : Bool) (err : Sunk) → Carries
         (IsTrue F.tells ⊎ AskForList words.now)
-        (waldump_answer (handed_in M.ID M.text custom.entry) (F.contents tree.old) words.now)
+        (waldump_answer (handed_in M.Manager custom.entry) (F.contents tree.old) words.now)
         (IsWaldump words.now) O.tells err_tells (cause_of result)
         (seen (F.contents tree.old) (F.calls tree.old)
         (sunk (O.written out.old) (O.failed_writes out.old)) err)

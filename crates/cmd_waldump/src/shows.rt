@@ -30,7 +30,7 @@ fn show_found<F: Tree, O: Sink, M: Manager>(
 ) -> Result<(), Cause>
     requires room { length found.log.folder.parts ≤ 63 }
     ensures carries { (err_tells : Bool) (err : Sunk) → Carries (IsTrue F.tells)
-        (log_answer (handed_in M.ID M.text custom.entry) (F.contents tree.old) found) IsDump
+        (log_answer (handed_in M.Manager custom.entry) (F.contents tree.old) found) IsDump
         O.tells err_tells (cause_of result)
         (seen (F.contents tree.old) (F.calls tree.old)
         (sunk (O.written out.old) (O.failed_writes out.old)) err)
@@ -61,7 +61,7 @@ pub(crate) fn show_log<F: Tree, O: Sink, M: Manager>(
 ) -> Result<(), Cause>
     requires { IsFitFolder words.now.folder }
     ensures carries { (err_tells : Bool) (err : Sunk) → Carries (IsTrue F.tells)
-        (found_answer (handed_in M.ID M.text custom.entry) (F.contents tree.old)
+        (found_answer (handed_in M.Manager custom.entry) (F.contents tree.old)
         (found_in (F.contents tree.old) words.now)) IsDump O.tells err_tells (cause_of result)
         (seen (F.contents tree.old) (F.calls tree.old)
         (sunk (O.written out.old) (O.failed_writes out.old)) err)

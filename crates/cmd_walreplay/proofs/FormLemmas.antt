@@ -1,5 +1,6 @@
 -- The forms of what pg_walreplay does.
 use Rattle.std.proofs.Common.{length, inl, inr, refl, Option, None, Some, option_map, Result, Ok, Err}
+use Rattle.rmgr_hooks.specs.Custom.{Extension}
 use Rattle.block_refs.specs.declared.names.BlockName.{BlockName}
 use Rattle.block_replay.specs.World.{least_name}
 use Rattle.block_replay.specs.declared.faults.RecordFault.{RecordFault}
@@ -18,7 +19,7 @@ use Rattle.run_acts.proofs.AnswerSteps.{Looks}
 use Rattle.cmd_walreplay.specs.Walreplay.{IsWalreplay, begun_answer, checked_answer, replay_cause, walreplay_answer}
 use Rattle.cmd_walreplay.proofs.MeantLemmas.{LooksIn, start-looks}
 
-module _ (c : Contents) (words : WalreplayWords) where
+module _ (custom : Option Extension) (c : Contents) (words : WalreplayWords) where
   missing-form : (o : Option BlockName) (a : After) → IsWalreplay words (begun_answer words (unless (option_map fault.MissingPage o) (Ok a)))
   missing-form None a = inl (a.files, a, refl)
   missing-form (Some name) a = inr (inr (inr (name, refl)))
@@ -27,20 +28,20 @@ module _ (c : Contents) (words : WalreplayWords) where
   records-form s (Ok w) = missing-form (least_name w.skipped) (closed words.root (timeline_of s.control) (length s.records) (end_of s) w)
   records-form s (Err f) = inr (inr (inl (f, refl)))
 
-  checked-form : (r : Result Start ReplayFault) → LooksIn r → IsWalreplay words (checked_answer c words r)
-  checked-form (Ok s) looks = records-form s (records_after words.root s.control.relseg s.records (first_world c words.root s))
+  checked-form : (r : Result Start ReplayFault) → LooksIn r → IsWalreplay words (checked_answer custom c words r)
+  checked-form (Ok s) looks = records-form s (records_after custom words.root s.control.relseg s.records (first_world c words.root s))
   checked-form (Err f) looks = inr (inl (replay_cause f, looks, refl))
 
-  pub answer-form : IsWalreplay words (walreplay_answer c words)
-  answer-form = checked-form (start_of c words.root) (start-looks c words.root)
+  pub answer-form : IsWalreplay words (walreplay_answer custom c words)
+  answer-form = checked-form (start_of custom c words.root) (start-looks custom c words.root)
 
   begun-looks : (r : Result After ReplayFault) → Looks ((begun_answer words r).acts)
   begun-looks (Ok a) = tt
   begun-looks (Err f) = tt
 
-  checked-looks : (r : Result Start ReplayFault) → Looks ((checked_answer c words r).acts)
-  checked-looks (Ok s) = begun-looks (replayed_into words.root s (first_world c words.root s))
+  checked-looks : (r : Result Start ReplayFault) → Looks ((checked_answer custom c words r).acts)
+  checked-looks (Ok s) = begun-looks (replayed_into custom words.root s (first_world c words.root s))
   checked-looks (Err f) = tt
 
-  pub answer-looks : Looks ((walreplay_answer c words).acts)
-  answer-looks = checked-looks (start_of c words.root)
+  pub answer-looks : Looks ((walreplay_answer custom c words).acts)
+  answer-looks = checked-looks (start_of custom c words.root)

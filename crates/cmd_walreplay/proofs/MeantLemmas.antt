@@ -1,5 +1,6 @@
 -- Each refusal of a cluster, before the first change, comes while the command looks.
 use Rattle.std.proofs.Common.{ℕ, Bool, true, false, List, [], ◌∷◌, inr, refl, Option, None, Some, option_map, nat_lt, Result, Ok, Err}
+use Rattle.rmgr_hooks.specs.Custom.{Extension}
 use Rattle.std.specs.Prelude.{if◌then◌else◌, ◌==◌}
 use Rattle.std.specs.List.{list_any}
 use Rattle.backup_label.specs.Reading.{label_of}
@@ -86,16 +87,16 @@ unlabelled-looks : (root : PathValue) (found : Bool) → MayLook (unlabelled roo
 unlabelled-looks root true = tt
 unlabelled-looks root false = inr (inr refl)
 
-log-looks : (root : PathValue) (control : Control) (places : LabelPlaces) (records : List LogRecord) → MayLook (log_refusal root control places records)
+log-looks : (custom : Option Extension) (root : PathValue) (control : Control) (places : LabelPlaces) (records : List LogRecord) → MayLook (log_refusal custom root control places records)
 unfolding log_refusal
-log-looks root control places records =
-    look-first (option_map of_profile (first_outside records)) _ (profile-looks (first_outside records))
+log-looks custom root control places records =
+    look-first (option_map of_profile (first_outside custom records)) _ (profile-looks (first_outside custom records))
     (look-first (ends_too_soon control.minRecoveryPoint (end_after places.start.0 records)) _ (ends-look control.minRecoveryPoint (end_after places.start.0 records))
     (look-first (unlabelled root (list_any (is_labelled places) records)) [] (unlabelled-looks root (list_any (is_labelled places) records)) look-none))
 
-in_log-looks : (c : Contents) (root : PathValue) (control : Control) (places : LabelPlaces) (o : Option LogPath) → LooksIn (in_log c root control places o)
-in_log-looks c root control places None = inr (inr refl)
-in_log-looks c root control places (Some log) = look-unless _ _ (log-looks root control places _) tt
+in_log-looks : (custom : Option Extension) (c : Contents) (root : PathValue) (control : Control) (places : LabelPlaces) (o : Option LogPath) → LooksIn (in_log custom c root control places o)
+in_log-looks custom c root control places None = inr (inr refl)
+in_log-looks custom c root control places (Some log) = look-unless _ _ (log-looks custom root control places _) tt
 
 label-looks : (root : PathValue) (r : Result LabelPlaces LabelFault) → LooksIn (with_label root r)
 label-looks root (Ok places) = tt
@@ -110,11 +111,11 @@ label_at-looks : (c : Contents) (root : PathValue) → LooksIn (label_at c root)
 unfolding label_at
 label_at-looks c root = file-looks root _
 
-from_label-looks : (c : Contents) (root : PathValue) (control : Control) (places : LabelPlaces) → LooksIn (from_label c root control places)
+from_label-looks : (custom : Option Extension) (c : Contents) (root : PathValue) (control : Control) (places : LabelPlaces) → LooksIn (from_label custom c root control places)
 unfolding from_label
-from_label-looks c root control places =
+from_label-looks custom c root control places =
     look-given (told_by (history_at c root (timeline_of control))) _ (told-looks (history_at c root (timeline_of control)))
-    (λ spans. in_log-looks c root control places (log_with root control spans))
+    (λ spans. in_log-looks custom c root control places (log_with root control spans))
 
 checksums-look : (root : PathValue) (control : Control) → MayLook (checksums_on root control)
 unfolding checksums_on
@@ -132,14 +133,14 @@ hints-look root control = by (control.walLogHints == 0)
     by true = inr (inr refl)
     by false = tt
 
-from_control-looks : (c : Contents) (root : PathValue) (control : Control) → LooksIn (from_control c root control)
+from_control-looks : (custom : Option Extension) (c : Contents) (root : PathValue) (control : Control) → LooksIn (from_control custom c root control)
 unfolding from_control
-from_control-looks c root control =
+from_control-looks custom c root control =
     look-unless _ _ (look-first (checksums_on root control) _ (checksums-look root control) (look-first (no_hints root control) [] (hints-look root control) look-none))
-    (look-given (label_at c root) _ (label_at-looks c root) (λ places. from_label-looks c root control places))
+    (look-given (label_at c root) _ (label_at-looks c root) (λ places. from_label-looks custom c root control places))
 
-pub start-looks : (c : Contents) (root : PathValue) → LooksIn (start_of c root)
+pub start-looks : (custom : Option Extension) (c : Contents) (root : PathValue) → LooksIn (start_of custom c root)
 unfolding start_of
-start-looks c root =
+start-looks custom c root =
     look-unless (option_map fault.Cluster (unfinished c root)) _ (marks-look (unfinished c root))
-    (look-given (told_by (control_at c root)) _ (told-looks (control_at c root)) (λ control. from_control-looks c root control))
+    (look-given (told_by (control_at c root)) _ (told-looks (control_at c root)) (λ control. from_control-looks custom c root control))

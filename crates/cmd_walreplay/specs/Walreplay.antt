@@ -1,5 +1,6 @@
 -- What pg_walreplay does: PostgreSQL 16, src/backend/access/transam/xlogrecovery.c, PerformWalRecovery. Own: "The answer of a replay", "Commands of this project's own".
-use Rattle.std.specs.Prelude.{◌≡◌, ◌⊎◌, ◌++◌, ℕ, Bool, IsTrue, true, List, [], ◌∷◌, codes, decimal, None, Some, Result, Ok, Err}
+use Rattle.std.specs.Prelude.{Option, ◌≡◌, ◌⊎◌, ◌++◌, ℕ, Bool, IsTrue, true, List, [], ◌∷◌, codes, decimal, None, Some, Result, Ok, Err}
+use Rattle.rmgr_hooks.specs.Custom.{Extension}
 use Rattle.std.specs.List.{concat}
 use Rattle.block_refs.specs.declared.names.BlockName.{BlockName}
 use Rattle.block_replay.specs.declared.faults.RecordFault.{RecordFault}
@@ -67,13 +68,13 @@ abbrev pub begun_answer : WalreplayWords → Result After ReplayFault → Answer
 begun_answer words (Ok a) = does (done_acts words a.files (after_line a))
 begun_answer words (Err e) = broken words (replay_cause e)
 
-abbrev pub checked_answer : Contents → WalreplayWords → Result Start ReplayFault → Answer
-checked_answer c words (Ok s) = begun_answer words (replayed_into words.root s (first_world c words.root s))
-checked_answer c words (Err e) = refused (replay_cause e)
+abbrev pub checked_answer : Option Extension → Contents → WalreplayWords → Result Start ReplayFault → Answer
+checked_answer custom c words (Ok s) = begun_answer words (replayed_into custom words.root s (first_world c words.root s))
+checked_answer custom c words (Err e) = refused (replay_cause e)
 
 -- what is done about a cluster: every check comes before the first change
-abbrev pub walreplay_answer : Contents → WalreplayWords → Answer
-walreplay_answer c words = checked_answer c words (start_of c words.root)
+abbrev pub walreplay_answer : Option Extension → Contents → WalreplayWords → Answer
+walreplay_answer custom c words = checked_answer custom c words (start_of custom c words.root)
 
 -- over every tree: changes below the root and a line on some replay; or a refusal while it looks; or changes below the root, and then a refusal at a
 -- record, or of a block that isn't there
@@ -85,21 +86,21 @@ IsWalreplay words answer =
     ⊎ ((name : BlockName) × (answer ≡ broken words (cause.Replay (replay.MissingPage name))))
 
 -- a replay that is done leaves what is meant, and its line behind what was told before
-pub record LeavesReplayed (words : WalreplayWords) (tells : Bool) (c c' : Contents) (out out' : List ℕ) : Type 0 where
+pub record LeavesReplayed (custom : Option Extension) (words : WalreplayWords) (tells : Bool) (c c' : Contents) (out out' : List ℕ) : Type 0 where
   pub after : After
-  pub meant : after_replay c words.root ≡ Ok after
+  pub meant : after_replay custom c words.root ≡ Ok after
   pub files : c' ≡ after.files
   pub told : IsTrue tells → out' ≡ out ++ after_line after
 
 -- whatever the answer, the log is as it was, and what is refused behind the first change leaves its mark, so that a later run is refused
-pub record StaysMarked (words : WalreplayWords) (c c' : Contents) (ended : Cause) : Type 0 where
+pub record StaysMarked (custom : Option Extension) (words : WalreplayWords) (c c' : Contents) (ended : Cause) : Type 0 where
   pub log : LogStays words.root c c'
-  pub mark : (s : Start) → start_of c words.root ≡ Ok s → IsFree ended ⊎ (ended ≡ cause.Done) ⊎ IsMarked words.root c'
+  pub mark : (s : Start) → start_of custom c words.root ≡ Ok s → IsFree ended ⊎ (ended ≡ cause.Done) ⊎ IsMarked words.root c'
 
 -- a stop at any moment leaves the cluster untouched, marked, or as it is meant to be left
-abbrev pub IsLeftByWalreplay : WalreplayWords → Moment → Contents → Type 0
-IsLeftByWalreplay words first c = IsLeftByReplay words.root first c
+abbrev pub IsLeftByWalreplay : Option Extension → WalreplayWords → Moment → Contents → Type 0
+IsLeftByWalreplay custom words first c = IsLeftByReplay custom words.root first c
 
 -- what it left marked is refused, with its mark, or with that of a rewind where one stands
 abbrev pub MarkIsRefused : Type 0
-MarkIsRefused = (words : WalreplayWords) (c : Contents) → is_there c (mark_of words.root) ≡ true → walreplay_answer c words ≡ refused (cause.Unfinished (first_standing c words.root))
+MarkIsRefused = (custom : Option Extension) (words : WalreplayWords) (c : Contents) → is_there c (mark_of words.root) ≡ true → walreplay_answer custom c words ≡ refused (cause.Unfinished (first_standing c words.root))

@@ -10,12 +10,14 @@ ghost use Rattle.run_acts.specs.Causes.{cause_of, is_deep, is_of_files};
 ghost use Rattle.run_acts.specs.Unseen.{CarriesUnseen};
 ghost use Rattle.replay_core.specs.Stops.{IsDurable};
 ghost use Rattle.cmd_walreplay.specs.Walreplay.{IsLeftByWalreplay, IsWalreplay, LeavesReplayed, StaysMarked, walreplay_answer};
+ghost use Rattle.rmgr_hooks.specs.Custom.{handed_in};
 
 use crate::causes::replay_cause;
 use crate::line::replayed_line;
 use cluster_tree::{Sink, Tree};
 use commands::WalreplayWords;
-use replay_core::replay;
+use replay_core::replay_with;
+use rmgr_hooks::Manager;
 use run_acts::{Cause, tell};
 use std::alloc::Global;
 
@@ -28,30 +30,34 @@ use std::alloc::Global;
 /// `WriteFault` and `SinkFault` come only where a call of that device failed, which it has counted, and
 /// `Changed` never where the tree tells its contents. A line that failed leaves the cluster replayed.
 /// A stop at any moment leaves it untouched, marked, or replayed, and what is marked is refused.
-pub fn walreplay<F: Tree, O: Sink>(
+pub fn walreplay<F: Tree, O: Sink, M: Manager>(
     alloc: Global,
     tree: &mut F,
     out: &mut O,
     words: &WalreplayWords,
+    custom: Option<&M>,
 ) -> Result<(), Cause>
     requires { IsFitRoot words.now.root }
     // the acts of an answer, whatever the tree is taken to have; the one that is meant where it tells
     ensures carries { (err_tells : Bool) (err : Sunk) → CarriesUnseen (IsTrue F.tells) (IsTrue F.tells)
-        (walreplay_answer (F.contents tree.old) words.now) (IsWalreplay words.now)
+        (walreplay_answer (handed_in M.Manager custom.entry) (F.contents tree.old) words.now)
+        (IsWalreplay words.now)
         O.tells err_tells (cause_of result)
         (seen (F.contents tree.old) (F.calls tree.old)
         (sunk (O.written out.old) (O.failed_writes out.old)) err)
         (seen (F.contents tree.new) (F.calls tree.new)
         (sunk (O.written out.new) (O.failed_writes out.new)) err) }
     // a replay that is done leaves what is meant, and tells it
-    ensures replayed { IsTrue F.tells → OnOk result (LeavesReplayed words.now O.tells
-        (F.contents tree.old) (F.contents tree.new) (O.written out.old) (O.written out.new)) }
+    ensures replayed { IsTrue F.tells → OnOk result (LeavesReplayed (handed_in M.Manager custom.entry)
+        words.now O.tells (F.contents tree.old) (F.contents tree.new)
+        (O.written out.old) (O.written out.new)) }
     // the log stays, and where the replay is refused behind its first change, so does its mark
-    ensures stays { IsTrue F.tells → StaysMarked words.now (F.contents tree.old) (F.contents tree.new)
-        (cause_of result) }
+    ensures stays { IsTrue F.tells → StaysMarked (handed_in M.Manager custom.entry) words.now
+        (F.contents tree.old) (F.contents tree.new) (cause_of result) }
     // this is what a stop at any moment leaves; and once the replay is done, what stands
     ensures stops { IsTrue F.tells → LeavesOnly
-        (IsLeftByWalreplay words.now (moment_of F.Tree tree.old)) (F.stops tree.old) (F.stops tree.new) }
+        (IsLeftByWalreplay (handed_in M.Manager custom.entry) words.now (moment_of F.Tree tree.old))
+        (F.stops tree.old) (F.stops tree.new) }
     ensures synced { IsTrue F.tells → OnOk result (IsDurable (moment_of F.Tree tree.new)) }
     ensures blames { (n : ℕ) → Blames (cause_of result)
         (F.failed_reads tree.old) (F.failed_reads tree.new)
@@ -62,7 +68,7 @@ pub fn walreplay<F: Tree, O: Sink>(
     ensures changed { IsTrue F.tells → (p : PathValue) → result ≢ Err (Cause.Changed p) }
     ensures frame { Came F.Tree tree.old tree.new }
 {
-    match replay(alloc, tree, &words.root) {
+    match replay_with(alloc, tree, &words.root, custom) {
         Ok(done) => tell(out, replayed_line(done).as_str()),
         Err(fault) => Err(replay_cause(fault)),
     }

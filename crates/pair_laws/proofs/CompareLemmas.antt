@@ -97,7 +97,7 @@ module _ (root : PathValue) (seed blocks : ℕ) (c c' : Contents) (target copy :
   abbrev s : Start
   s = copy_start o seed blocks
 
-  passes : start_of target.files o ≡ Ok s
+  passes : start_of None target.files o ≡ Ok s
   passes = copy-starts o seed blocks target.files pair.few stands
 
   copy_has : HasRelation o blocks target.files
@@ -135,8 +135,8 @@ module _ (root : PathValue) (seed blocks : ℕ) (c c' : Contents) (target copy :
   copied : CopyStands o seed blocks c
   copied = pair-at-c root seed blocks c pair.stands
 
-  there : StartsAs c' t s
-  there = starts-as 131072 o t c c' alike s (copy-starts o seed blocks c pair.few copied)
+  there : StartsAs None c' t s
+  there = starts-as None 131072 o t c c' alike s (copy-starts o seed blocks c pair.few copied)
 
   per : there.start.control.relseg ≡ 131072
   per = ap (λ (v : Control). v.relseg) there.control

@@ -47,14 +47,14 @@ block_at block = record { rel = pair_relation; fork = Main; block = block }
 pub record IsWhole (n : NewRecord) : Type 0 where
   pub parts : PartsView
   pub read : parts_of n.body ≡ Ok parts
-  pub known : (start end : ℕ) (before : Option ℕ) → is_in_profile (given start end before n) parts ≡ true
+  pub known : (start end : ℕ) (before : Option ℕ) → is_in_profile None (given start end before n) parts ≡ true
   pub whole : (start end : ℕ) (before : Option ℕ) → is_short (given start end before n) parts ≡ false
   pub no_map : (start end : ℕ) (before : Option ℕ) → sets_map_bits (done_by (given start end before n)) ≡ false
 
 -- .. and does nothing to a block
 pub record IsIdle (name : BlockName) (n : NewRecord) : Type 0 where
   pub whole : IsWhole n
-  pub nothing : (start end : ℕ) (before : Option ℕ) → effect_on (given start end before n) whole.parts name ≡ Nothing
+  pub nothing : (start end : ℕ) (before : Option ℕ) → effect_on None (given start end before n) whole.parts name ≡ Nothing
 
 -- ---- inserts
 
@@ -67,7 +67,7 @@ insert_placed seed block = record { block = (insert_block seed block).block; ima
 no-last : (block : ℕ) → block < 4096 → nat_eq block 0xFFFFFFFF ≡ false
 no-last block low = grind (arith, nat_tests, low)
 
-pub insert-known : (seed block : ℕ) → block < 4096 → (start end : ℕ) (before : Option ℕ) → is_in_profile (given start end before (insert_record seed block)) (insert_parts seed block) ≡ true
+pub insert-known : (seed block : ℕ) → block < 4096 → (start end : ℕ) (before : Option ℕ) → is_in_profile None (given start end before (insert_record seed block)) (insert_parts seed block) ≡ true
 unfolding operation_of heap_op_of
 insert-known seed block low start end before = let e = no-last block low in rw e refl
 
@@ -90,9 +90,9 @@ insert-whole seed block low = record {
 
 -- what it does, by whether it names the block
 abbrev by_found : (seed block : ℕ) → LogRecord → Bool → Effect
-by_found seed block rec found = by_reference (rules_of rec) rec (insert_parts seed block) (cond found (Some (insert_placed seed block)) None)
+by_found seed block rec found = by_reference (rules_of None rec) rec (insert_parts seed block) (cond found (Some (insert_placed seed block)) None)
 
-insert-effect : (seed block : ℕ) (name : BlockName) (start end : ℕ) (before : Option ℕ) → effect_on (given start end before (insert_record seed block)) (insert_parts seed block) name
+insert-effect : (seed block : ℕ) (name : BlockName) (start end : ℕ) (before : Option ℕ) → effect_on None (given start end before (insert_record seed block)) (insert_parts seed block) name
     ≡ by_found seed block (given start end before (insert_record seed block)) (is_block name (block_at block))
 unfolding operation_of heap_op_of
 insert-effect seed block name start end before = refl
@@ -109,7 +109,7 @@ unfolding operation_of heap_op_of
 by-own seed block start end before = refl
 
 pub insert-does : (seed block : ℕ) (name : BlockName) (start end : ℕ) (before : Option ℕ) → is_block name (block_at block) ≡ true
-    → effect_on (given start end before (insert_record seed block)) (insert_parts seed block) name
+    → effect_on None (given start end before (insert_record seed block)) (insert_parts seed block) name
     ≡ Change (stamped end (heap_operation (given start end before (insert_record seed block)) (insert_parts seed block) 0))
 insert-does seed block name start end before own =
     insert-effect seed block name start end before ∙ ap (by_found seed block (given start end before (insert_record seed block))) own ∙ by-own seed block start end before
@@ -127,7 +127,7 @@ pub record IsCheckpoint (cp : Checkpoint) : Type 0 where
   pub fits : AllByRecursion RowFits (checkpoint_rows 0 cp)
   pub images : slice_get (checkpoint_bytes cp) 16 ≡ Some 1
 
-pub checkpoint-known : (cp : Checkpoint) → IsCheckpoint cp → (start end : ℕ) (before : Option ℕ) → is_in_profile (given start end before (checkpoint_record cp)) no_blocks ≡ true
+pub checkpoint-known : (cp : Checkpoint) → IsCheckpoint cp → (start end : ℕ) (before : Option ℕ) → is_in_profile None (given start end before (checkpoint_record cp)) no_blocks ≡ true
 unfolding checkpoint_record operation_of xlog_op_of
 checkpoint-known cp is start end before = let e = is.images in rw e refl
 
@@ -152,7 +152,7 @@ checkpoint-whole cp is = record {
   no_map = checkpoint-no_map cp;
 }
 
-checkpoint-nothing : (cp : Checkpoint) (name : BlockName) (start end : ℕ) (before : Option ℕ) → effect_on (given start end before (checkpoint_record cp)) no_blocks name ≡ Nothing
+checkpoint-nothing : (cp : Checkpoint) (name : BlockName) (start end : ℕ) (before : Option ℕ) → effect_on None (given start end before (checkpoint_record cp)) no_blocks name ≡ Nothing
 unfolding checkpoint_record operation_of xlog_op_of
 checkpoint-nothing cp name start end before = refl
 

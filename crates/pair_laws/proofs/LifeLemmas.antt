@@ -112,11 +112,11 @@ module _ (seed blocks : ℕ) (name : BlockName) (few : blocks ≤ 4096) where
 
   abbrev Lives : Option (List ℕ) → Option (List ℕ) → Type 0
   Lives base state =
-      IsLife rules_of name common_place base (map split_of (side_records Source seed blocks))
-      × Fits (view name.block) base state (steps name (side_records Source seed blocks))
+      IsLife (rules_of None) name common_place base (map split_of (side_records Source seed blocks))
+      × Fits (view name.block) base state (steps None name (side_records Source seed blocks))
 
   life-as : (base : Option (List ℕ)) → AllByRecursion IsWhole records → IsState (view name.block) base → IsNoNewer (view name.block) common_place base
-      → RunsOn (view name.block) base (steps name (log_records first records)) → IsLife rules_of name common_place base (map split_of (side_records Source seed blocks))
+      → RunsOn (view name.block) base (steps None name (log_records first records)) → IsLife (rules_of None) name common_place base (map split_of (side_records Source seed blocks))
   life-as base whole page old runs = record {
     split = all-split records first (all-new Source seed blocks few) whole;
     rises = steps-rise name records first common_place (lit≤ tt);
@@ -129,7 +129,7 @@ module _ (seed blocks : ℕ) (name : BlockName) (few : blocks ≤ 4096) where
   lives-idle : (base : Option (List ℕ)) → AllByRecursion (IsIdle name) records → IsState (view name.block) base → IsNoNewer (view name.block) common_place base
       → Matches (view name.block) base base → Lives base base
   lives-idle base idle page old same =
-      let is : steps name (log_records first records) ≡ idle_steps first records = all-idle name records first (all-new Source seed blocks few) idle in (
+      let is : steps None name (log_records first records) ≡ idle_steps first records = all-idle name records first (all-new Source seed blocks few) idle in (
         life-as base (idle-whole name records idle) page old (subst (λ log. RunsOn (view name.block) base log) (sym is) (runs-idle (view name.block) base records first)),
         inl (zero, same),
       )
@@ -204,21 +204,21 @@ module _ (seed blocks : ℕ) (name : BlockName) (few : blocks ≤ 4096) where
     whole : AllByRecursion IsWhole (front ++ insert ∷ back)
     whole = all-both IsWhole front (insert ∷ back) (idle-whole name front before-idle) (insert-whole seed block (omega (arith, few, below)), idle-whole name back behind-idle)
 
-    does : effect_on (new_log_record at insert) (split_of (new_log_record at insert)).parts name ≡ Change change
+    does : effect_on None (new_log_record at insert) (split_of (new_log_record at insert)).parts name ≡ Change change
     does =
-        as-given (λ r parts. effect_on r parts name ≡ Change change) at insert (insert-whole seed block (omega (arith, few, below))) (new-back front (insert ∷ back) first new).0
+        as-given (λ r parts. effect_on None r parts name ≡ Change change) at insert (insert-whole seed block (omega (arith, few, below))) (new-back front (insert ∷ back) first new).0
         (insert-does seed block name (place_at (bytes_of at.origin.size) at.end) end at.before (there-own blocks name main.main there))
 
-    log : steps name (log_records first records) ≡ idle_steps first front ++ At end (Change change) ∷ idle_steps (appended at insert) back
+    log : steps None name (log_records first records) ≡ idle_steps first front ++ At end (Change change) ∷ idle_steps (appended at insert) back
     log =
-        ap (λ ns. steps name (log_records first ns)) is
+        ap (λ ns. steps None name (log_records first ns)) is
         ∙ steps-around name front insert back first (Change change) new before-idle behind-idle does
 
     changed : change blank ≡ Ok (with_lsn end (put-blank seed block))
     changed =
         ap (set_lsn_of end) (insert-operation seed block (place_at (bytes_of at.origin.size) at.end) end at.before blank ∙ redo-blank seed block)
 
-    next : stage (Some blank) (steps name (log_records first records)) (behind front) ≡ Some (with_lsn end (put-blank seed block))
+    next : stage (Some blank) (steps None name (log_records first records)) (behind front) ≡ Some (with_lsn end (put-blank seed block))
     next =
         ap (λ l. stage (Some blank) l (behind front)) log
         ∙ stage-around (Some blank) front back first (appended at insert) end (Change change)

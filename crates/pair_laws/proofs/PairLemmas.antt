@@ -104,12 +104,12 @@ module _ (root : PathValue) (seed blocks : ℕ) (c : Contents) (pair : HasPair r
       subst (λ state. Matches (view name.block) (base_of blocks name) state) (sym (page-there Target seed blocks pair.few c (target_of root) target_is target_file name main))
       (matches_by (view name.block) (is_rel name.rel pair_relation && nat_lt name.block blocks) (block_page 0 0 None) (page_of_side Target seed name.block) (base_page name none))
 
-  source_fits : (name : BlockName) → IsMainBlock name → Fits (view name.block) (base_of blocks name) (page_in (source_of root) 131072 name c) (steps name (side_records Source seed blocks))
+  source_fits : (name : BlockName) → IsMainBlock name → Fits (view name.block) (base_of blocks name) (page_in (source_of root) 131072 name c) (steps None name (side_records Source seed blocks))
   source_fits name main =
-      subst (λ state. Fits (view name.block) (base_of blocks name) state (steps name (side_records Source seed blocks)))
+      subst (λ state. Fits (view name.block) (base_of blocks name) state (steps None name (side_records Source seed blocks)))
       (sym (page-there Source seed blocks pair.few c (source_of root) source_is source_file name main)) (pair-lives seed blocks name pair.few main).1
 
-  grew_from : (other : PathValue) (name : BlockName) → IsMainBlock name → GrewFrom (base_of blocks name) c (pair_rewind root seed blocks c).aim.between (copy_start other seed blocks) name
+  grew_from : (other : PathValue) (name : BlockName) → IsMainBlock name → GrewFrom None (base_of blocks name) c (pair_rewind root seed blocks c).aim.between (copy_start other seed blocks) name
   grew_from other name main = record { life = (pair-lives seed blocks name pair.few main).0; source = source_fits name main; target = λ some unwanted. target_matches name main unwanted }
 
   pub own-copy : HasCopy root (copy_of root) seed blocks c
@@ -122,7 +122,7 @@ module _ (root : PathValue) (seed blocks : ℕ) (c : Contents) (pair : HasPair r
     no_deeper : length other.parts ≤ max (length (target_of root).parts) (length (source_of root).parts)
     no_deeper = let near = copy.room in omega (arith, near, length-append root.parts (codes "t" ∷ []), length-append root.parts (codes "s" ∷ []))
 
-    pub pair-grew : GrewFromOneState (base_of blocks) c (pair_rewind root seed blocks c) d other (copy_start other seed blocks)
+    pub pair-grew : GrewFromOneState None (base_of blocks) c (pair_rewind root seed blocks c) d other (copy_start other seed blocks)
     pair-grew =
         let bytes = relation_bytes Source seed blocks in
         let long = relation-long Source seed blocks in record {
@@ -145,5 +145,5 @@ pairs-grew root other seed blocks c d pair copy = record { copied = pair-copied 
 pub pairs-follow : PairsFollow
 pairs-follow root other seed blocks c c' d pair copy left =
     let grown = pairs-grew root other seed blocks c d pair copy in
-    follows c c' (target_of root) (source_of root) (pos made_at) (pair_rewind root seed blocks c) (pair-needed root seed blocks c (pos made_at) pair) left (base_of blocks) d other
+    follows None tt c c' (target_of root) (source_of root) (pos made_at) (pair_rewind root seed blocks c) (pair-needed root seed blocks c (pos made_at) pair) left (base_of blocks) d other
     (copy_start other seed blocks) grown.copied grown.grew

@@ -136,27 +136,27 @@ module _ (other : PathValue) (seed blocks : ℕ) (c : Contents) (few : blocks �
   abbrev label : LabelPlaces
   label = places_of pair_label
 
-  log-passes : with_records other control label (copy_log other) (log_of (pages_of (copy_log other) c) 0x10_0000 common_place).records ≡ Ok (copy_start other seed blocks)
+  log-passes : with_records None other control label (copy_log other) (log_of (pages_of (copy_log other) c) 0x10_0000 common_place).records ≡ Ok (copy_start other seed blocks)
   log-passes =
-      ap (with_records other control label (copy_log other)) all-read
+      ap (with_records None other control label (copy_log other)) all-read
       ∙ ap (λ o. unless o (Ok (copy_start other seed blocks))) (unrefused other seed blocks few)
 
-  label-passes : from_label c other control label ≡ Ok (copy_start other seed blocks)
+  label-passes : from_label None c other control label ≡ Ok (copy_start other seed blocks)
   unfolding from_label
   label-passes =
-      ap (λ h. given (told_by h) (λ spans. in_log c other control label (log_with other control spans))) history-said
-      ∙ ap (λ size. in_log c other control label (option_map (log_at other copy_spans) size)) size-is
+      ap (λ h. given (told_by h) (λ spans. in_log None c other control label (log_with other control spans))) history-said
+      ∙ ap (λ size. in_log None c other control label (option_map (log_at other copy_spans) size)) size-is
       ∙ log-passes
 
-  control-passes : from_control c other control ≡ Ok (copy_start other seed blocks)
+  control-passes : from_control None c other control ≡ Ok (copy_start other seed blocks)
   unfolding from_control checksums_on no_hints first_of
-  control-passes = ap (λ l. given l (from_label c other control)) label-said ∙ label-passes
+  control-passes = ap (λ l. given l (from_label None c other control)) label-said ∙ label-passes
 
-  copy-passes : start_of c other ≡ Ok (copy_start other seed blocks)
+  copy-passes : start_of None c other ≡ Ok (copy_start other seed blocks)
   unfolding start_of
   copy-passes =
-      ap (λ o. unless (option_map fault.Cluster o) (given (told_by (control_at c other)) (from_control c other))) copy-finished
-      ∙ ap (λ r. given (told_by r) (from_control c other)) control-said
+      ap (λ o. unless (option_map fault.Cluster o) (given (told_by (control_at c other)) (from_control None c other))) copy-finished
+      ∙ ap (λ r. given (told_by r) (from_control None c other)) control-said
       ∙ control-passes
 
 pub copy-starts : CopyStarts

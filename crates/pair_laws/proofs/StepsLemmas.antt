@@ -1,5 +1,5 @@
 -- The steps of a log in which all records but one do nothing to a block.
-use Rattle.std.proofs.Common.{◌≡◌, ℕ, zero, suc, ◌≤◌, List, [], ◌∷◌, ◌++◌, map, Option, Ok, refl, ap, ap₂, sym, subst, arith}
+use Rattle.std.proofs.Common.{None, ◌≡◌, ℕ, zero, suc, ◌≤◌, List, [], ◌∷◌, ◌++◌, map, Option, Ok, refl, ap, ap₂, sym, subst, arith}
 use Rattle.std.specs.List.{AllByRecursion, fold}
 use Rattle.block_effects.specs.Lives.{AreSplit}
 use Rattle.block_refs.specs.Outcomes.{start_of, told}
@@ -37,9 +37,9 @@ as-given P w n whole new holds =
     subst (λ rec. P rec (split_of rec).parts) (sym (new-given w n new)) (subst (λ parts. P (given_in w n) parts) (sym (parts-read (given_in w n) whole.parts whole.read)) holds)
 
 pub idle-at : (name : BlockName) (w : Written) (n : NewRecord) → IsNew w.before n → IsIdle name n
-    → effect_on (new_log_record w n) (split_of (new_log_record w n)).parts name ≡ Nothing
+    → effect_on None (new_log_record w n) (split_of (new_log_record w n)).parts name ≡ Nothing
 idle-at name w n new idle =
-    as-given (λ rec parts. effect_on rec parts name ≡ Nothing) w n idle.whole new (idle.nothing (place_at (bytes_of w.origin.size) w.end) (end_from w.origin w.before w.end n) w.before)
+    as-given (λ rec parts. effect_on None rec parts name ≡ Nothing) w n idle.whole new (idle.nothing (place_at (bytes_of w.origin.size) w.end) (end_from w.origin w.before w.end n) w.before)
 
 -- ---- steps
 
@@ -48,7 +48,7 @@ abbrev pub idle_steps : Written → List NewRecord → List Step
 idle_steps w [] = []
 idle_steps w (n ∷ ns) = At (end_from w.origin w.before w.end n) Nothing ∷ idle_steps (appended w n) ns
 
-pub all-idle : (name : BlockName) (ns : List NewRecord) (w : Written) → AllNew w ns → AllByRecursion (IsIdle name) ns → steps name (log_records w ns) ≡ idle_steps w ns
+pub all-idle : (name : BlockName) (ns : List NewRecord) (w : Written) → AllNew w ns → AllByRecursion (IsIdle name) ns → steps None name (log_records w ns) ≡ idle_steps w ns
 all-idle name [] w new idle = refl
 all-idle name (n ∷ ns) w new idle =
     ap₂ (λ e rest. At (end_from w.origin w.before w.end n) e ∷ rest) (idle-at name w n new.0 idle.0) (all-idle name ns (appended w n) new.2 idle.1)
@@ -56,8 +56,8 @@ all-idle name (n ∷ ns) w new idle =
 -- all but one
 pub steps-around : (name : BlockName) (front : List NewRecord) (n : NewRecord) (back : List NewRecord) (w : Written) (effect : Effect) → AllNew w (front ++ n ∷ back)
     → AllByRecursion (IsIdle name) front → AllByRecursion (IsIdle name) back
-    → effect_on (new_log_record (fold appended w front) n) (split_of (new_log_record (fold appended w front) n)).parts name ≡ effect
-    → steps name (log_records w (front ++ n ∷ back))
+    → effect_on None (new_log_record (fold appended w front) n) (split_of (new_log_record (fold appended w front) n)).parts name ≡ effect
+    → steps None name (log_records w (front ++ n ∷ back))
     ≡ idle_steps w front ++ At (end_from (fold appended w front).origin (fold appended w front).before (fold appended w front).end n) effect ∷ idle_steps (appended (fold appended w front) n) back
 steps-around name [] n back w effect new before behind is =
     ap₂ (λ e rest. At (end_from w.origin w.before w.end n) e ∷ rest) is (all-idle name back (appended w n) new.2 behind)
@@ -86,7 +86,7 @@ stage-around state [] back w u end effect = refl
 stage-around state (n ∷ front) back w u end effect = stage-around state front back (appended w n) u end effect
 
 -- ends rise
-pub steps-rise : (name : BlockName) (ns : List NewRecord) (w : Written) (low : ℕ) → low ≤ place_at (bytes_of w.origin.size) w.end → EndsRise low (steps name (log_records w ns))
+pub steps-rise : (name : BlockName) (ns : List NewRecord) (w : Written) (low : ℕ) → low ≤ place_at (bytes_of w.origin.size) w.end → EndsRise low (steps None name (log_records w ns))
 steps-rise name [] w low h = tt
 steps-rise name (n ∷ ns) w low h =
     let next : end_from w.origin w.before w.end n ≤ place_at (bytes_of (appended w n).origin.size) (appended w n).end =

@@ -45,18 +45,18 @@ use Rattle.pair_laws.proofs.StepsLemmas.{as-given}
 
 -- ---- all are of the profile
 
-judged-given : (w : Written) (n : NewRecord) (whole : IsWhole n) → judged (given_in w n) ≡ Ok whole.parts
+judged-given : (w : Written) (n : NewRecord) (whole : IsWhole n) → judged None (given_in w n) ≡ Ok whole.parts
 judged-given w n whole =
-    ap (λ p. judged_by (given_in w n) (told (start_of (given_in w n)) p)) whole.read
+    ap (λ p. judged_by None (given_in w n) (told (start_of (given_in w n)) p)) whole.read
     ∙ ap (λ b. cond b (Ok whole.parts) (Err (outside (given_in w n)))) (whole.known (place_at (bytes_of w.origin.size) w.end) (end_from w.origin w.before w.end n) w.before)
 
-judged-read : (w : Written) (n : NewRecord) (whole : IsWhole n) → IsNew w.before n → judged (new_log_record w n) ≡ Ok (split_of (new_log_record w n)).parts
-judged-read w n whole new = as-given (λ rec parts. judged rec ≡ Ok parts) w n whole new (judged-given w n whole)
+judged-read : (w : Written) (n : NewRecord) (whole : IsWhole n) → IsNew w.before n → judged None (new_log_record w n) ≡ Ok (split_of (new_log_record w n)).parts
+judged-read w n whole new = as-given (λ rec parts. judged None rec ≡ Ok parts) w n whole new (judged-given w n whole)
 
-none-outside : (ns : List NewRecord) (w : Written) → AllNew w ns → AllByRecursion IsWhole ns → first_outside (log_records w ns) ≡ None
+none-outside : (ns : List NewRecord) (w : Written) → AllNew w ns → AllByRecursion IsWhole ns → first_outside None (log_records w ns) ≡ None
 none-outside [] w new whole = refl
 none-outside (n ∷ ns) w new whole =
-    ap (λ j. profile.first_of j (first_outside (log_records (appended w n) ns))) (judged-read w n whole.0 new.0) ∙ none-outside ns (appended w n) new.2 whole.1
+    ap (λ j. profile.first_of j (first_outside None (log_records (appended w n) ns))) (judged-read w n whole.0 new.0) ∙ none-outside ns (appended w n) new.2 whole.1
 
 -- ---- the last one ends behind its place
 
@@ -107,11 +107,11 @@ any-labels side seed blocks few =
 
 -- ---- all
 
-pub unrefused : (root : PathValue) (seed blocks : ℕ) → blocks ≤ 4096 → log_refusal root (copy_control seed blocks) label (side_records Source seed blocks) ≡ None
+pub unrefused : (root : PathValue) (seed blocks : ℕ) → blocks ≤ 4096 → log_refusal None root (copy_control seed blocks) label (side_records Source seed blocks) ≡ None
 unfolding log_refusal first_of
 unrefused root seed blocks few =
     let records : List LogRecord = side_records Source seed blocks in
-    let inside : first_outside records ≡ None = none-outside (records_of Source seed blocks) (begun (origin_of Source)) (all-new Source seed blocks few) (all-whole Source seed blocks few) in
+    let inside : first_outside None records ≡ None = none-outside (records_of Source seed blocks) (begun (origin_of Source)) (all-new Source seed blocks few) (all-whole Source seed blocks few) in
     let soon : ends_too_soon (last_place Source seed blocks) (end_after common_place records) ≡ None = not-soon (last_place Source seed blocks) (end_after common_place records) (late-enough Source seed blocks common_place) in
     ap (λ o. first_of (option_map of_profile o ∷ ends_too_soon (last_place Source seed blocks) (end_after common_place records) ∷ unlabelled root (list_any (is_labelled label) records) ∷ [])) inside
     ∙ ap (λ o. first_of (o ∷ unlabelled root (list_any (is_labelled label) records) ∷ [])) soon

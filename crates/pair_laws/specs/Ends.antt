@@ -1,6 +1,6 @@
 -- A pair that is tried in one tree: its target is rewound and then replayed, and its copy is replayed behind it; both end as the same cluster.
 -- Own: "A pair from a number", "Clusters that grew from one state".
-use Rattle.std.specs.Prelude.{◌≡◌, ℕ, Ok}
+use Rattle.std.specs.Prelude.{None, ◌≡◌, ℕ, Ok}
 use Rattle.cluster_compare.specs.Same.{IsSameCluster}
 use Rattle.cluster_tree.specs.Contents.{Contents, IsTree, entry_at}
 use Rattle.cluster_tree.specs.PathValue.{Holds, PathValue}
@@ -20,10 +20,10 @@ CopyStays = (root : PathValue) (seed blocks : ℕ) (c d : Contents) → HasPair 
 -- the target is rewound, and replayed; then the copy is
 pub record IsTried (root : PathValue) (seed blocks : ℕ) (c c' : Contents) (target copy : After) : Type 0 where
   pub rewound : IsRewound c (pair_rewind root seed blocks c) c'
-  pub target_ends : after_replay c' (target_of root) ≡ Ok target
+  pub target_ends : after_replay None c' (target_of root) ≡ Ok target
   pub target_alone : StaysBut (target_of root) c' target.files
   pub tree : IsTree target.files
-  pub copy_ends : after_replay target.files (copy_of root) ≡ Ok copy
+  pub copy_ends : after_replay None target.files (copy_of root) ≡ Ok copy
   pub copy_alone : StaysBut (copy_of root) target.files copy.files
 
 -- so what is left at both is the same cluster, of files of 131072 blocks at most

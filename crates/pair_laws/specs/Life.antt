@@ -37,8 +37,8 @@ page_of side seed blocks name = if_there blocks name (block_page seed name.block
 -- Of each block of a main fork the source's log is a life from the base on, and the source's own state is one of that life.
 abbrev pub PairLives : Type 0
 PairLives = (seed blocks : ℕ) (name : BlockName) → blocks ≤ 4096 → IsMainBlock name
-    → IsLife rules_of name common_place (base_of blocks name) (map split_of (side_records Source seed blocks))
-    × Fits (view name.block) (base_of blocks name) (page_of Source seed blocks name) (steps name (side_records Source seed blocks))
+    → IsLife (rules_of None) name common_place (base_of blocks name) (map split_of (side_records Source seed blocks))
+    × Fits (view name.block) (base_of blocks name) (page_of Source seed blocks name) (steps None name (side_records Source seed blocks))
 
 -- each of its records says enough
 abbrev pub PairSaysEnough : Type 0

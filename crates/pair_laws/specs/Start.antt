@@ -1,5 +1,5 @@
 -- What the replay of a pair's copy begins from: PostgreSQL 16, src/backend/access/transam/xlogrecovery.c, InitWalRecovery. Own: "A pair from a number".
-use Rattle.std.specs.Prelude.{◌≡◌, ℕ, pos, ◌≤◌, List, [], ◌∷◌, Ok}
+use Rattle.std.specs.Prelude.{None, ◌≡◌, ℕ, pos, ◌≤◌, List, [], ◌∷◌, Ok}
 use Rattle.backup_label.specs.Text.{places_of}
 use Rattle.cluster_tree.specs.Contents.{Contents}
 use Rattle.cluster_tree.specs.PathValue.{PathValue}
@@ -38,4 +38,4 @@ copy_start other seed blocks = record {
 
 -- the copy of a pair, wherever it stands, passes every check before a replay
 abbrev pub CopyStarts : Type 0
-CopyStarts = (other : PathValue) (seed blocks : ℕ) (d : Contents) → blocks ≤ 4096 → CopyStands other seed blocks d → start_of d other ≡ Ok (copy_start other seed blocks)
+CopyStarts = (other : PathValue) (seed blocks : ℕ) (d : Contents) → blocks ≤ 4096 → CopyStands other seed blocks d → start_of None d other ≡ Ok (copy_start other seed blocks)

@@ -19,6 +19,7 @@ use Rattle.record_effects.specs.Acts.{act_at, act_by_rules, act_on, is_map_page,
 use Rattle.record_effects.specs.Managers.{effect_on, rules_of}
 use Rattle.record_effects.specs.declared.acts.Act.{Act}
 use Rattle.record_effects.specs.declared.acts.Act.TheVariants.{Image}
+use Rattle.rmgr_hooks.specs.Custom.{Extension}
 
 both : (a b : Bool) → (a && b) ≡ true → (a ≡ true) × (b ≡ true)
 both true b e = (refl, e)
@@ -61,45 +62,45 @@ found_self (x ∷ xs) (suc at) placed known e =
     other_way true h differ = cc (is_block_sym placed.block.name x.block.name h, differ)
     other_way false h differ = h
 
-module _ (rec : LogRecord) (parts : PartsView) (placed : Placed) (named : block_with placed.block.id parts.blocks ≡ Some placed) where
+module _ (custom : Option Extension) (rec : LogRecord) (parts : PartsView) (placed : Placed) (named : block_with placed.block.id parts.blocks ≡ Some placed) where
   abbrev Done : Act → Effect → Type 0
-  Done act done = IsDone rec parts placed.block.id act done
+  Done act done = IsDone custom rec parts placed.block.id act done
 
-  by_fresh : (b : Bool) → (rules_of rec).fresh rec parts placed.block.id ≡ b → (is_main placed.block.name.fork && (rules_of rec).acts rec parts placed.block.id) ≡ true
-      → Done (act_by_rules rec parts placed.block) (by_rules (rules_of rec) rec parts placed)
+  by_fresh : (b : Bool) → (rules_of custom rec).fresh rec parts placed.block.id ≡ b → (is_main placed.block.name.fork && (rules_of custom rec).acts rec parts placed.block.id) ≡ true
+      → Done (act_by_rules custom rec parts placed.block) (by_rules (rules_of custom rec) rec parts placed)
   by_fresh true e acts = rw (acts, e) refl
   by_fresh false e acts = rw (acts, e) refl
 
-  by_map : (b : Bool) → is_map_page rec placed.block ≡ b → (is_main placed.block.name.fork && (rules_of rec).acts rec parts placed.block.id) ≡ false
-      → Done (act_by_rules rec parts placed.block) (by_rules (rules_of rec) rec parts placed)
+  by_map : (b : Bool) → is_map_page rec placed.block ≡ b → (is_main placed.block.name.fork && (rules_of custom rec).acts rec parts placed.block.id) ≡ false
+      → Done (act_by_rules custom rec parts placed.block) (by_rules (rules_of custom rec) rec parts placed)
   by_map true e acts = rw (acts, e) refl
   by_map false e acts = rw (acts, e) refl
 
-  rules_done : (b : Bool) → (is_main placed.block.name.fork && (rules_of rec).acts rec parts placed.block.id) ≡ b → Done (act_by_rules rec parts placed.block) (by_rules (rules_of rec) rec parts placed)
-  rules_done true e = by_fresh ((rules_of rec).fresh rec parts placed.block.id) refl e
+  rules_done : (b : Bool) → (is_main placed.block.name.fork && (rules_of custom rec).acts rec parts placed.block.id) ≡ b → Done (act_by_rules custom rec parts placed.block) (by_rules (rules_of custom rec) rec parts placed)
+  rules_done true e = by_fresh ((rules_of custom rec).fresh rec parts placed.block.id) refl e
   rules_done false e = by_map (is_map_page rec placed.block) refl e
 
   page_is : (image : ImageRef) → placed.block.image ≡ Some image → page_of rec.body parts placed.block.id ≡ Some (filled image (stored_image rec.body parts placed))
   page_is image is = rw (named, is) refl
 
   image_done : (image : Option ImageRef) → placed.block.image ≡ image
-      → Done (if is_some (applied image) then Image else act_by_rules rec parts placed.block) (by_image_or (rules_of rec) rec parts placed (applied image))
-  image_done None is = rules_done (is_main placed.block.name.fork && (rules_of rec).acts rec parts placed.block.id) refl
+      → Done (if is_some (applied image) then Image else act_by_rules custom rec parts placed.block) (by_image_or (rules_of custom rec) rec parts placed (applied image))
+  image_done None is = rules_done (is_main placed.block.name.fork && (rules_of custom rec).acts rec parts placed.block.id) refl
   image_done (Some image) is = by_case image.apply refl
     where
-      by_case : (b : Bool) → image.apply ≡ b → Done (if is_some (applied (Some image)) then Image else act_by_rules rec parts placed.block) (by_image_or (rules_of rec) rec parts placed (applied (Some image)))
+      by_case : (b : Bool) → image.apply ≡ b → Done (if is_some (applied (Some image)) then Image else act_by_rules custom rec parts placed.block) (by_image_or (rules_of custom rec) rec parts placed (applied (Some image)))
       by_case true e = rw e (filled image (stored_image rec.body parts placed), page_is image is, refl)
-      by_case false e = rw e (rules_done (is_main placed.block.name.fork && (rules_of rec).acts rec parts placed.block.id) refl)
+      by_case false e = rw e (rules_done (is_main placed.block.name.fork && (rules_of custom rec).acts rec parts placed.block.id) refl)
 
-  placed_done : (b : Bool) → is_left placed.block.name.fork ≡ b → Done (act_at rec parts placed.block) (by_placed (rules_of rec) rec parts placed)
+  placed_done : (b : Bool) → is_left placed.block.name.fork ≡ b → Done (act_at custom rec parts placed.block) (by_placed (rules_of custom rec) rec parts placed)
   placed_done true e = rw e refl
   placed_done false e = rw e (image_done placed.block.image refl)
 
-  done : (b : Bool) → is_gone rec parts placed.block.name ≡ b → reference_to placed.block.name parts.blocks ≡ Some placed → Done (act_on rec parts placed.block) (effect_on rec parts placed.block.name)
+  done : (b : Bool) → is_gone rec parts placed.block.name ≡ b → reference_to placed.block.name parts.blocks ≡ Some placed → Done (act_on custom rec parts placed.block) (effect_on custom rec parts placed.block.name)
   done true e found = rw e refl
   done false e found = rw (e, found) (placed_done (is_left placed.block.name.fork) refl)
 
-pub acts_done : (rec : LogRecord) (parts : PartsView) (at : ℕ) (placed : Placed) → ArePartsOf rec parts → are_known parts.blocks ≡ true → slice_get parts.blocks at ≡ Some placed
-    → IsDone rec parts placed.block.id (act_on rec parts placed.block) (effect_on rec parts placed.block.name)
-acts_done rec parts at placed of_rec known there =
-    done rec parts placed (id_names rec.body parts at placed (has_parts rec.body parts of_rec) there) (is_gone rec parts placed.block.name) refl (found_self parts.blocks at placed known there)
+pub acts_done : (custom : Option Extension) (rec : LogRecord) (parts : PartsView) (at : ℕ) (placed : Placed) → ArePartsOf rec parts → are_known parts.blocks ≡ true → slice_get parts.blocks at ≡ Some placed
+    → IsDone custom rec parts placed.block.id (act_on custom rec parts placed.block) (effect_on custom rec parts placed.block.name)
+acts_done custom rec parts at placed of_rec known there =
+    done custom rec parts placed (id_names rec.body parts at placed (has_parts rec.body parts of_rec) there) (is_gone rec parts placed.block.name) refl (found_self parts.blocks at placed known there)

@@ -1,10 +1,12 @@
 -- The rules of the server's own resource managers: PostgreSQL 16, src/include/access/rmgrlist.h; of XLOG,
 -- src/backend/access/transam/xlog.c, xlog_redo. Own: "Effects of records".
-use Rattle.std.specs.Prelude.{ℕ, List, Bool, true, false, Err}
+use Rattle.std.specs.Prelude.{ℕ, ◌==◌, List, Bool, true, false, Option, Some, None, Err, if◌then◌else◌}
+use Rattle.block_refs.specs.Bytes.{block_bytes, main_bytes}
 use Rattle.block_refs.specs.Parts.{PartsView}
 use Rattle.block_refs.specs.declared.names.BlockName.{BlockName}
 use Rattle.page_layout.specs.declared.refusal.RedoWhy.TheVariants.{Layout}
 use Rattle.page_masks.specs.Law.{Redone}
+use Rattle.redo_steps.specs.Redo.{laid_out}
 use Rattle.record_layouts.specs.Operation.{operation_of}
 use Rattle.record_layouts.specs.declared.operation.Operation.{Operation}
 use Rattle.record_layouts.specs.declared.operation.Operation.TheVariants as op
@@ -17,6 +19,7 @@ use Rattle.block_effects.specs.Rules.{BlockRules, no_rules}
 use Rattle.btree_replay.specs.Operation.{btree_acts, btree_fresh, btree_operation}
 use Rattle.heap_replay.specs.Operation.{heap_acts, heap_fresh, heap_operation}
 use Rattle.storage_pages.specs.SequencePage.{sequence_acts, sequence_operation}
+use Rattle.rmgr_hooks.specs.Custom.{Extension}
 
 -- what a record does
 abbrev pub done_by : LogRecord → Operation
@@ -62,9 +65,22 @@ rules_for (op.Btree o) = btree_rules
 rules_for (op.Sequence o) = sequence_rules
 rules_for _ = no_rules
 
-abbrev pub rules_of : LogRecord → BlockRules
-rules_of rec = rules_for (done_by rec)
+-- a manager of an extension makes each block of its records anew or changes it, as it states; a block that isn't one of the record contradicts it
+abbrev pub extension_fresh : Extension → LogRecord → PartsView → ℕ → Bool
+extension_fresh e rec parts id = e.is_fresh rec.header.info id
+
+abbrev pub extension_operation : Extension → LogRecord → PartsView → ℕ → List ℕ → Redone
+extension_operation e rec parts id p =
+    laid_out (block_bytes rec.body parts id) (λ block. e.change rec.header.info id (main_bytes rec.body parts) block p)
+
+abbrev pub extension_rules : Extension → BlockRules
+extension_rules e = record { acts = λ rec parts id. true; fresh = extension_fresh e; operation = extension_operation e }
+
+-- the rules of a record: those of the manager of an extension for its own records, where one is handed in
+abbrev pub rules_of : Option Extension → LogRecord → BlockRules
+rules_of None rec = rules_for (done_by rec)
+rules_of (Some e) rec = if rec.header.manager == e.id then extension_rules e else rules_for (done_by rec)
 
 -- the effect of a record of these parts on a block
-abbrev pub effect_on : LogRecord → PartsView → BlockName → Effect
-effect_on rec parts name = effect_by (rules_of rec) rec parts name
+abbrev pub effect_on : Option Extension → LogRecord → PartsView → BlockName → Effect
+effect_on custom rec parts name = effect_by (rules_of custom rec) rec parts name

@@ -4,13 +4,15 @@ ghost use Rattle.std.specs.Prelude.{◌≡◌, is_some};
 ghost use Rattle.block_refs.specs.Parts.{ArePartsOf};
 ghost use Rattle.block_effects.specs.Effects.{applied, is_left};
 ghost use Rattle.block_effects.specs.Gone.{is_main};
+ghost use Rattle.rmgr_hooks.specs.Custom.{handed_in};
 ghost use Rattle.record_effects.specs.Acts.{act_at, act_by_rules, act_on, is_map, is_map_page, is_visible, made_or_changed, sets_map_bits};
-ghost use Rattle.record_effects.specs.Managers.{done_by, is_full_page, rules_of};
+ghost use Rattle.record_effects.specs.Managers.{done_by, is_full_page, rules_for, rules_of};
 
 use block_effects::is_gone;
 use block_refs::{BlockRef, Fork, ImageRef, Parts};
 use heap_replay::{acts_on, makes_anew};
 use record_layouts::{Heap2Op, Operation, XlogOp};
+use rmgr_hooks::Manager;
 use storage_pages::makes_sequence;
 use wal_records::Record;
 
@@ -109,12 +111,13 @@ fn is_map_page(rec: &Record, block: &BlockRef) -> bool
     sets_map_bits(done_by(rec)) && block.id == 0 && is_map(block.name.fork)
 }
 
-/// Whether the manager's operation does something to the page of the reference with an id.
-fn acts(rec: &Record, parts: &Parts, id: u8) -> bool
+/// Whether the operation of one of the server's own managers does something to the page of the reference
+/// with an id.
+fn acts_by(op: Operation, rec: &Record, parts: &Parts, id: u8) -> bool
     requires parts { ArePartsOf rec.now parts.now }
-    ensures { result ≡ (rules_of rec.now).acts rec.now parts.now id }
+    requires op { op ≡ done_by rec.now }
+    ensures { result ≡ (rules_for op).acts rec.now parts.now id }
 {
-    let op = done_by(rec);
     match op {
         Operation::Xlog(op) => is_full_page(op),
         Operation::Heap(_) | Operation::Heap2(_) => acts_on(op, id),
@@ -124,12 +127,24 @@ fn acts(rec: &Record, parts: &Parts, id: u8) -> bool
     }
 }
 
-/// Whether it makes the page anew.
-fn is_fresh(rec: &Record, parts: &Parts, id: u8) -> bool
+/// Whether the manager's operation does something to it.
+fn acts<M: Manager>(rec: &Record, parts: &Parts, id: u8, custom: Option<&M>) -> bool
     requires parts { ArePartsOf rec.now parts.now }
-    ensures { result ≡ (rules_of rec.now).fresh rec.now parts.now id }
+    ensures { result ≡ (rules_of (handed_in M.Manager custom.entry) rec.now).acts
+        rec.now parts.now id }
 {
-    let op = done_by(rec);
+    match custom {
+        Some(_) if rec.header().manager == M::ID => true,
+        _ => acts_by(done_by(rec), rec, parts, id),
+    }
+}
+
+/// Whether the operation of one of the server's own managers makes the page anew.
+fn is_fresh_by(op: Operation, rec: &Record, parts: &Parts, id: u8) -> bool
+    requires parts { ArePartsOf rec.now parts.now }
+    requires op { op ≡ done_by rec.now }
+    ensures { result ≡ (rules_for op).fresh rec.now parts.now id }
+{
     match op {
         Operation::Xlog(op) => is_full_page(op),
         Operation::Heap(_) | Operation::Heap2(_) => makes_anew(op) && id == 0,
@@ -139,23 +154,47 @@ fn is_fresh(rec: &Record, parts: &Parts, id: u8) -> bool
     }
 }
 
-fn made_or_changed(rec: &Record, parts: &Parts, block: &BlockRef) -> Act
+/// Whether the manager makes the page anew.
+fn is_fresh<M: Manager>(rec: &Record, parts: &Parts, id: u8, custom: Option<&M>) -> bool
     requires parts { ArePartsOf rec.now parts.now }
-    ensures { result ≡ made_or_changed rec.now parts.now block.now }
+    ensures { result ≡ (rules_of (handed_in M.Manager custom.entry) rec.now).fresh
+        rec.now parts.now id }
 {
-    if is_fresh(rec, parts, block.id) {
+    let header = rec.header();
+    match custom {
+        Some(manager) if header.manager == M::ID => manager.is_fresh(header.info, id),
+        _ => is_fresh_by(done_by(rec), rec, parts, id),
+    }
+}
+
+fn made_or_changed<M: Manager>(
+    rec: &Record,
+    parts: &Parts,
+    block: &BlockRef,
+    custom: Option<&M>,
+) -> Act
+    requires parts { ArePartsOf rec.now parts.now }
+    ensures { result ≡ made_or_changed (handed_in M.Manager custom.entry) rec.now parts.now
+        block.now }
+{
+    if is_fresh(rec, parts, block.id, custom) {
         Act::Make
     } else {
         Act::Change
     }
 }
 
-fn act_by_rules(rec: &Record, parts: &Parts, block: &BlockRef) -> Act
+fn act_by_rules<M: Manager>(
+    rec: &Record,
+    parts: &Parts,
+    block: &BlockRef,
+    custom: Option<&M>,
+) -> Act
     requires parts { ArePartsOf rec.now parts.now }
-    ensures { result ≡ act_by_rules rec.now parts.now block.now }
+    ensures { result ≡ act_by_rules (handed_in M.Manager custom.entry) rec.now parts.now block.now }
 {
-    if is_main(block.name.fork) && acts(rec, parts, block.id) {
-        return made_or_changed(rec, parts, block);
+    if is_main(block.name.fork) && acts(rec, parts, block.id, custom) {
+        return made_or_changed(rec, parts, block, custom);
     }
     if is_map_page(rec, block) {
         return Act::MapPage;
@@ -163,9 +202,9 @@ fn act_by_rules(rec: &Record, parts: &Parts, block: &BlockRef) -> Act
     Act::Nothing
 }
 
-fn act_at(rec: &Record, parts: &Parts, block: &BlockRef) -> Act
+fn act_at<M: Manager>(rec: &Record, parts: &Parts, block: &BlockRef, custom: Option<&M>) -> Act
     requires parts { ArePartsOf rec.now parts.now }
-    ensures { result ≡ act_at rec.now parts.now block.now }
+    ensures { result ≡ act_at (handed_in M.Manager custom.entry) rec.now parts.now block.now }
 {
     if is_left(block.name.fork) {
         return Act::Nothing;
@@ -173,19 +212,20 @@ fn act_at(rec: &Record, parts: &Parts, block: &BlockRef) -> Act
     if is_applied(block.image) {
         return Act::Image;
     }
-    act_by_rules(rec, parts, block)
+    act_by_rules(rec, parts, block, custom)
 }
 
 /// What replay does at a reference of a record: nothing where the record takes the block away, nor
 /// where it is of the free space map; an image that is applied is put in place; else its manager
-/// makes the page of a main fork anew or changes it, and VISIBLE sets bits of the map's page. The
+/// makes the page of a main fork anew or changes it, of the records of an extension the one that is
+/// handed in, and VISIBLE sets bits of the map's page. The
 /// parts have to be those of the record, and the reference one of them.
-pub fn act_on(rec: &Record, parts: &Parts, block: &BlockRef) -> Act
+pub fn act_on<M: Manager>(rec: &Record, parts: &Parts, block: &BlockRef, custom: Option<&M>) -> Act
     requires parts { ArePartsOf rec.now parts.now }
-    ensures { result ≡ act_on rec.now parts.now block.now }
+    ensures { result ≡ act_on (handed_in M.Manager custom.entry) rec.now parts.now block.now }
 {
     if is_gone(rec, parts, block.name) {
         return Act::Gone;
     }
-    act_at(rec, parts, block)
+    act_at(rec, parts, block, custom)
 }

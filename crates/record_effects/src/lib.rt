@@ -6,5 +6,5 @@ mod laws;
 mod page;
 
 pub use acts::{Act, act_on};
-pub use laws::acts_are_effects;
+pub use laws::{acts_are_effects, extensions_keep_rules};
 pub use page::redo;

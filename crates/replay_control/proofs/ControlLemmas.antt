@@ -1,6 +1,6 @@
 -- The control file keeps the rules of its fields.
-use Rattle.std.proofs.Common.{◌≡◌, ◌<◌, ◌≤◌, ◌-◌, ◌^◌, ℕ, Bool, true, false, List, Option, None, Some, refl, ap, subst, sym, ◌∙◌, arith, nat_le}
-use Rattle.std.specs.Prelude.{ℤ, pos, negsuc, ◌&&◌, ◌==◌, int_le, IfSome}
+use Rattle.std.proofs.Common.{◌≡◌, ◌<◌, ◌-◌, ◌^◌, ℕ, true, List, Option, None, Some, refl, subst, arith, nat_le}
+use Rattle.std.specs.Prelude.{ℤ, pos, negsuc, ◌&&◌, IfSome}
 use Rattle.std.proofs.lemmas.Bool.{and_parts}
 use Rattle.std.proofs.lemmas.Bool.Decides.{nat_tests}
 use Rattle.block_refs.specs.Bytes.{main_bytes}
@@ -11,7 +11,6 @@ use Rattle.control_file.specs.Rows.{head_rows, checkpoint_rows, recovery_rows, s
 use Rattle.control_file.specs.declared.checkpoint.Checkpoint.{Checkpoint}
 use Rattle.control_file.specs.declared.control.Control.{Control}
 use Rattle.record_layouts.proofs.PrefixLemmas.{checkpoints, parameters}
-use Rattle.record_layouts.specs.PrefixLaws.{checkpoint_there, parameters_there}
 use Rattle.record_layouts.specs.Xlog.{parameter_change_of}
 use Rattle.record_layouts.specs.XlogPrefixes.{checkpoint_prefix_of, parameter_prefix_of}
 use Rattle.record_layouts.specs.declared.operation.Operation.{Operation}
@@ -21,12 +20,12 @@ use Rattle.record_layouts.specs.declared.xlog.XlogOp.{XlogOp}
 use Rattle.record_layouts.specs.declared.xlog.XlogOp.TheVariants as xlog
 use Rattle.replay_profile.specs.Fields.{takes_fields, takes_xlog}
 use Rattle.replay_profile.specs.Names.{are_known}
-use Rattle.replay_profile.specs.Operations.{is_known_operation}
-use Rattle.replay_profile.specs.Profile.{done_by, is_in_profile}
-use Rattle.replay_profile.specs.Values.{has_counts, has_modes, is_known_change, is_known_checkpoint, is_level, is_set}
+use Rattle.replay_profile.specs.Profile.{done_by, is_in_profile, is_known}
+use Rattle.replay_profile.specs.Values.{is_known_change, is_known_checkpoint, is_level, is_set}
 use Rattle.wal_records.specs.Reading.{LogRecord}
 use Rattle.replay_control.specs.Following.{AreSmall, control_left, counted, with_checkpoint, with_settings}
 use Rattle.replay_control.specs.Said.{change_by, change_by_xlog, change_said, checkpoint_by, checkpoint_by_xlog, checkpoint_said}
+use Rattle.rmgr_hooks.specs.Custom.{Extension}
 
 -- a checkpoint's copy has one rule, of its flag
 checkpoint-keeps : (start : ℕ) (cp : Checkpoint) (control : Control) → nat_le cp.fpw 1 ≡ true → IsControl control → IsControl (with_checkpoint start (Some cp) control)
@@ -105,9 +104,9 @@ fit_by : (o : Operation) (main : List ℕ) (change : ParameterChange) → AreSma
 fit_by (op.Xlog o) main change small is takes = fit_by_xlog o main change small is takes
 fit_by _ main change small is takes = grind (arith, is)
 
-takes_of : (rec : LogRecord) (parts : PartsView) → is_in_profile rec parts ≡ true → takes_fields (done_by rec) (main_bytes rec.body parts) ≡ true
-takes_of rec parts in_profile =
-    (and_parts (are_known parts.blocks && is_known_operation (done_by rec)) (takes_fields (done_by rec) (main_bytes rec.body parts)) in_profile).1
+takes_of : (custom : Option Extension) (rec : LogRecord) (parts : PartsView) → is_in_profile custom rec parts ≡ true → takes_fields (done_by rec) (main_bytes rec.body parts) ≡ true
+takes_of custom rec parts in_profile =
+    (and_parts (are_known parts.blocks && is_known custom rec) (takes_fields (done_by rec) (main_bytes rec.body parts)) in_profile).1
 
 checkpoint_or : (start : ℕ) (said : Option Checkpoint) (control : Control) → ((cp : Checkpoint) → said ≡ Some cp → nat_le cp.fpw 1 ≡ true) → IsControl control → IsControl (with_checkpoint start said control)
 checkpoint_or start None control flag is = is
@@ -120,9 +119,9 @@ settings_or (Some change) control fit is = settings-keep change control (fit cha
 small_of : (said : Option ParameterChange) (change : ParameterChange) → IfSome said AreSmall → said ≡ Some change → AreSmall change
 small_of said change small is = subst (λ s. IfSome s AreSmall) is small
 
-pub after-keeps : (start : ℕ) (rec : LogRecord) (parts : PartsView) (control : Control) → IfSome (change_said rec parts) AreSmall → is_in_profile rec parts ≡ true → IsControl control
+pub after-keeps : (custom : Option Extension) (start : ℕ) (rec : LogRecord) (parts : PartsView) (control : Control) → IfSome (change_said rec parts) AreSmall → is_in_profile custom rec parts ≡ true → IsControl control
     → IsControl (with_settings (change_said rec parts) (with_checkpoint start (checkpoint_said rec parts) control))
-after-keeps start rec parts control small in_profile is =
+after-keeps custom start rec parts control small in_profile is =
     settings_or (change_said rec parts) (with_checkpoint start (checkpoint_said rec parts) control)
-    (λ change said. fit_by (done_by rec) (main_bytes rec.body parts) change (small_of (change_said rec parts) change small said) said (takes_of rec parts in_profile))
-    (checkpoint_or start (checkpoint_said rec parts) control (λ cp said. flag_by (done_by rec) (main_bytes rec.body parts) cp said (takes_of rec parts in_profile)) is)
+    (λ change said. fit_by (done_by rec) (main_bytes rec.body parts) change (small_of (change_said rec parts) change small said) said (takes_of custom rec parts in_profile))
+    (checkpoint_or start (checkpoint_said rec parts) control (λ cp said. flag_by (done_by rec) (main_bytes rec.body parts) cp said (takes_of custom rec parts in_profile)) is)

@@ -1,8 +1,9 @@
 //! The control file as replay takes it along, and as it leaves it.
 
-ghost use Rattle.std.specs.Prelude.{◌≡◌, ◌<◌, ◌^◌, IfSome, true};
+ghost use Rattle.std.specs.Prelude.{◌≡◌, ◌<◌, ◌^◌, IfSome, Option, true};
 ghost use Rattle.block_refs.specs.Parts.{ArePartsOf};
 ghost use Rattle.control_file.specs.Admission.{IsControl};
+ghost use Rattle.rmgr_hooks.specs.Custom.{Extension};
 ghost use Rattle.replay_profile.specs.Profile.{is_in_profile};
 ghost use Rattle.replay_control.specs.Following.{AreSmall, control_after, control_left, counted, with_checkpoint, with_settings};
 
@@ -61,7 +62,8 @@ fn with_settings(said: Option<ParameterChange>, control: &Control) -> Control
 pub fn control_after(rec: &Record, parts: &Parts, control: &Control) -> Control
     requires parts { ArePartsOf rec.now parts.now }
     ensures value { result ≡ control_after rec.now parts.now control.now }
-    ensures control { is_in_profile rec.now parts.now ≡ true → IsControl control.now → IsControl result }
+    ensures control { (custom : Option Extension) → is_in_profile custom rec.now parts.now ≡ true →
+        IsControl control.now → IsControl result }
 {
     let followed = with_checkpoint(rec.start(), checkpoint_said(rec, parts), control);
     with_settings(change_said(rec, parts), &followed)

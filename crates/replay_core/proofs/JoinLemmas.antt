@@ -36,6 +36,7 @@ use Rattle.replay_core.specs.declared.outcome.Replayed.{Replayed}
 use Rattle.replay_core.specs.declared.paths.Paths.{Paths}
 use Rattle.replay_core.proofs.PathLemmas.{control-kept, label-kept, mark-kept}
 use Rattle.replay_core.proofs.StandLemmas.{closing-unrefused}
+use Rattle.rmgr_hooks.specs.Custom.{Extension}
 
 -- ---- faults
 
@@ -115,19 +116,19 @@ pub begun-ran : {F : Type 0} (tree : Ghosts F) (root mark : PathValue) (a b : F)
 begun-ran tree root mark a b r is told none carries = subst (λ m. Carries tree (begun m mark_text) a b r) is carries told none
 
 -- the world behind them is the one that is meant
-pub first-meant : (root other : PathValue) (s start : Start) (c : Contents) (w : World) → other ≡ root → s ≡ start → w.files ≡ all_changed c (beginning root) → w.control ≡ start.control → w.skipped ≡ []
-    → replayed_into other s w ≡ replayed_into root start (first_world c root start)
-first-meant root other s start c w same is files control skipped =
-    ap (λ p. replayed_into p s w) same ∙ ap (λ x. replayed_into root x w) is
-    ∙ ap (λ f. replayed_into root start (record w { files = f })) files
-    ∙ ap (λ k. replayed_into root start (record { files = all_changed c (beginning root); control = k; skipped = w.skipped })) control
-    ∙ ap (λ l. replayed_into root start (record { files = all_changed c (beginning root); control = start.control; skipped = l })) skipped
+pub first-meant : (custom : Option Extension) (root other : PathValue) (s start : Start) (c : Contents) (w : World) → other ≡ root → s ≡ start → w.files ≡ all_changed c (beginning root) → w.control ≡ start.control → w.skipped ≡ []
+    → replayed_into custom other s w ≡ replayed_into custom root start (first_world c root start)
+first-meant custom root other s start c w same is files control skipped =
+    ap (λ p. replayed_into custom p s w) same ∙ ap (λ x. replayed_into custom root x w) is
+    ∙ ap (λ f. replayed_into custom root start (record w { files = f })) files
+    ∙ ap (λ k. replayed_into custom root start (record { files = all_changed c (beginning root); control = k; skipped = w.skipped })) control
+    ∙ ap (λ l. replayed_into custom root start (record { files = all_changed c (beginning root); control = start.control; skipped = l })) skipped
 
 -- ---- the whole
 
-pub after-of : (c : Contents) (root : PathValue) (s : Start) → start_of c root ≡ Ok s → after_replay c root ≡ replayed_into root s (first_world c root s)
+pub after-of : (custom : Option Extension) (c : Contents) (root : PathValue) (s : Start) → start_of custom c root ≡ Ok s → after_replay custom c root ≡ replayed_into custom root s (first_world c root s)
 unfolding after_replay
-after-of c root s is = ap (λ r. given r (λ s. replayed_into root s (first_world c root s))) is
+after-of custom c root s is = ap (λ r. given r (λ s. replayed_into custom root s (first_world c root s))) is
 
 pub done-of : (meant other : Result After ReplayFault) (d : Contents) (r : Result Replayed ReplayFault) → other ≡ meant → Answers other d r → IfOk r (λ told. IsAfter meant told d)
 done-of meant other d (Ok told) same answers = subst (λ m. IsAfter m told d) same answers

@@ -37,6 +37,7 @@ use Rattle.replay_core.specs.Replayed.{beginning, control_path, label_path, mark
 use Rattle.replay_core.specs.Stages.{HasLog, IsChecked, Stand, records_in, start_in}
 use Rattle.replay_core.proofs.PathLemmas.{log-mark}
 use Rattle.replay_core.proofs.StandLemmas.{beginning-unrefused, begun-contents, begun-stand}
+use Rattle.rmgr_hooks.specs.Custom.{Extension}
 
 -- ---- points that don't refuse
 
@@ -106,39 +107,39 @@ label_there c root v e = label_in_file root (entry_at c (label_path root)) (file
 
 -- ---- a start that is given
 
-record IsGiven (c : Contents) (root : PathValue) (s : Start) : Type 0 where
+record IsGiven (custom : Option Extension) (c : Contents) (root : PathValue) (s : Start) : Type 0 where
   mark : entry_at c (mark_of root) ≡ None
   control : is_file (entry_at c (control_path root)) ≡ true
   label : is_file (entry_at c (label_path root)) ≡ true
   records : s.records ≡ (log_of (pages_of s.log c) (bytes_of s.log.size) s.label.start.0).records
-  taken : first_outside s.records ≡ None
+  taken : first_outside custom s.records ≡ None
 
-record IsOfLog (c : Contents) (s : Start) : Type 0 where
+record IsOfLog (custom : Option Extension) (c : Contents) (s : Start) : Type 0 where
   records : s.records ≡ (log_of (pages_of s.log c) (bytes_of s.log.size) s.label.start.0).records
-  taken : first_outside s.records ≡ None
+  taken : first_outside custom s.records ≡ None
 
-none_outside : (root : PathValue) (control : Control) (label : LabelPlaces) (records : List LogRecord) → log_refusal root control label records ≡ None → first_outside records ≡ None
+none_outside : (custom : Option Extension) (root : PathValue) (control : Control) (label : LabelPlaces) (records : List LogRecord) → log_refusal custom root control label records ≡ None → first_outside custom records ≡ None
 unfolding log_refusal
-none_outside root control label records e = map_none of_profile (first_outside records) (first_none (option_map of_profile (first_outside records)) _ e)
+none_outside custom root control label records e = map_none of_profile (first_outside custom records) (first_none (option_map of_profile (first_outside custom records)) _ e)
 
-of_log : (c : Contents) (root : PathValue) (control : Control) (label : LabelPlaces) (o : Option LogPath) (s : Start) → in_log c root control label o ≡ Ok s → IsOfLog c s
-of_log c root control label None s e = absurd (cc e)
-of_log c root control label (Some log) s e =
+of_log : (custom : Option Extension) (c : Contents) (root : PathValue) (control : Control) (label : LabelPlaces) (o : Option LogPath) (s : Start) → in_log custom c root control label o ≡ Ok s → IsOfLog custom c s
+of_log custom c root control label None s e = absurd (cc e)
+of_log custom c root control label (Some log) s e =
     let records = (log_of (pages_of log c) (bytes_of log.size) label.start.0).records in
-    let w = unless_ok (log_refusal root control label records) (Ok (record { control = control; label = label; log = log; records = records })) s e in
+    let w = unless_ok (log_refusal custom root control label records) (Ok (record { control = control; label = label; log = log; records = records })) s e in
     let all : Start = record { control = control; label = label; log = log; records = records } in
     let same : all ≡ s = cc w.1 in
-    subst (λ (x : Start). IsOfLog c x) same (record { records = refl; taken = none_outside root control label records w.0 })
+    subst (λ (x : Start). IsOfLog custom c x) same (record { records = refl; taken = none_outside custom root control label records w.0 })
 
-is_given : (c : Contents) (root : PathValue) (s : Start) → start_of c root ≡ Ok s → IsGiven c root s
+is_given : (custom : Option Extension) (c : Contents) (root : PathValue) (s : Start) → start_of custom c root ≡ Ok s → IsGiven custom c root s
 unfolding start_of from_control from_label
-is_given c root s is =
-    let a = unless_ok (option_map fault.Cluster (unfinished c root)) (given (told_by (control_at c root)) (from_control c root)) s is in
-    let b = given_ok (told_by (control_at c root)) (from_control c root) s a.1 in
-    let d = unless_ok (first_of (checksums_on root b.read ∷ no_hints root b.read ∷ [])) (given (label_at c root) (from_label c root b.read)) s b.next in
-    let l = given_ok (label_at c root) (from_label c root b.read) s d.1 in
-    let h = given_ok (told_by (history_at c root (timeline_of b.read))) (λ spans. in_log c root b.read l.read (log_with root b.read spans)) s l.next in
-    let o = of_log c root b.read l.read (log_with root b.read h.read) s h.next in
+is_given custom c root s is =
+    let a = unless_ok (option_map fault.Cluster (unfinished c root)) (given (told_by (control_at c root)) (from_control custom c root)) s is in
+    let b = given_ok (told_by (control_at c root)) (from_control custom c root) s a.1 in
+    let d = unless_ok (first_of (checksums_on root b.read ∷ no_hints root b.read ∷ [])) (given (label_at c root) (from_label custom c root b.read)) s b.next in
+    let l = given_ok (label_at c root) (from_label custom c root b.read) s d.1 in
+    let h = given_ok (told_by (history_at c root (timeline_of b.read))) (λ spans. in_log custom c root b.read l.read (log_with root b.read spans)) s l.next in
+    let o = of_log custom c root b.read l.read (log_with root b.read h.read) s h.next in
     record {
       mark = unmarked c root (map_none fault.Cluster (unfinished c root) a.0);
       control = control_there c root b.read (told_ok (control_at c root) b.read b.is);
@@ -156,9 +157,9 @@ made_of v c s records st =
     ∙ ap (λ (l : LabelPlaces). record { control = v.control; label = l; log = s.log; records = (log_of (pages_of s.log c) (bytes_of s.log.size) l.start.0).records }) (sym st.label)
     ∙ ap (λ (l : LogPath). record { control = v.control; label = v.label; log = l; records = (log_of (pages_of l c) (bytes_of l.size) v.label.start.0).records }) (sym st.log)
 
-is_checked : (c : Contents) (root : PathValue) (v : Checked) (s : Start) → start_of c root ≡ Ok s → IsStart s v → Knows v.cursor c → IsChecked c root v
-is_checked c root v s is st knows =
-    let made = made_of v c s (is_given c root s is).records st in
+is_checked : (custom : Option Extension) (c : Contents) (root : PathValue) (v : Checked) (s : Start) → start_of custom c root ≡ Ok s → IsStart s v → Knows v.cursor c → IsChecked custom c root v
+is_checked custom c root v s is st knows =
+    let made = made_of v c s (is_given custom c root s is).records st in
     record {
       start = is ∙ ap (λ (x : Start). Ok x) made;
       knows = knows;
@@ -166,18 +167,18 @@ is_checked c root v s is st knows =
     }
 
 -- by the answer of a check that changed nothing
-pub checked-by : (c e : Contents) (root : PathValue) (v : Checked) → e ≡ c → (start : Start) × (start_of c root ≡ Ok start) × IsStart start v → Knows v.cursor e → IsChecked e root v
-checked-by c e root v same (s, is, st) knows = is_checked e root v s (ap (λ x. start_of x root) same ∙ is) st knows
+pub checked-by : (custom : Option Extension) (c e : Contents) (root : PathValue) (v : Checked) → e ≡ c → (start : Start) × (start_of custom c root ≡ Ok start) × IsStart start v → Knows v.cursor e → IsChecked custom e root v
+checked-by custom c e root v same (s, is, st) knows = is_checked custom e root v s (ap (λ x. start_of custom x root) same ∙ is) st knows
 
 -- ---- the mark isn't refused, and behind it the cluster is as it was
 
-pub mark-unrefused : (c : Contents) (root : PathValue) (v : Checked) → IsTree c → IsChecked c root v → first_refusal c (beginning root) ≡ None
-mark-unrefused c root v tree checked =
-    let g = is_given c root (start_in v c) checked.start in
+pub mark-unrefused : (custom : Option Extension) (c : Contents) (root : PathValue) (v : Checked) → IsTree c → IsChecked custom c root v → first_refusal c (beginning root) ≡ None
+mark-unrefused custom c root v tree checked =
+    let g = is_given custom c root (start_in v c) checked.start in
     beginning-unrefused c root tree g.mark g.control
 
-pub record Under (c c1 : Contents) (root : PathValue) (v : Checked) : Type 0 where
-  pub log : HasLog v c1
+pub record Under (custom : Option Extension) (c c1 : Contents) (root : PathValue) (v : Checked) : Type 0 where
+  pub log : HasLog custom v c1
   pub stand : Stand c1 root
   pub start : start_in v c1 ≡ start_in v c
 
@@ -187,21 +188,21 @@ same_files c root log is number =
     let other : below log.folder (name ∷ []) ≢ mark_of root = λ e. log-mark root name (ap (λ f. below f (name ∷ [])) (sym is) ∙ e) in
     ap file_in (sym (entry-put_other c (mark_of root) (below log.folder (name ∷ [])) (FileEntry mark_text) other))
 
-under_mark : (c : Contents) (root : PathValue) (v : Checked) → IsChecked c root v → v.cursor.log.folder ≡ wal_folder root → Under c (insert c (mark_of root) (FileEntry mark_text)) root v
-under_mark c root v checked folder =
-    let g = is_given c root (start_in v c) checked.start in
+under_mark : (custom : Option Extension) (c : Contents) (root : PathValue) (v : Checked) → IsChecked custom c root v → v.cursor.log.folder ≡ wal_folder root → Under custom c (insert c (mark_of root) (FileEntry mark_text)) root v
+under_mark custom c root v checked folder =
+    let g = is_given custom c root (start_in v c) checked.start in
     let d : Contents = insert c (mark_of root) (FileEntry mark_text) in
     let pages : pages_of v.cursor.log c ≡ pages_of v.cursor.log d = same_log v.cursor.log c d (same_files c root v.cursor.log folder) in
     let records : records_in v c ≡ records_in v d = ap (λ (p : Pages). (log_of p (bytes_of v.cursor.log.size) v.label.start.0).records) pages in
     record {
       log = record {
         knows = subst (λ (p : Pages). IfSome v.cursor.held (λ at. p at ≡ Ok v.cursor.page)) pages checked.knows;
-        taken = ap first_outside (sym records) ∙ g.taken;
+        taken = ap (first_outside custom) (sym records) ∙ g.taken;
         end = checked.end ∙ ap (end_after v.label.start.0) records;
       };
       stand = begun-stand c root g.control g.label;
       start = ap (λ l. record (start_in v c) { records = l }) (sym records);
     }
 
-pub under-mark : (c c1 : Contents) (root : PathValue) (v : Checked) → IsChecked c root v → v.cursor.log.folder ≡ wal_folder root → c1 ≡ all_changed c (beginning root) → Under c c1 root v
-under-mark c c1 root v checked folder is = subst (λ x. Under c x root v) (sym (is ∙ begun-contents c root)) (under_mark c root v checked folder)
+pub under-mark : (custom : Option Extension) (c c1 : Contents) (root : PathValue) (v : Checked) → IsChecked custom c root v → v.cursor.log.folder ≡ wal_folder root → c1 ≡ all_changed c (beginning root) → Under custom c c1 root v
+under-mark custom c c1 root v checked folder is = subst (λ x. Under custom c x root v) (sym (is ∙ begun-contents c root)) (under_mark custom c root v checked folder)

@@ -1,5 +1,5 @@
 -- What a stop may leave of the parts of a replay.
-use Rattle.std.proofs.Common.{◌≡◌, ◌≢◌, ◌∙◌, ◌||◌, ℕ, IsTrue, Bool, true, false, cond, List, [], ◌∷◌, ◌++◌, length, None, Some, is_some, option_map, Result, Ok, Err, OnOk, inl, inr, ⊎_elim, refl, sym, ap, subst, true≢false, append_assoc, append-nil}
+use Rattle.std.proofs.Common.{Option, ◌≡◌, ◌≢◌, ◌∙◌, ◌||◌, ℕ, IsTrue, Bool, true, false, cond, List, [], ◌∷◌, ◌++◌, length, None, Some, is_some, option_map, Result, Ok, Err, OnOk, inl, inr, ⊎_elim, refl, sym, ap, subst, true≢false, append_assoc, append-nil}
 use Rattle.std.specs.FinMap.{remove}
 use Rattle.std.specs.List.{list_any}
 use Rattle.block_replay.specs.World.{least_name}
@@ -47,6 +47,7 @@ use Rattle.replay_core.specs.Stops.{IsDurable, IsLeft, IsMarkedOrDone, MarkIsRef
 use Rattle.replay_core.specs.declared.paths.Paths.{Paths}
 use Rattle.replay_core.proofs.PathLemmas.{control-mark, label-mark, mark-kept}
 use Rattle.replay_core.proofs.StandLemmas.{closing-unrefused}
+use Rattle.rmgr_hooks.specs.Custom.{Extension}
 
 -- ---- calls at other paths than a mark's
 
@@ -161,8 +162,8 @@ closed-left root tli n e w k a d none is left =
     (λ c. ⊎_elim (λ m. inl m) (λ done. inr (closed root tli n e w, meant, done ∙ ap (λ (x : Control). all_changed w.files (closing root x)) is))) left
 
 -- all records were replayed
-pub replayed-meant : (root : PathValue) (s : Start) (w v : World) (tli n e : ℕ) → records_after root s.control.relseg s.records w ≡ Ok v → tli ≡ timeline_of s.control → n ≡ length s.records → e ≡ end_of s → closed_or root tli n e v ≡ replayed_into root s w
-replayed-meant root s w v tli n e all time count end =
+pub replayed-meant : (custom : Option Extension) (root : PathValue) (s : Start) (w v : World) (tli n e : ℕ) → records_after custom root s.control.relseg s.records w ≡ Ok v → tli ≡ timeline_of s.control → n ≡ length s.records → e ≡ end_of s → closed_or root tli n e v ≡ replayed_into custom root s w
+replayed-meant custom root s w v tli n e all time count end =
     ap (λ x. closed_or root x n e v) time ∙ ap (λ x. closed_or root (timeline_of s.control) x e v) count ∙ ap (λ x. closed_or root (timeline_of s.control) (length s.records) x v) end
     ∙ sym (ap (λ r. given (recorded r) (closed_or root (timeline_of s.control) (length s.records) (end_of s))) all)
 
@@ -225,10 +226,10 @@ standing-first root c marked = by (is_there c (marks_of root).rewind)
     by true = refl
     by false = ap (λ b. with_mark (marks_of root) (cond b (Some 1) (cond (is_there c (marks_of root).reset) (Some 2) None))) marked
 
-pub mark-found : (root : PathValue) (c : Contents) → IsMarked (mark_of root) c → start_of c root ≡ told_by (Err (cluster.Unfinished (first_standing c root)))
+pub mark-found : (custom : Option Extension) (root : PathValue) (c : Contents) → IsMarked (mark_of root) c → start_of custom c root ≡ told_by (Err (cluster.Unfinished (first_standing c root)))
 unfolding start_of
-mark-found root c marked = ap (λ o. unless (option_map fault.Cluster o) (given (told_by (control_at c root)) (from_control c root))) (standing-first root c marked)
+mark-found custom root c marked = ap (λ o. unless (option_map fault.Cluster o) (given (told_by (control_at c root)) (from_control custom c root))) (standing-first root c marked)
 
 pub mark-refused : MarkIsRefused
 unfolding after_replay
-mark-refused root c marked = ap (λ r. given r (λ s. replayed_into root s (first_world c root s))) (mark-found root c marked)
+mark-refused custom root c marked = ap (λ r. given r (λ s. replayed_into custom root s (first_world c root s))) (mark-found custom root c marked)

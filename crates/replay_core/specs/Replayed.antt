@@ -21,6 +21,7 @@ use Rattle.replay_start.specs.declared.fault.ReplayFault.TheVariants as fault
 use Rattle.replay_world.specs.Records.{records_after}
 use Rattle.replay_world.specs.World.{World}
 use Rattle.replay_core.specs.Faults.{recorded}
+use Rattle.rmgr_hooks.specs.Custom.{Extension}
 
 -- the mark, with a text of one line
 abbrev pub mark_of : PathValue → PathValue
@@ -71,14 +72,14 @@ abbrev pub closed_or : PathValue → (tli count end : ℕ) → World → Result 
 closed_or root tli count end w = unless (missing_page w.skipped) (Ok (closed root tli count end w))
 
 -- all records are replayed into a world, and then it is closed
-abbrev pub replayed_into : PathValue → Start → World → Result After ReplayFault
-replayed_into root s w =
-    given (recorded (records_after root s.control.relseg s.records w)) (closed_or root (timeline_of s.control) (length s.records) (end_of s))
+abbrev pub replayed_into : Option Extension → PathValue → Start → World → Result After ReplayFault
+replayed_into custom root s w =
+    given (recorded (records_after custom root s.control.relseg s.records w)) (closed_or root (timeline_of s.control) (length s.records) (end_of s))
 
 -- the cluster under the mark, before the first record
 abbrev pub first_world : Contents → PathValue → Start → World
 first_world c root s = record { files = all_changed c (beginning root); control = s.control; skipped = [] }
 
 -- what a replay leaves of a cluster, or why it ends: every check comes before its first change
-unfoldable pub after_replay : Contents → PathValue → Result After ReplayFault
-after_replay c root = given (start_of c root) (λ s. replayed_into root s (first_world c root s))
+unfoldable pub after_replay : Option Extension → Contents → PathValue → Result After ReplayFault
+after_replay custom c root = given (start_of custom c root) (λ s. replayed_into custom root s (first_world c root s))

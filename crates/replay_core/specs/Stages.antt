@@ -1,5 +1,5 @@
 -- What the steps of a replay begin from.
-use Rattle.std.specs.Prelude.{◌≡◌, true, List, None, Ok}
+use Rattle.std.specs.Prelude.{Option, ◌≡◌, true, List, None, Ok}
 use Rattle.cluster_tree.specs.Contents.{Contents, entry_at, is_file}
 use Rattle.cluster_tree.specs.PathValue.{PathValue}
 use Rattle.clusters.specs.Roots.{wal_folder}
@@ -13,6 +13,7 @@ use Rattle.replay_start.specs.Checked.{Start, start_of}
 use Rattle.replay_start.specs.declared.checked.Checked.{Checked}
 use Rattle.replay_core.specs.Replayed.{control_path, label_path, mark_of}
 use Rattle.replay_core.specs.declared.paths.Paths.{Paths}
+use Rattle.rmgr_hooks.specs.Custom.{Extension}
 
 -- the paths that a replay needs of its own are those below this root
 pub record ArePaths (root : PathValue) (paths : Paths) : Type 0 where
@@ -36,13 +37,13 @@ abbrev pub start_in : Checked → Contents → Start
 start_in checked c = record { control = checked.control; label = checked.label; log = checked.cursor.log; records = records_in checked c }
 
 -- these contents still have the log that was checked
-pub record HasLog (checked : Checked) (c : Contents) : Type 0 where
+pub record HasLog (custom : Option Extension) (checked : Checked) (c : Contents) : Type 0 where
   pub knows : Knows checked.cursor c
-  pub taken : first_outside (records_in checked c) ≡ None
+  pub taken : first_outside custom (records_in checked c) ≡ None
   pub end : checked.end.0 ≡ end_after checked.label.start.0 (records_in checked c)
 
 -- a cluster passed every check, and this was checked
-pub record IsChecked (c : Contents) (root : PathValue) (checked : Checked) : Type 0 where
-  pub start : start_of c root ≡ Ok (start_in checked c)
+pub record IsChecked (custom : Option Extension) (c : Contents) (root : PathValue) (checked : Checked) : Type 0 where
+  pub start : start_of custom c root ≡ Ok (start_in checked c)
   pub knows : Knows checked.cursor c
   pub end : checked.end.0 ≡ end_after checked.label.start.0 (records_in checked c)

@@ -6,10 +6,12 @@ mod faults;
 mod laws;
 mod outcome;
 mod paths;
+mod plain;
 mod replaying;
 mod running;
 
 pub use laws::mark_laws;
 pub use outcome::Replayed;
+pub use plain::replay;
 pub use replay_start::ReplayFault;
-pub use replaying::replay;
+pub use replaying::replay_with;

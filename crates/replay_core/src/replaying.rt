@@ -28,6 +28,7 @@ ghost use Rattle.replay_core.specs.Stops.{IsDurable, IsLeft, IsLeftByReplay, IsM
 ghost use Rattle.replay_core.specs.Within.{LeavesMark, LogStays, StaysWithin};
 ghost use Rattle.replay_core.specs.Went.{Answers, IsAfter, IsCause, RanRecords, Went, WentOn};
 ghost use Rattle.clusters.specs.declared.fault.ClusterFault.TheVariants as cluster;
+ghost use Rattle.rmgr_hooks.specs.Custom.{handed_in};
 
 use crate::closing::{begin_mark, close};
 use crate::faults::of_perform;
@@ -43,6 +44,7 @@ use page_layout::Page;
 use replay_control::control_left;
 use replay_start::{Checked, ReplayFault, check};
 use replay_world::{Files, Replaying, Skipped};
+use rmgr_hooks::Manager;
 use std::alloc::Global;
 use wal_base::Lsn;
 use wal_records::RecordCursor;
@@ -60,19 +62,22 @@ fn go_back(cursor: &mut RecordCursor, at: u64)
 }
 
 // Replays the whole log under the mark, and tells what was replayed.
-fn replay_log<F: Tree>(
+fn replay_log<F: Tree, M: Manager>(
     alloc: Global,
     tree: &mut F,
     log: &Path,
     checked: &mut Checked,
     world: &mut Replaying,
     room: &mut Room,
+    custom: Option<&M>,
 ) -> Result<Count, ReplayFault>
     requires fit { AreFit world.old.files }
     requires folder { checked.old.cursor.log.folder ≡ wal_folder world.old.files.root }
     requires control { IsControl world.old.control }
-    requires log { IsTrue F.tells → HasLog checked.old (F.contents tree.old) }
-    ensures all { IsTrue F.tells → IsReplayedLog world.old.files.root world.old.files.per_file
+    requires log { IsTrue F.tells → HasLog (handed_in M.Manager custom) checked.old
+        (F.contents tree.old) }
+    ensures all { IsTrue F.tells → IsReplayedLog (handed_in M.Manager custom.entry)
+        world.old.files.root world.old.files.per_file
         checked.old.label.start.0 (records_in checked.old (F.contents tree.old))
         (world_of (F.contents tree.old) world.old) (world_of (F.contents tree.new) world.new) result }
     ensures files { world.new.files ≡ world.old.files }
@@ -93,7 +98,7 @@ fn replay_log<F: Tree>(
         records: 0,
         end: checked.label.start,
     };
-    replay_all(alloc, tree, log, cursor, world, room, &mut count)?;
+    replay_all(alloc, tree, log, cursor, world, room, &mut count, custom)?;
     if count.end.0 != checked.end.0 {
         return Err(ReplayFault::Cluster(ClusterFault::Changed(log.copy(alloc)?)));
     }
@@ -141,22 +146,25 @@ fn finish<F: Tree>(
 }
 
 // Carries out a replay whose mark stands.
-fn replay_marked<F: Tree>(
+fn replay_marked<F: Tree, M: Manager>(
     alloc: Global,
     tree: &mut F,
     paths: Paths,
     mut checked: Checked,
     mut world: Replaying,
     mut room: Room,
+    custom: Option<&M>,
 ) -> Result<Replayed, ReplayFault>
     requires fit { AreFit world.files }
     requires per_file { world.files.per_file ≡ checked.control.relseg }
     requires folder { checked.cursor.log.folder ≡ wal_folder world.files.root }
     requires control { IsControl world.control }
     requires paths { ArePaths world.files.root paths }
-    requires log { IsTrue F.tells → HasLog checked (F.contents tree.old) }
+    requires log { IsTrue F.tells → HasLog (handed_in M.Manager custom) checked
+        (F.contents tree.old) }
     requires stand { IsTrue F.tells → Stand (F.contents tree.old) world.files.root }
-    ensures exact { IsTrue F.tells → Answers (replayed_into world.files.root
+    ensures exact { IsTrue F.tells → Answers (replayed_into (handed_in M.Manager custom.entry)
+        world.files.root
         (start_in checked (F.contents tree.old)) (world_of (F.contents tree.old) world))
         (F.contents tree.new) result }
     ensures went { IsTrue F.tells → WentOn world.files.root
@@ -165,7 +173,8 @@ fn replay_marked<F: Tree>(
         IfErr result (LeavesMark world.files.root (F.contents tree.new)) }
     ensures stops { IsTrue F.tells →
         StandsMarked (mark_of world.files.root) (moment_of F.Tree tree.old) → LeavesOnly
-        (IsMarkedOrDone world.files.root (replayed_into world.files.root
+        (IsMarkedOrDone world.files.root (replayed_into (handed_in M.Manager custom.entry)
+        world.files.root
         (start_in checked (F.contents tree.old)) (world_of (F.contents tree.old) world)))
         (F.stops tree.old) (F.stops tree.new) }
     ensures synced { IsTrue F.tells → OnOk result (IsDurable (moment_of F.Tree tree.new)) }
@@ -178,7 +187,15 @@ fn replay_marked<F: Tree>(
         result ≢ Err (ReplayFault.Cluster (cluster.Changed p)) }
 {
     let tli = checked.control.timeline();
-    let count = replay_log(alloc, tree, &paths.log, &mut checked, &mut world, &mut room)?;
+    let count = replay_log(
+        alloc,
+        tree,
+        &paths.log,
+        &mut checked,
+        &mut world,
+        &mut room,
+        custom,
+    )?;
     finish(tree, paths, world, tli, count)
 }
 
@@ -214,17 +231,20 @@ fn room(alloc: Global) -> Result<Room, ReplayFault>
 }
 
 // Carries out a replay that was checked: the memory that it needs of its own is taken before the mark.
-fn replay_checked<F: Tree>(
+fn replay_checked<F: Tree, M: Manager>(
     alloc: Global,
     tree: &mut F,
     root: &Path,
     checked: Checked,
+    custom: Option<&M>,
 ) -> Result<Replayed, ReplayFault>
     requires room { length root.now.parts ≤ 61 }
     requires control { IsControl checked.control }
     requires folder { checked.cursor.log.folder ≡ wal_folder root.now }
-    requires checked { IsTrue F.tells → IsChecked (F.contents tree.old) root.now checked }
-    ensures exact { IsTrue F.tells → Answers (replayed_into root.now
+    requires checked { IsTrue F.tells → IsChecked (handed_in M.Manager custom) (F.contents tree.old)
+        root.now checked }
+    ensures exact { IsTrue F.tells → Answers (replayed_into (handed_in M.Manager custom.entry)
+        root.now
         (start_in checked (F.contents tree.old))
         (first_world (F.contents tree.old) root.now (start_in checked (F.contents tree.old))))
         (F.contents tree.new) result }
@@ -232,7 +252,8 @@ fn replay_checked<F: Tree>(
         (state_by F.contents F.calls tree.new) (is_ok result) }
     ensures stands { IsTrue F.tells → IfErr result (LeavesMark root.now (F.contents tree.new)) }
     ensures stops { IsTrue F.tells → LeavesOnly
-        (IsLeft root.now (moment_of F.Tree tree.old) (replayed_into root.now
+        (IsLeft root.now (moment_of F.Tree tree.old) (replayed_into
+        (handed_in M.Manager custom.entry) root.now
         (start_in checked (F.contents tree.old))
         (first_world (F.contents tree.old) root.now (start_in checked (F.contents tree.old)))))
         (F.stops tree.old) (F.stops tree.new) }
@@ -249,14 +270,15 @@ fn replay_checked<F: Tree>(
     let world = world_at(alloc, root, checked.control)?;
     let room = room(alloc)?;
     match begin_mark(tree, &paths.mark) {
-        Ok(()) => replay_marked(alloc, tree, paths, checked, world, room),
+        Ok(()) => replay_marked(alloc, tree, paths, checked, world, room, custom),
         Err(fault) => Err(of_perform(about(fault, paths.mark))),
     }
 }
 
 /// Replays a cluster's log into its files, from its label's start to the log's end. The mark
 /// `pg_walreplay.unfinished` stands from before the first other change until after the last; then the
-/// cluster is one that was shut down in recovery.
+/// cluster is one that was shut down in recovery. Where a manager of an extension is handed in, the
+/// records that it knows are replayed by it.
 ///
 /// Answers, in this order: what `check` refuses, before any change; at the record that
 /// meets it `RedoFailed`, or `Link`, `NotFolder`, `KindsDiffer`, `NameNotText` and `TooDeep` for an
@@ -265,13 +287,19 @@ fn replay_checked<F: Tree>(
 /// failure while it is made or removed. `ReadFault`, `WriteFault` and `OutOfMemory` may come at any
 /// point, and `Changed` never where the tree tells.
 #[tactic(auto, unfolding(crate::specs::Replayed::after_replay))]
-pub fn replay<F: Tree>(alloc: Global, tree: &mut F, root: &Path) -> Result<Replayed, ReplayFault>
+pub fn replay_with<F: Tree, M: Manager>(
+    alloc: Global,
+    tree: &mut F,
+    root: &Path,
+    custom: Option<&M>,
+) -> Result<Replayed, ReplayFault>
     requires room { length root.now.parts ≤ 61 }
     // what is left is what is meant, and so is what is told of it
     ensures done { IsTrue F.tells → IfOk result (λ done.
-        IsAfter (after_replay (F.contents tree.old) root.now) done (F.contents tree.new)) }
+        IsAfter (after_replay (handed_in M.Manager custom.entry) (F.contents tree.old) root.now)
+        done (F.contents tree.new)) }
     ensures refused { IsTrue F.tells → IfErr result
-        (IsCause (after_replay (F.contents tree.old) root.now)) }
+        (IsCause (after_replay (handed_in M.Manager custom.entry) (F.contents tree.old) root.now)) }
     // and this is how far it went
     ensures went { IsTrue F.tells → Went root.now (state_by F.contents F.calls tree.old)
         (state_by F.contents F.calls tree.new) (is_ok result) }
@@ -281,16 +309,19 @@ pub fn replay<F: Tree>(alloc: Global, tree: &mut F, root: &Path) -> Result<Repla
         (state_by F.contents F.calls tree.new) }
     ensures log { IsTrue F.tells → LogStays root.now (F.contents tree.old) (F.contents tree.new) }
     ensures checked { IsTrue F.tells → (e : ReplayFault) →
-        start_of (F.contents tree.old) root.now ≡ Err e →
+        start_of (handed_in M.Manager custom.entry) (F.contents tree.old) root.now ≡ Err e →
         moment_of F.Tree tree.new ≡ moment_of F.Tree tree.old }
     ensures unwritten { IsTrue F.tells → (e : ReplayFault) →
-        start_of (F.contents tree.old) root.now ≡ Err e → result ≢ Err ReplayFault.WriteFault }
-    ensures stands { IsTrue F.tells → (s : Start) → start_of (F.contents tree.old) root.now ≡ Ok s →
+        start_of (handed_in M.Manager custom.entry) (F.contents tree.old) root.now ≡ Err e →
+        result ≢ Err ReplayFault.WriteFault }
+    ensures stands { IsTrue F.tells → (s : Start) →
+        start_of (handed_in M.Manager custom.entry) (F.contents tree.old) root.now ≡ Ok s →
         IfErr result (LeavesMark root.now (F.contents tree.new)) }
     // a stop at any moment leaves the cluster untouched, marked, or as it is meant to be left; once the
     // replay is done, it leaves what stands
     ensures stops { IsTrue F.tells → LeavesOnly
-        (IsLeftByReplay root.now (moment_of F.Tree tree.old)) (F.stops tree.old) (F.stops tree.new) }
+        (IsLeftByReplay (handed_in M.Manager custom.entry) root.now (moment_of F.Tree tree.old))
+        (F.stops tree.old) (F.stops tree.new) }
     ensures synced { IsTrue F.tells → OnOk result (IsDurable (moment_of F.Tree tree.new)) }
     ensures frame { Came F.Tree tree.old tree.new }
     ensures read_fault { IsErrOf result (ReplayFault.Cluster cluster.ReadFault) →
@@ -300,6 +331,6 @@ pub fn replay<F: Tree>(alloc: Global, tree: &mut F, root: &Path) -> Result<Repla
     ensures changed { IsTrue F.tells → (p : PathValue) →
         result ≢ Err (ReplayFault.Cluster (cluster.Changed p)) }
 {
-    let checked = check(alloc, tree, root)?;
-    replay_checked(alloc, tree, root, checked)
+    let checked = check(alloc, tree, root, custom)?;
+    replay_checked(alloc, tree, root, checked, custom)
 }

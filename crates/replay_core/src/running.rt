@@ -15,6 +15,7 @@ ghost use Rattle.wal_records.specs.Cursor.{Knows, to_come};
 ghost use Rattle.replay_world.specs.World.{world_of};
 ghost use Rattle.replay_core.specs.Steps.{MovesOn, ReplaysAll, ReplaysNext};
 ghost use Rattle.clusters.specs.declared.fault.ClusterFault.TheVariants as cluster;
+ghost use Rattle.rmgr_hooks.specs.Custom.{handed_in};
 
 use crate::faults::of_record;
 use block_refs::Parts;
@@ -24,6 +25,7 @@ use page_layout::Page;
 use replay_profile::judge;
 use replay_start::ReplayFault;
 use replay_world::{Replaying, replay_record};
+use rmgr_hooks::Manager;
 use std::alloc::Global;
 use wal_base::Lsn;
 use wal_records::{Record, RecordCursor, Step};
@@ -52,20 +54,23 @@ pub(crate) struct Room {
 }
 
 // Judges a record as it was judged before: where it isn't taken now, the log was changed.
-fn judge_again(
+fn judge_again<M: Manager>(
     alloc: Global,
     log: &Path,
     rec: &Record,
     parts: &mut Parts,
+    custom: Option<&M>,
 ) -> Result<(), ReplayFault>
-    ensures parts { IfOk result (λ _. judged rec.now ≡ Ok parts.new) }
+    ensures parts { IfOk result (λ _. judged (handed_in M.Manager custom.entry) rec.now ≡ Ok
+        parts.new) }
     ensures of { IfOk result (λ _. ArePartsOf rec.now parts.new) }
     ensures refused { IfErr result (λ e. (e ≡ ReplayFault.Cluster cluster.OutOfMemory)
-        ⊎ ((fault : ProfileFault) × (judged rec.now ≡ Err fault))) }
+        ⊎ ((fault : ProfileFault) × (judged (handed_in M.Manager custom.entry) rec.now ≡ Err
+        fault))) }
     ensures read_fault { result ≢ Err (ReplayFault.Cluster cluster.ReadFault) }
     ensures write_fault { result ≢ Err ReplayFault.WriteFault }
 {
-    match judge(rec, parts) {
+    match judge(rec, parts, custom) {
         Ok(()) => Ok(()),
         Err(_) => Err(ReplayFault::Cluster(ClusterFault::Changed(log.copy(alloc)?))),
     }
@@ -83,7 +88,7 @@ fn count_on(count: Count, rec: &Record) -> Count
 }
 
 // Reads the next record, and replays it.
-fn replay_next<F: Tree>(
+fn replay_next<F: Tree, M: Manager>(
     alloc: Global,
     tree: &mut F,
     log: &Path,
@@ -91,6 +96,7 @@ fn replay_next<F: Tree>(
     world: &mut Replaying,
     room: &mut Room,
     count: &mut Count,
+    custom: Option<&M>,
 ) -> Result<Turn, ReplayFault>
     requires opened { cursor.old.ended ≡ None }
     requires fit { AreFit world.old.files }
@@ -99,8 +105,10 @@ fn replay_next<F: Tree>(
     requires folder { cursor.old.log.folder ≡ wal_folder world.old.files.root }
     requires knows { IsTrue F.tells → Knows cursor.old (F.contents tree.old) }
     requires taken { IsTrue F.tells →
-        first_outside (to_come cursor.old (F.contents tree.old)).records ≡ None }
-    ensures step { IsTrue F.tells → ReplaysNext world.old.files.root world.old.files.per_file
+        first_outside (handed_in M.Manager custom) (to_come cursor.old
+        (F.contents tree.old)).records ≡ None }
+    ensures step { IsTrue F.tells → ReplaysNext (handed_in M.Manager custom.entry)
+        world.old.files.root world.old.files.per_file
         (to_come cursor.old (F.contents tree.old)).records
         (to_come cursor.new (F.contents tree.new)).records
         (world_of (F.contents tree.old) world.old) (world_of (F.contents tree.new) world.new)
@@ -125,8 +133,8 @@ fn replay_next<F: Tree>(
         Step::End(_, _) => return Ok(Turn::Done),
     }
     let rec = cursor.current().unwrap();
-    judge_again(alloc, log, rec, &mut room.parts)?;
-    match replay_record(alloc, tree, world, rec, &room.parts, &mut room.page) {
+    judge_again(alloc, log, rec, &mut room.parts, custom)?;
+    match replay_record(alloc, tree, world, rec, &room.parts, &mut room.page, custom) {
         Ok(()) => {}
         Err(fault) => return Err(of_record(fault)),
     }
@@ -135,7 +143,7 @@ fn replay_next<F: Tree>(
 }
 
 /// Replays what a cursor has still to give.
-pub(crate) fn replay_all<F: Tree>(
+pub(crate) fn replay_all<F: Tree, M: Manager>(
     alloc: Global,
     tree: &mut F,
     log: &Path,
@@ -143,6 +151,7 @@ pub(crate) fn replay_all<F: Tree>(
     world: &mut Replaying,
     room: &mut Room,
     count: &mut Count,
+    custom: Option<&M>,
 ) -> Result<(), ReplayFault>
     requires opened { cursor.old.ended ≡ None }
     requires fit { AreFit world.old.files }
@@ -151,8 +160,10 @@ pub(crate) fn replay_all<F: Tree>(
     requires folder { cursor.old.log.folder ≡ wal_folder world.old.files.root }
     requires knows { IsTrue F.tells → Knows cursor.old (F.contents tree.old) }
     requires taken { IsTrue F.tells →
-        first_outside (to_come cursor.old (F.contents tree.old)).records ≡ None }
-    ensures all { IsTrue F.tells → ReplaysAll world.old.files.root world.old.files.per_file
+        first_outside (handed_in M.Manager custom) (to_come cursor.old
+        (F.contents tree.old)).records ≡ None }
+    ensures all { IsTrue F.tells → ReplaysAll (handed_in M.Manager custom.entry)
+        world.old.files.root world.old.files.per_file
         (to_come cursor.old (F.contents tree.old)).records
         (world_of (F.contents tree.old) world.old) (world_of (F.contents tree.new) world.new)
         count.old count.new result }
@@ -169,7 +180,7 @@ pub(crate) fn replay_all<F: Tree>(
         result ≢ Err (ReplayFault.Cluster (cluster.Changed p)) }
 {
     'records: loop {
-        match replay_next(alloc, tree, log, cursor, world, room, count) {
+        match replay_next(alloc, tree, log, cursor, world, room, count, custom) {
             Ok(Turn::More) => {}
             Ok(Turn::Done) => return Ok(()),
             Err(e) => return Err(e),

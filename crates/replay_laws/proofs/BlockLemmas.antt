@@ -1,5 +1,6 @@
 -- What a record leaves at one of its references is what its effect on that block makes of what was held.
 use Rattle.std.proofs.Common.{◌≡◌, ℕ, ◌<◌, ◌==◌, ◌&&◌, ◌||◌, nat_lt, Bool, true, false, List, length, Option, None, Some, is_some, Result, Ok, refl, ap, sym, subst, ◌∙◌, true≢false}
+use Rattle.rmgr_hooks.specs.Custom.{Extension}
 use Rattle.std.specs.Prelude.{IsTrue, if◌then◌else◌}
 use Rattle.std.specs.Option.{option_and_then}
 use Rattle.std.proofs.lemmas.Bool.{or_right}
@@ -78,7 +79,7 @@ pub record Stepped (root : PathValue) (per : ℕ) (p : BlockName) (end : ℕ) (d
   pub left : Left root per p w v page skips
   pub step : IsMainBlock p → (doing ≡ Gone → ⊥) → replay_step (view p.block) (held_in root per p w) end doing ≡ Ok (record { page = page; skipped = is_among p w.skipped || skips })
 
-module _ (root : PathValue) (per : ℕ) (some : 0 < per) (rec : LogRecord) (parts : PartsView) (of_rec : ArePartsOf rec parts) (ends : 0 < rec.end)
+module _ (custom : Option Extension) (root : PathValue) (per : ℕ) (some : 0 < per) (rec : LogRecord) (parts : PartsView) (of_rec : ArePartsOf rec parts) (ends : 0 < rec.end)
     (block : BlockRef) (small : IsBlock block.name) (proper : IsProper block.name.rel) (w : BlockWorld) (whole : AreWhole root per w.files) where
   abbrev p : BlockName
   p = block.name
@@ -117,7 +118,7 @@ module _ (root : PathValue) (per : ℕ) (some : 0 < per) (rec : LogRecord) (part
   }
 
   image_done : (page : List ℕ) (doing : Effect) (v : BlockWorld) → page_of rec.body parts block.id ≡ Some page → doing ≡ FullPageImage (put_in_place rec.end page)
-      → by_act root per rec parts block w act.Image ≡ Ok v → At doing v
+      → by_act custom root per rec parts block w act.Image ≡ Ok v → At doing v
   image_done page doing v is effect made =
       let two = with-files_ok w.skipped (image_put root per rec p (image_at rec parts block.id) w.files) v made in
       let size : length page ≡ 8192 = rw is at (image_of_size rec.body parts block.id of_rec) in
@@ -127,10 +128,10 @@ module _ (root : PathValue) (per : ℕ) (some : 0 < per) (rec : LogRecord) (part
   -- redo's page is put in place
 
   abbrev redo : List ℕ → Redone
-  redo page = redone rec parts block page
+  redo page = redone custom rec parts block page
 
   made_done : (doing : Effect) (v : BlockWorld) → doing ≡ Init (redo zeros) → IsEffect (view p.block) rec.end (Init (redo zeros))
-      → by_act root per rec parts block w act.Make ≡ Ok v → At doing v
+      → by_act custom root per rec parts block w act.Make ≡ Ok v → At doing v
   made_done doing v effect meets made =
       let two = with-files_ok w.skipped (redone_put root per rec p (redo zeros) w.files) v made in
       let got = given-ok (of_redo rec p (redo zeros)) (λ page. page_put root per p page w.files) two.0 two.1 in
@@ -184,13 +185,13 @@ module _ (root : PathValue) (per : ℕ) (some : 0 < per) (rec : LogRecord) (part
       changes : replay_step (view p.block) before rec.end doing ≡ (if nat_lt (lsn bytes) rec.end then with_page before.skipped (redo bytes) else OkHolding (Some bytes) before.skipped)
       changes = ap (replay_step (view p.block) before rec.end) effect ∙ ap (after_change (view p.block) rec.end redo before.skipped) there
 
-  changed_done : (doing : Effect) (v : BlockWorld) → doing ≡ Change redo → IsEffect (view p.block) rec.end (Change redo) → by_act root per rec parts block w act.Change ≡ Ok v → At doing v
+  changed_done : (doing : Effect) (v : BlockWorld) → doing ≡ Change redo → IsEffect (view p.block) rec.end (Change redo) → by_act custom root per rec parts block w act.Change ≡ Ok v → At doing v
   changed_done doing v effect meets made =
-      let two = given-ok (page_there root per p w.files) (λ reading. change_at root per rec parts block w reading.found reading.bytes) v made in
+      let two = given-ok (page_there root per p w.files) (λ reading. change_at custom root per rec parts block w reading.found reading.bytes) v made in
       let is : two.0 ≡ reading_of zeros (block_in root per p w.files) = read-whole root per p w.files zeros two.0 some small (whole.no_gap p.rel p.fork small.rel) (files-ok _ two.0 two.1) in
-      by (block_in root per p w.files) refl (subst (λ (r : Reading). change_at root per rec parts block w r.found r.bytes ≡ Ok v) is two.2)
+      by (block_in root per p w.files) refl (subst (λ (r : Reading). change_at custom root per rec parts block w r.found r.bytes ≡ Ok v) is two.2)
     where
-      by : (state : Option (List ℕ)) → block_in root per p w.files ≡ state → change_at root per rec parts block w (reading_of zeros state).found (reading_of zeros state).bytes ≡ Ok v → At doing v
+      by : (state : Option (List ℕ)) → block_in root per p w.files ≡ state → change_at custom root per rec parts block w (reading_of zeros state).found (reading_of zeros state).bytes ≡ Ok v → At doing v
       by None there run = skipped_done doing v effect (ap (option_and_then page_or_none) there) run
       by (Some bytes) there run = by_test (is_zero bytes)
           (λ zero. skipped_done doing v effect (ap (option_and_then page_or_none) there ∙ rw zero refl) (rw zero at run))
@@ -198,7 +199,7 @@ module _ (root : PathValue) (per : ℕ) (some : 0 < per) (rec : LogRecord) (part
 
   -- bits are set in a page of the map, which is no block of a main fork
 
-  map_done : (doing : Effect) (v : BlockWorld) → (IsMainBlock p → ⊥) → by_act root per rec parts block w act.MapPage ≡ Ok v → At doing v
+  map_done : (doing : Effect) (v : BlockWorld) → (IsMainBlock p → ⊥) → by_act custom root per rec parts block w act.MapPage ≡ Ok v → At doing v
   map_done doing v no_main made =
       let two = with-files_ok w.skipped (map_changed root per rec parts p w.files) v made in
       let read = given-ok (page_there root per p w.files) (λ reading. older_put root per rec p (stamped rec.end (visible_map rec parts)) reading.bytes w.files) two.0 two.1 in
@@ -217,13 +218,13 @@ module _ (root : PathValue) (per : ℕ) (some : 0 < per) (rec : LogRecord) (part
 
   -- what is done at the reference
 
-  no_map : IsMainBlock p → act_on rec parts block ≡ act.MapPage → ⊥
+  no_map : IsMainBlock p → act_on custom rec parts block ≡ act.MapPage → ⊥
   no_map is chosen =
-      no_map_page (is_gone rec parts p) (is_left p.fork) (is_some (applied block.image)) (is_main p.fork && (rules_of rec).acts rec parts block.id) ((rules_of rec).fresh rec parts block.id) (is_map_page rec block)
+      no_map_page (is_gone rec parts p) (is_left p.fork) (is_some (applied block.image)) (is_main p.fork && (rules_of custom rec).acts rec parts block.id) ((rules_of custom rec).fresh rec parts block.id) (is_map_page rec block)
       (ap (λ (f : Fork). sets_map_bits (done_by rec) && block.id == 0 && is_map f) is.main ∙ none_so (sets_map_bits (done_by rec)) (block.id == 0)) chosen
 
-  pub stepped : (a : Act) (v : BlockWorld) → act_on rec parts block ≡ a → IsDone rec parts block.id a (effect_on rec parts p) → IsEffect (view p.block) rec.end (effect_on rec parts p)
-      → by_act root per rec parts block w a ≡ Ok v → At (effect_on rec parts p) v
+  pub stepped : (a : Act) (v : BlockWorld) → act_on custom rec parts block ≡ a → IsDone custom rec parts block.id a (effect_on custom rec parts p) → IsEffect (view p.block) rec.end (effect_on custom rec parts p)
+      → by_act custom root per rec parts block w a ≡ Ok v → At (effect_on custom rec parts p) v
   stepped act.Nothing v is done meets made = stays _ v (λ main not_gone. done) (one_world w v made)
   stepped act.Image v is done meets made = image_done done.0 _ v done.1 done.2 made
   stepped act.Make v is done meets made = made_done _ v done (subst (IsEffect (view p.block) rec.end) done meets) made

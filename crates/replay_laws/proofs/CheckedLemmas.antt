@@ -1,5 +1,6 @@
 -- The log of a cluster that was checked before a replay is one of records that replay takes.
 use Rattle.std.proofs.Common.{◌≡◌, List, [], ◌∷◌, Option, None, Some, Result, Ok, refl, ap, sym, subst, arith}
+use Rattle.rmgr_hooks.specs.Custom.{Extension}
 use Rattle.std.specs.Option.{option_map}
 use Rattle.backup_label.specs.declared.reading.LabelPlaces.{LabelPlaces}
 use Rattle.cluster_tree.specs.Causes.{first_of, given}
@@ -43,9 +44,9 @@ none_mapped : (o : Option ProfileFault) → option_map of_profile o ≡ None →
 none_mapped None e = refl
 none_mapped (Some fault) e = absurd cc
 
-none_outside : (root : PathValue) (control : Control) (label : LabelPlaces) (records : List LogRecord) → log_refusal root control label records ≡ None → first_outside records ≡ None
+none_outside : (custom : Option Extension) (root : PathValue) (control : Control) (label : LabelPlaces) (records : List LogRecord) → log_refusal custom root control label records ≡ None → first_outside custom records ≡ None
 unfolding log_refusal
-none_outside root control label records e = none_mapped (first_outside records) (first_free (option_map of_profile (first_outside records)) _ e)
+none_outside custom root control label records e = none_mapped (first_outside custom records) (first_free (option_map of_profile (first_outside custom records)) _ e)
 
 abbrev OkStart : Start → Result Start ReplayFault
 OkStart start = Ok start
@@ -58,39 +59,39 @@ log_lies : (root : PathValue) (spans : List Span) (size : Option SegSize) (log :
 log_lies root spans None log e = absurd cc
 log_lies root spans (Some size) log e = let same : log_at root spans size ≡ log = cc in ap (λ (l : LogPath). l.folder) (sym same)
 
-module _ (c : Contents) (root : PathValue) (start : Start) (holds : HoldsBytes c root) where
+module _ (custom : Option Extension) (c : Contents) (root : PathValue) (start : Start) (holds : HoldsBytes c root) where
   abbrev Taken : Start → Type 0
-  Taken s = AreTaken s.label.start.0 s.records
+  Taken s = AreTaken custom s.label.start.0 s.records
 
-  log_taken : (control : Control) (label : LabelPlaces) (o : Option LogPath) → ((log : LogPath) → o ≡ Some log → log.folder ≡ wal_folder root) → in_log c root control label o ≡ Ok start → Taken start
+  log_taken : (control : Control) (label : LabelPlaces) (o : Option LogPath) → ((log : LogPath) → o ≡ Some log → log.folder ≡ wal_folder root) → in_log custom c root control label o ≡ Ok start → Taken start
   log_taken control label None lies e = absurd cc
   log_taken control label (Some log) lies e =
       let at = label.start.0 in
       let size = bytes_of log.size in
       let records : List LogRecord = (log_of (pages_of log c) size at).records in
-      let two = not-refused (log_refusal root control label records) _ start e in
+      let two = not-refused (log_refusal custom root control label records) _ start e in
       subst Taken (one_start (record { control = control; label = label; log = log; records = records }) start two.1) (record {
-        judged = none_outside root control label records two.0;
+        judged = none_outside custom root control label records two.0;
         bytes = log-bytes (pages_of log c) (pages-small log c root (lies log refl) holds) size None (place_at size at);
         order = log_in_order (pages_of log c) size at (place_at size at) None (omega (arith, log.size.is_size.least)) (place_at_up size at);
       })
 
-  label_taken : (control : Control) (label : LabelPlaces) → from_label c root control label ≡ Ok start → Taken start
+  label_taken : (control : Control) (label : LabelPlaces) → from_label custom c root control label ≡ Ok start → Taken start
   unfolding from_label
   label_taken control label e =
-      let spans = given-ok (told_by (history_at c root (timeline_of control))) (λ spans. in_log c root control label (log_with root control spans)) start e in
+      let spans = given-ok (told_by (history_at c root (timeline_of control))) (λ spans. in_log custom c root control label (log_with root control spans)) start e in
       log_taken control label (log_with root control spans.0) (log_lies root spans.0 (size_of_bytes control.walSegSize)) spans.2
 
-  control_taken : (control : Control) → from_control c root control ≡ Ok start → Taken start
+  control_taken : (control : Control) → from_control custom c root control ≡ Ok start → Taken start
   unfolding from_control
   control_taken control e =
-      let read = not-refused (first_of (checksums_on root control ∷ no_hints root control ∷ [])) (given (label_at c root) (from_label c root control)) start e in
-      let label = given-ok (label_at c root) (from_label c root control) start read.1 in
+      let read = not-refused (first_of (checksums_on root control ∷ no_hints root control ∷ [])) (given (label_at c root) (from_label custom c root control)) start e in
+      let label = given-ok (label_at c root) (from_label custom c root control) start read.1 in
       label_taken control label.0 label.2
 
-  pub start-taken : start_of c root ≡ Ok start → Taken start
+  pub start-taken : start_of custom c root ≡ Ok start → Taken start
   unfolding start_of
   start-taken e =
-      let read = not-refused (option_map fault.Cluster (unfinished c root)) (given (told_by (control_at c root)) (from_control c root)) start e in
-      let control = given-ok (told_by (control_at c root)) (from_control c root) start read.1 in
+      let read = not-refused (option_map fault.Cluster (unfinished c root)) (given (told_by (control_at c root)) (from_control custom c root)) start e in
+      let control = given-ok (told_by (control_at c root)) (from_control custom c root) start read.1 in
       control_taken control.0 control.2

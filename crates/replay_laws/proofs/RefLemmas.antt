@@ -1,5 +1,6 @@
 -- What a record leaves of its references' blocks, one after another: each block that a reference names is stepped once.
 use Rattle.std.proofs.Common.{◌≡◌, ℕ, zero, suc, ◌<◌, ◌&&◌, Bool, true, false, cond, List, [], ◌∷◌, Option, None, Some, Ok, refl, ap, sym, subst, ◌∙◌, true≢false}
+use Rattle.rmgr_hooks.specs.Custom.{Extension, IsSound}
 use Rattle.std.specs.Prelude.{if◌then◌else◌}
 use Rattle.std.specs.List.{slice_get}
 use Rattle.std.proofs.lemmas.Bool.{or_parts}
@@ -58,10 +59,10 @@ placed_keeps rules rec parts placed = by_left (is_left placed.block.name.fork)
     by_left true = refl
     by_left false = by_image (applied placed.block.image)
 
-module _ (root : PathValue) (per : ℕ) (some : 0 < per) (rec : LogRecord) (parts : PartsView) (of_rec : ArePartsOf rec parts) (ends : 0 < rec.end) where
+module _ (custom : Option Extension) (sound : IsSound custom) (root : PathValue) (per : ℕ) (some : 0 < per) (rec : LogRecord) (parts : PartsView) (of_rec : ArePartsOf rec parts) (ends : 0 < rec.end) where
   -- a reference as its record has it
   pub record IsReady (placed : Placed) : Type 0 where
-    pub done : IsDone rec parts placed.block.id (act_on rec parts placed.block) (effect_on rec parts placed.block.name)
+    pub done : IsDone custom rec parts placed.block.id (act_on custom rec parts placed.block) (effect_on custom rec parts placed.block.name)
     pub found : reference_to placed.block.name parts.blocks ≡ Some placed
 
   abbrev pub AreReady : List Placed → Type 0
@@ -73,14 +74,14 @@ module _ (root : PathValue) (per : ℕ) (some : 0 < per) (rec : LogRecord) (part
   by_places (placed ∷ more) each = (each zero placed refl, by_places more (λ at other there. each (suc at) other there))
 
   pub all-ready : are_known parts.blocks ≡ true → AreReady parts.blocks
-  all-ready known = by_places parts.blocks (λ at placed there. record { done = acts_done rec parts at placed of_rec known there; found = found_self parts.blocks at placed known there })
+  all-ready known = by_places parts.blocks (λ at placed there. record { done = acts_done custom rec parts at placed of_rec known there; found = found_self parts.blocks at placed known there })
 
-  pub one-stepped : (placed : Placed) (more : List Placed) (w v : BlockWorld) → IsReady placed → IsOwn placed more → AreWhole root per w.files → block_after root per rec parts placed w ≡ Ok v
-      → Stepped root per placed.block.name rec.end (effect_on rec parts placed.block.name) w v
+  pub one-stepped : (placed : Placed) (more : List Placed) (w v : BlockWorld) → IsReady placed → IsOwn placed more → AreWhole root per w.files → block_after custom root per rec parts placed w ≡ Ok v
+      → Stepped root per placed.block.name rec.end (effect_on custom rec parts placed.block.name) w v
   unfolding block_after
   one-stepped placed more w v ready own whole made =
-      stepped root per some rec parts of_rec ends placed.block own.block own.proper w whole (act_on rec parts placed.block) v refl ready.done
-      (meets (rules_of rec) rec parts placed.block.name (managers_are rec) of_rec ends) made
+      stepped custom root per some rec parts of_rec ends placed.block own.block own.proper w whole (act_on custom rec parts placed.block) v refl ready.done
+      (meets (rules_of custom rec) rec parts placed.block.name (managers_are custom sound rec) of_rec ends) made
 
   -- blocks that no reference names stay
 
@@ -88,13 +89,13 @@ module _ (root : PathValue) (per : ℕ) (some : 0 < per) (rec : LogRecord) (part
     whole : AreWhole root per v.files
     others : (other : BlockName) → IsMainBlock other → is_named other blocks ≡ false → held_in root per other v ≡ held_in root per other w
 
-  all_left : (blocks : List Placed) (w v : BlockWorld) → AreReady blocks → AreOwn blocks → AreWhole root per w.files → each_after root per rec parts blocks w ≡ Ok v → AllLeft blocks w v
+  all_left : (blocks : List Placed) (w v : BlockWorld) → AreReady blocks → AreOwn blocks → AreWhole root per w.files → each_after custom root per rec parts blocks w ≡ Ok v → AllLeft blocks w v
   unfolding each_after
   all_left [] w v ready own whole made =
       let same : w ≡ v = one_world w v made in
       subst (λ u. AllLeft [] w u) same (record { whole = whole; others = λ other is free. refl })
   all_left (placed ∷ more) w v ready own whole made =
-      let two = given-ok (block_after root per rec parts placed w) (each_after root per rec parts more) v made in
+      let two = given-ok (block_after custom root per rec parts placed w) (each_after custom root per rec parts more) v made in
       let first = one-stepped placed more w two.0 ready.0 own.0 whole two.1 in
       let rest = all_left more two.0 v ready.1 own.1 first.left.whole two.2 in
       record {
@@ -107,45 +108,45 @@ module _ (root : PathValue) (per : ℕ) (some : 0 < per) (rec : LogRecord) (part
   -- and of the others each is stepped once, by the reference that names it
 
   abbrev Steps : BlockName → List Placed → BlockWorld → BlockWorld → Type 0
-  Steps name blocks w v = replay_step (view name.block) (held_in root per name w) rec.end (by_reference (rules_of rec) rec parts (reference_to name blocks)) ≡ OkHeld (held_in root per name v)
+  Steps name blocks w v = replay_step (view name.block) (held_in root per name w) rec.end (by_reference (rules_of custom rec) rec parts (reference_to name blocks)) ≡ OkHeld (held_in root per name v)
 
   own_step : (placed : Placed) (more : List Placed) (w mid v : BlockWorld) → IsReady placed → IsOwn placed more → is_gone rec parts placed.block.name ≡ false → IsMainBlock placed.block.name
-      → Stepped root per placed.block.name rec.end (effect_on rec parts placed.block.name) w mid → AllLeft more mid v
-      → replay_step (view placed.block.name.block) (held_in root per placed.block.name w) rec.end (by_placed (rules_of rec) rec parts placed) ≡ OkHeld (held_in root per placed.block.name v)
+      → Stepped root per placed.block.name rec.end (effect_on custom rec parts placed.block.name) w mid → AllLeft more mid v
+      → replay_step (view placed.block.name.block) (held_in root per placed.block.name w) rec.end (by_placed (rules_of custom rec) rec parts placed) ≡ OkHeld (held_in root per placed.block.name v)
   own_step placed more w mid v ready own stays is first rest =
       let name = placed.block.name in
-      let same : effect_on rec parts name ≡ by_placed (rules_of rec) rec parts placed = rw (stays, ready.found) refl in
+      let same : effect_on custom rec parts name ≡ by_placed (rules_of custom rec) rec parts placed = rw (stays, ready.found) refl in
       ap (replay_step (view name.block) (held_in root per name w) rec.end) (sym same)
-      ∙ first.step is (no_gone (effect_on rec parts name) (ap takes_away same ∙ placed_keeps (rules_of rec) rec parts placed))
+      ∙ first.step is (no_gone (effect_on custom rec parts name) (ap takes_away same ∙ placed_keeps (rules_of custom rec) rec parts placed))
       ∙ ap OkHeld (sym (left-own root per name w mid first.page first.skips first.left is))
       ∙ ap OkHeld (sym (rest.others name is own.alone))
 
   steps_once : (name : BlockName) (blocks : List Placed) (w v : BlockWorld) → IsMainBlock name → is_gone rec parts name ≡ false → AreReady blocks → AreOwn blocks → AreWhole root per w.files
-      → each_after root per rec parts blocks w ≡ Ok v → Steps name blocks w v
+      → each_after custom root per rec parts blocks w ≡ Ok v → Steps name blocks w v
   unfolding each_after
   steps_once name [] w v is stays ready own whole made = ap (λ u. OkHeld (held_in root per name u)) (one_world w v made)
   steps_once name (placed ∷ more) w v is stays ready own whole made =
-      let two = given-ok (block_after root per rec parts placed w) (each_after root per rec parts more) v made in
+      let two = given-ok (block_after custom root per rec parts placed w) (each_after custom root per rec parts more) v made in
       let first = one-stepped placed more w two.0 ready.0 own.0 whole two.1 in
       by_test (is_block name placed.block.name)
       (λ so.
       let same : name ≡ placed.block.name = name-is name placed.block.name so in
       let found : reference_to name (placed ∷ more) ≡ Some placed = ap (λ b. cond b (Some placed) (reference_to name more)) so in
-      ap (λ o. replay_step (view name.block) (held_in root per name w) rec.end (by_reference (rules_of rec) rec parts o)) found
-      ∙ subst (λ n. replay_step (view n.block) (held_in root per n w) rec.end (by_placed (rules_of rec) rec parts placed) ≡ OkHeld (held_in root per n v)) (sym same)
+      ap (λ o. replay_step (view name.block) (held_in root per name w) rec.end (by_reference (rules_of custom rec) rec parts o)) found
+      ∙ subst (λ n. replay_step (view n.block) (held_in root per n w) rec.end (by_placed (rules_of custom rec) rec parts placed) ≡ OkHeld (held_in root per n v)) (sym same)
       (own_step placed more w two.0 v ready.0 own.0 (sym (ap (is_gone rec parts) same) ∙ stays) (subst IsMainBlock same is) first (all_left more two.0 v ready.1 own.1 first.left.whole two.2)))
       (λ else_so.
       let later : reference_to name (placed ∷ more) ≡ reference_to name more = ap (λ b. cond b (Some placed) (reference_to name more)) else_so in
       let stood = left-other root per placed.block.name w two.0 first.page first.skips name first.left is else_so in
-      ap (λ o. replay_step (view name.block) (held_in root per name w) rec.end (by_reference (rules_of rec) rec parts o)) later
-      ∙ ap (λ h. replay_step (view name.block) h rec.end (by_reference (rules_of rec) rec parts (reference_to name more))) (sym stood)
+      ap (λ o. replay_step (view name.block) (held_in root per name w) rec.end (by_reference (rules_of custom rec) rec parts o)) later
+      ∙ ap (λ h. replay_step (view name.block) h rec.end (by_reference (rules_of custom rec) rec parts (reference_to name more))) (sym stood)
       ∙ steps_once name more two.0 v is stays ready.1 own.1 first.left.whole two.2)
 
-  pub blocks-whole : (w v : BlockWorld) → are_known parts.blocks ≡ true → AreOwn parts.blocks → AreWhole root per w.files → each_after root per rec parts parts.blocks w ≡ Ok v → AreWhole root per v.files
+  pub blocks-whole : (w v : BlockWorld) → are_known parts.blocks ≡ true → AreOwn parts.blocks → AreWhole root per w.files → each_after custom root per rec parts parts.blocks w ≡ Ok v → AreWhole root per v.files
   blocks-whole w v known own whole made = (all_left parts.blocks w v (all-ready known) own whole made).whole
 
   pub blocks-step : (name : BlockName) (w v : BlockWorld) → IsMainBlock name → is_gone rec parts name ≡ false → are_known parts.blocks ≡ true → AreOwn parts.blocks → AreWhole root per w.files
-      → each_after root per rec parts parts.blocks w ≡ Ok v → replay_step (view name.block) (held_in root per name w) rec.end (effect_on rec parts name) ≡ OkHeld (held_in root per name v)
+      → each_after custom root per rec parts parts.blocks w ≡ Ok v → replay_step (view name.block) (held_in root per name w) rec.end (effect_on custom rec parts name) ≡ OkHeld (held_in root per name v)
   blocks-step name w v is stays known own whole made =
-      let same : effect_on rec parts name ≡ by_reference (rules_of rec) rec parts (reference_to name parts.blocks) = rw stays refl in
+      let same : effect_on custom rec parts name ≡ by_reference (rules_of custom rec) rec parts (reference_to name parts.blocks) = rw stays refl in
       ap (replay_step (view name.block) (held_in root per name w) rec.end) same ∙ steps_once name parts.blocks w v is stays (all-ready known) own whole made

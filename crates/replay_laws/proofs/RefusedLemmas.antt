@@ -1,5 +1,6 @@
 -- A record is refused at a reference only where the step of its effect on that block is.
 use Rattle.std.proofs.Common.{◌≡◌, ◌⊎◌, ℕ, ◌<◌, ◌==◌, ◌&&◌, nat_lt, Bool, true, false, List, Option, None, Some, is_some, Result, Ok, Err, inl, inr, refl, ap, sym, subst, ◌∙◌, true≢false}
+use Rattle.rmgr_hooks.specs.Custom.{Extension}
 use Rattle.std.specs.Prelude.{not, if◌then◌else◌}
 use Rattle.std.specs.Option.{option_and_then}
 use Rattle.std.proofs.lemmas.Bool.{and_parts}
@@ -150,7 +151,7 @@ first_of_three : (a b c : Bool) → (a && b && c) ≡ true → a ≡ true
 first_of_three true b c e = refl
 first_of_three false b c e = absurd (true≢false (sym e))
 
-module _ (root : PathValue) (per : ℕ) (some : 0 < per) (rec : LogRecord) (parts : PartsView) (block : BlockRef) (small : IsBlock block.name) (proper : IsProper block.name.rel) (w : BlockWorld) (whole : AreWhole root per w.files)
+module _ (custom : Option Extension) (root : PathValue) (per : ℕ) (some : 0 < per) (rec : LogRecord) (parts : PartsView) (block : BlockRef) (small : IsBlock block.name) (proper : IsProper block.name.rel) (w : BlockWorld) (whole : AreWhole root per w.files)
     (start : Lsn) (name : BlockName) (why : RedoWhy) where
   abbrev p : BlockName
   p = block.name
@@ -163,30 +164,30 @@ module _ (root : PathValue) (per : ℕ) (some : 0 < per) (rec : LogRecord) (part
 
   -- the record says too little, or the block's step is refused
   abbrev pub Step : Type 0
-  Step = LacksLayout rec parts ⊎ (IsMainBlock p × (replay_step (view p.block) before rec.end (effect_on rec parts p) ≡ ErrHeld why))
+  Step = LacksLayout rec parts ⊎ (IsMainBlock p × (replay_step (view p.block) before rec.end (effect_on custom rec parts p) ≡ ErrHeld why))
 
   abbrev Fault : RecordFault
   Fault = RedoFailed start name why
 
   abbrev redo : List ℕ → Redone
-  redo page = redone rec parts block page
+  redo page = redone custom rec parts block page
 
-  of_main : act_on rec parts block ≡ act.Make ⊎ (act_on rec parts block ≡ act.Change) → IsMainBlock p
-  of_main is = record { main = main_is p.fork (and_parts (is_main p.fork) ((rules_of rec).acts rec parts block.id) acts).0; block = small; proper = proper }
+  of_main : act_on custom rec parts block ≡ act.Make ⊎ (act_on custom rec parts block ≡ act.Change) → IsMainBlock p
+  of_main is = record { main = main_is p.fork (and_parts (is_main p.fork) ((rules_of custom rec).acts rec parts block.id) acts).0; block = small; proper = proper }
     where
-      redone_so : act_on rec parts block ≡ act.Make ⊎ (act_on rec parts block ≡ act.Change) → redoes (act_on rec parts block) ≡ true
+      redone_so : act_on custom rec parts block ≡ act.Make ⊎ (act_on custom rec parts block ≡ act.Change) → redoes (act_on custom rec parts block) ≡ true
       redone_so (inl e) = ap redoes e
       redone_so (inr e) = ap redoes e
 
-      acts : (is_main p.fork && (rules_of rec).acts rec parts block.id) ≡ true
-      acts = redo_acts (is_gone rec parts p) (is_left p.fork) (is_some (applied block.image)) (is_main p.fork && (rules_of rec).acts rec parts block.id) ((rules_of rec).fresh rec parts block.id) (is_map_page rec block) (redone_so is)
+      acts : (is_main p.fork && (rules_of custom rec).acts rec parts block.id) ≡ true
+      acts = redo_acts (is_gone rec parts p) (is_left p.fork) (is_some (applied block.image)) (is_main p.fork && (rules_of custom rec).acts rec parts block.id) ((rules_of custom rec).fresh rec parts block.id) (is_map_page rec block) (redone_so is)
 
-  of_map : act_on rec parts block ≡ act.MapPage → sets_map_bits (done_by rec) ≡ true
+  of_map : act_on custom rec parts block ≡ act.MapPage → sets_map_bits (done_by rec) ≡ true
   of_map is =
       first_of_three (sets_map_bits (done_by rec)) (block.id == 0) (is_map p.fork)
-      (mark_sets (is_gone rec parts p) (is_left p.fork) (is_some (applied block.image)) (is_main p.fork && (rules_of rec).acts rec parts block.id) ((rules_of rec).fresh rec parts block.id) (is_map_page rec block) (ap marks is))
+      (mark_sets (is_gone rec parts p) (is_left p.fork) (is_some (applied block.image)) (is_main p.fork && (rules_of custom rec).acts rec parts block.id) ((rules_of custom rec).fresh rec parts block.id) (is_map_page rec block) (ap marks is))
 
-  image_refused : by_act root per rec parts block w act.Image ≡ Err Fault → ⊥
+  image_refused : by_act custom root per rec parts block w act.Image ≡ Err Fault → ⊥
   image_refused e = by (image_at rec parts block.id) (with_err w.skipped (image_put root per rec p (image_at rec parts block.id) w.files) Fault e)
     where
       by : (image : Option (List ℕ)) → image_put root per rec p image w.files ≡ Err Fault → ⊥
@@ -196,13 +197,13 @@ module _ (root : PathValue) (per : ℕ) (some : 0 < per) (rec : LogRecord) (part
   skip_refused : change_skipped root p w ≡ Err Fault → ⊥
   skip_refused e = no-redo (created root p.rel p.fork w.files) start name why (with_err (with_name p w.skipped) (of_files (created root p.rel p.fork w.files)) Fault e)
 
-  made_refused : act_on rec parts block ≡ act.Make → effect_on rec parts p ≡ Init (redo zeros) → by_act root per rec parts block w act.Make ≡ Err Fault → (p ≡ name) × Step
+  made_refused : act_on custom rec parts block ≡ act.Make → effect_on custom rec parts p ≡ Init (redo zeros) → by_act custom root per rec parts block w act.Make ≡ Err Fault → (p ≡ name) × Step
   made_refused is effect e =
       let two = put_err root per rec p (redo zeros) w.files start name why (with_err w.skipped (redone_put root per rec p (redo zeros) w.files) Fault e) in
       (two.0, inr (of_main (inl is), ap (replay_step (view p.block) before rec.end) effect ∙ ap (with_page before.skipped) two.1))
 
-  changed_refused : act_on rec parts block ≡ act.Change → effect_on rec parts p ≡ Change redo → by_act root per rec parts block w act.Change ≡ Err Fault → (p ≡ name) × Step
-  changed_refused is effect e = by_read (given-err (page_there root per p w.files) (λ reading. change_at root per rec parts block w reading.found reading.bytes) Fault e)
+  changed_refused : act_on custom rec parts block ≡ act.Change → effect_on custom rec parts p ≡ Change redo → by_act custom root per rec parts block w act.Change ≡ Err Fault → (p ≡ name) × Step
+  changed_refused is effect e = by_read (given-err (page_there root per p w.files) (λ reading. change_at custom root per rec parts block w reading.found reading.bytes) Fault e)
     where
       older : (bytes : List ℕ) → page_in root per p w.files ≡ Some bytes → with_files w.skipped (older_put root per rec p redo bytes w.files) ≡ Err Fault → (p ≡ name) × Step
       older bytes there run =
@@ -217,19 +218,19 @@ module _ (root : PathValue) (per : ℕ) (some : 0 < per) (rec : LogRecord) (part
             ),
           )
 
-      by_state : (state : Option (List ℕ)) → block_in root per p w.files ≡ state → change_at root per rec parts block w (reading_of zeros state).found (reading_of zeros state).bytes ≡ Err Fault → (p ≡ name) × Step
+      by_state : (state : Option (List ℕ)) → block_in root per p w.files ≡ state → change_at custom root per rec parts block w (reading_of zeros state).found (reading_of zeros state).bytes ≡ Err Fault → (p ≡ name) × Step
       by_state None there run = absurd (skip_refused run)
       by_state (Some bytes) there run = by_test (is_zero bytes)
           (λ zero. absurd (skip_refused (rw zero at run)))
           (λ page. older bytes (ap (option_and_then page_or_none) there ∙ rw page refl) (rw page at run))
 
-      by_read : (page_there root per p w.files ≡ Err Fault) ⊎ ((reading : Reading) × (page_there root per p w.files ≡ Ok reading) × (change_at root per rec parts block w reading.found reading.bytes ≡ Err Fault)) → (p ≡ name) × Step
+      by_read : (page_there root per p w.files ≡ Err Fault) ⊎ ((reading : Reading) × (page_there root per p w.files ≡ Ok reading) × (change_at custom root per rec parts block w reading.found reading.bytes ≡ Err Fault)) → (p ≡ name) × Step
       by_read (inl refused) = absurd (no-redo (block_read root per p w.files zeros) start name why refused)
       by_read (inr read) =
           let same : read.0 ≡ reading_of zeros (block_in root per p w.files) = read-whole root per p w.files zeros read.0 some small (whole.no_gap p.rel p.fork small.rel) (files-ok _ read.0 read.1) in
-          by_state (block_in root per p w.files) refl (subst (λ (r : Reading). change_at root per rec parts block w r.found r.bytes ≡ Err Fault) same read.2)
+          by_state (block_in root per p w.files) refl (subst (λ (r : Reading). change_at custom root per rec parts block w r.found r.bytes ≡ Err Fault) same read.2)
 
-  map_refused : act_on rec parts block ≡ act.MapPage → by_act root per rec parts block w act.MapPage ≡ Err Fault → (p ≡ name) × Step
+  map_refused : act_on custom rec parts block ≡ act.MapPage → by_act custom root per rec parts block w act.MapPage ≡ Err Fault → (p ≡ name) × Step
   map_refused is e = by_read (given-err (page_there root per p w.files) (λ reading. older_put root per rec p (stamped rec.end (visible_map rec parts)) reading.bytes w.files) Fault (with_err w.skipped (map_changed root per rec parts p w.files) Fault e))
     where
       by_read : (page_there root per p w.files ≡ Err Fault) ⊎ ((reading : Reading) × (page_there root per p w.files ≡ Ok reading) × (older_put root per rec p (stamped rec.end (visible_map rec parts)) reading.bytes w.files ≡ Err Fault)) → (p ≡ name) × Step
@@ -238,7 +239,7 @@ module _ (root : PathValue) (per : ℕ) (some : 0 < per) (rec : LogRecord) (part
           let three = older_err root per rec p (stamped rec.end (visible_map rec parts)) read.0.bytes w.files start name why read.2 in
           (three.1, inl (no_visible rec parts read.0.bytes why (of_map is) three.2))
 
-  pub refused-at : (a : Act) → act_on rec parts block ≡ a → IsDone rec parts block.id a (effect_on rec parts p) → by_act root per rec parts block w a ≡ Err Fault → (p ≡ name) × Step
+  pub refused-at : (a : Act) → act_on custom rec parts block ≡ a → IsDone custom rec parts block.id a (effect_on custom rec parts p) → by_act custom root per rec parts block w a ≡ Err Fault → (p ≡ name) × Step
   refused-at act.Nothing is done e = absurd cc
   refused-at act.Gone is done e = absurd cc
   refused-at act.Image is done e = absurd (image_refused e)

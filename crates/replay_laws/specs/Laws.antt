@@ -1,5 +1,6 @@
 -- Replay of a log over a cluster, seen on one block. Own: "A replay, seen on one block".
-use Rattle.std.specs.Prelude.{◌≡◌, ℕ, ◌<◌, List, Ok}
+use Rattle.std.specs.Prelude.{Option, ◌≡◌, ℕ, ◌<◌, List, Ok}
+use Rattle.rmgr_hooks.specs.Custom.{Extension, IsSound}
 use Rattle.block_refs.specs.Parts.{PartsView}
 use Rattle.block_refs.specs.declared.names.BlockName.{BlockName}
 use Rattle.cluster_tree.specs.Contents.{Contents}
@@ -17,31 +18,31 @@ use Rattle.replay_laws.specs.Whole.{AreWhole}
 
 -- what a record leaves of a block is what its effect on the block makes of what was held
 abbrev pub Projects : Type 0
-Projects = (root : PathValue) (per_file : ℕ) (rec : LogRecord) (parts : PartsView) (name : BlockName) (w v : World)
-    → 0 < per_file → IsTaken rec parts → IsMainBlock name → AreWhole root per_file w.files
-    → record_after root per_file rec parts w ≡ Ok v
-    → replay_step (view name.block) (held root per_file w name) rec.end (effect_on rec parts name) ≡ Ok (held root per_file v name)
+Projects = (custom : Option Extension) → IsSound custom → (root : PathValue) (per_file : ℕ) (rec : LogRecord) (parts : PartsView) (name : BlockName) (w v : World)
+    → 0 < per_file → IsTaken custom rec parts → IsMainBlock name → AreWhole root per_file w.files
+    → record_after custom root per_file rec parts w ≡ Ok v
+    → replay_step (view name.block) (held root per_file w name) rec.end (effect_on custom rec parts name) ≡ Ok (held root per_file v name)
 
 -- a record leaves files as whole as they were
 abbrev pub StaysWhole : Type 0
-StaysWhole = (root : PathValue) (per_file : ℕ) (rec : LogRecord) (parts : PartsView) (w v : World)
-    → 0 < per_file → IsTaken rec parts → AreWhole root per_file w.files
-    → record_after root per_file rec parts w ≡ Ok v → AreWhole root per_file v.files
+StaysWhole = (custom : Option Extension) → IsSound custom → (root : PathValue) (per_file : ℕ) (rec : LogRecord) (parts : PartsView) (w v : World)
+    → 0 < per_file → IsTaken custom rec parts → AreWhole root per_file w.files
+    → record_after custom root per_file rec parts w ≡ Ok v → AreWhole root per_file v.files
 
 -- what a log leaves of a block is the run of the log's effects on it, from what was held
 abbrev pub Runs : Type 0
-Runs = (root : PathValue) (per_file start : ℕ) (records : List LogRecord) (name : BlockName) (w v : World)
-    → 0 < per_file → AreTaken start records → IsMainBlock name → AreWhole root per_file w.files
-    → records_after root per_file records w ≡ Ok v
-    → replay_block (view name.block) (held root per_file w name) (steps name records) ≡ Ok (held root per_file v name)
+Runs = (custom : Option Extension) → IsSound custom → (root : PathValue) (per_file start : ℕ) (records : List LogRecord) (name : BlockName) (w v : World)
+    → 0 < per_file → AreTaken custom start records → IsMainBlock name → AreWhole root per_file w.files
+    → records_after custom root per_file records w ≡ Ok v
+    → replay_block (view name.block) (held root per_file w name) (steps custom name records) ≡ Ok (held root per_file v name)
 
 -- and a log leaves files as whole as they were
 abbrev pub RunsWhole : Type 0
-RunsWhole = (root : PathValue) (per_file start : ℕ) (records : List LogRecord) (w v : World)
-    → 0 < per_file → AreTaken start records → AreWhole root per_file w.files
-    → records_after root per_file records w ≡ Ok v → AreWhole root per_file v.files
+RunsWhole = (custom : Option Extension) → IsSound custom → (root : PathValue) (per_file start : ℕ) (records : List LogRecord) (w v : World)
+    → 0 < per_file → AreTaken custom start records → AreWhole root per_file w.files
+    → records_after custom root per_file records w ≡ Ok v → AreWhole root per_file v.files
 
 -- the log of a cluster that passes every check before a replay is one of records that replay takes
 abbrev pub StartIsTaken : Type 0
-StartIsTaken = (c : Contents) (root : PathValue) (start : Start)
-    → HoldsBytes c root → start_of c root ≡ Ok start → AreTaken start.label.start.0 start.records
+StartIsTaken = (custom : Option Extension) (c : Contents) (root : PathValue) (start : Start)
+    → HoldsBytes c root → start_of custom c root ≡ Ok start → AreTaken custom start.label.start.0 start.records

@@ -1,6 +1,7 @@
 -- Records that a replay takes, and a log as one block meets it: PostgreSQL 16, src/backend/access/transam/xlogrecovery.c,
 -- PerformWalRecovery. Own: "The profile of replay", "A replay, seen on one block".
-use Rattle.std.specs.Prelude.{◌≡◌, ◌<◌, ℕ, List, [], ◌∷◌, map, None, Some, Ok}
+use Rattle.std.specs.Prelude.{Option, ◌≡◌, ◌<◌, ℕ, List, [], ◌∷◌, map, None, Some, Ok}
+use Rattle.rmgr_hooks.specs.Custom.{Extension}
 use Rattle.std.specs.List.{AllByRecursion}
 use Rattle.block_effects.specs.Lives.{Split, steps_of}
 use Rattle.block_refs.specs.Outcomes.{record_parts}
@@ -17,8 +18,8 @@ use Rattle.wal_records.specs.Log.{AreInOrder}
 use Rattle.wal_records.specs.Reading.{LogRecord}
 
 -- the record is one of the profile and has these parts; its body is one of bytes, and it ends behind the log's first byte
-pub record IsTaken (rec : LogRecord) (parts : PartsView) : Type 0 where
-  pub judged : judged rec ≡ Ok parts
+pub record IsTaken (custom : Option Extension) (rec : LogRecord) (parts : PartsView) : Type 0 where
+  pub judged : judged custom rec ≡ Ok parts
   pub bytes : AreBytes rec.body
   pub ends : 0 < rec.end
 
@@ -27,8 +28,8 @@ abbrev pub HasBytes : LogRecord → Type 0
 HasBytes rec = AreBytes rec.body
 
 -- records of a log from a position on, all of the profile
-pub record AreTaken (start : ℕ) (records : List LogRecord) : Type 0 where
-  pub judged : first_outside records ≡ None
+pub record AreTaken (custom : Option Extension) (start : ℕ) (records : List LogRecord) : Type 0 where
+  pub judged : first_outside custom records ≡ None
   pub bytes : AllByRecursion HasBytes records
   pub order : AreInOrder start records
 
@@ -41,5 +42,5 @@ abbrev pub split_of : LogRecord → Split
 split_of rec = record { rec = rec; parts = parts_or_none (record_parts rec) }
 
 -- the end of each record, and its effect on the block
-abbrev pub steps : BlockName → List LogRecord → List Step
-steps name records = steps_of rules_of name (map split_of records)
+abbrev pub steps : Option Extension → BlockName → List LogRecord → List Step
+steps custom name records = steps_of (rules_of custom) name (map split_of records)

@@ -1,6 +1,7 @@
 -- Why a replay is refused but for its files, seen on one block: PostgreSQL 16, src/backend/access/transam/xlogrecovery.c,
 -- ApplyWalRecord; src/backend/access/heap/heapam.c, heap_xlog_visible. Own: "A replay, seen on one block".
 use Rattle.std.specs.Prelude.{◌≡◌, ◌⊎◌, ℕ, ◌<◌, true, List, Option, None, Some, Err}
+use Rattle.rmgr_hooks.specs.Custom.{Extension, IsSound}
 use Rattle.std.specs.List.{slice_get}
 use Rattle.block_refs.specs.Parts.{PartsView}
 use Rattle.block_refs.specs.declared.names.BlockName.{BlockName}
@@ -34,27 +35,27 @@ SomeLacksLayout records = (at : ℕ) × (rec : LogRecord) × (slice_get records 
 -- a record that says enough is refused at a block only where the step of its effect on the block is, for the same
 -- reason
 abbrev pub RefusedAtItsBlock : Type 0
-RefusedAtItsBlock = (root : PathValue) (per_file : ℕ) (rec : LogRecord) (parts : PartsView)
+RefusedAtItsBlock = (custom : Option Extension) → IsSound custom → (root : PathValue) (per_file : ℕ) (rec : LogRecord) (parts : PartsView)
     (start : Lsn) (name : BlockName) (why : RedoWhy) (w : World)
-    → 0 < per_file → IsTaken rec parts → AreWhole root per_file w.files
-    → record_after root per_file rec parts w ≡ Err (RedoFailed start name why)
+    → 0 < per_file → IsTaken custom rec parts → AreWhole root per_file w.files
+    → record_after custom root per_file rec parts w ≡ Err (RedoFailed start name why)
     → LacksLayout rec parts
-    ⊎ (IsMainBlock name × (replay_step (view name.block) (held root per_file w name) rec.end (effect_on rec parts name) ≡ Err why))
+    ⊎ (IsMainBlock name × (replay_step (view name.block) (held root per_file w name) rec.end (effect_on custom rec parts name) ≡ Err why))
 
 -- and a log only where the run of its effects on the block is
 abbrev pub LogRefusedAtItsBlock : Type 0
-LogRefusedAtItsBlock = (root : PathValue) (per_file from : ℕ) (records : List LogRecord)
+LogRefusedAtItsBlock = (custom : Option Extension) → IsSound custom → (root : PathValue) (per_file from : ℕ) (records : List LogRecord)
     (start : Lsn) (name : BlockName) (why : RedoWhy) (w : World)
-    → 0 < per_file → AreTaken from records → AreWhole root per_file w.files
-    → records_after root per_file records w ≡ Err (RedoFailed start name why)
+    → 0 < per_file → AreTaken custom from records → AreWhole root per_file w.files
+    → records_after custom root per_file records w ≡ Err (RedoFailed start name why)
     → SomeLacksLayout records
-    ⊎ (IsMainBlock name × (replay_block (view name.block) (held root per_file w name) (steps name records) ≡ Err why))
+    ⊎ (IsMainBlock name × (replay_block (view name.block) (held root per_file w name) (steps custom name records) ≡ Err why))
 
 -- So a cluster of which each block of a main fork fits a base, or is changed by no record, isn't refused at any block by a log whose
 -- records say enough.
 abbrev pub NotRefused : Type 0
-NotRefused = (root : PathValue) (per_file from redo : ℕ) (base : BlockName → Option (List ℕ)) (records : List LogRecord)
+NotRefused = (custom : Option Extension) → IsSound custom → (root : PathValue) (per_file from redo : ℕ) (base : BlockName → Option (List ℕ)) (records : List LogRecord)
     (start : Lsn) (name : BlockName) (why : RedoWhy) (w : World)
-    → AreTaken from records → ¬ (SomeLacksLayout records) → Begins root per_file w
-    → ((block : BlockName) → IsMainBlock block → IsFit root per_file redo block (base block) records w)
-    → ¬ (records_after root per_file records w ≡ Err (RedoFailed start name why))
+    → AreTaken custom from records → ¬ (SomeLacksLayout records) → Begins root per_file w
+    → ((block : BlockName) → IsMainBlock block → IsFit custom root per_file redo block (base block) records w)
+    → ¬ (records_after custom root per_file records w ≡ Err (RedoFailed start name why))

@@ -20,30 +20,31 @@ use Rattle.replay_start.specs.declared.fault.ReplayFault.{ReplayFault}
 use Rattle.replay_start.specs.declared.scan.Seen.{Seen}
 use Rattle.replay_start.specs.declared.scan.Turn.{Turn}
 use Rattle.replay_start.specs.declared.scan.Turn.TheVariants.{Done, More}
+use Rattle.rmgr_hooks.specs.Custom.{Extension}
 
 -- no step
-pub scans_none : (label : LabelPlaces) (records : List LogRecord) (seen : Seen) → Scans label records records seen seen
-scans_none label records seen = record { outside = refl; end = refl; found = refl }
+pub scans_none : (custom : Option Extension) (label : LabelPlaces) (records : List LogRecord) (seen : Seen) → Scans custom label records records seen seen
+scans_none custom label records seen = record { outside = refl; end = refl; found = refl }
 
 -- one step more
-pub scans_more : (label : LabelPlaces) (first old new : List LogRecord) (s t u : Seen) → Scans label first old s t → Scans label old new t u → Scans label first new s u
-scans_more label first old new s t u one two = record {
+pub scans_more : (custom : Option Extension) (label : LabelPlaces) (first old new : List LogRecord) (s t u : Seen) → Scans custom label first old s t → Scans custom label old new t u → Scans custom label first new s u
+scans_more custom label first old new s t u one two = record {
   outside = one.outside ∙ two.outside;
   end = one.end ∙ two.end;
   found = one.found ∙ two.found;
 }
 
 -- the last one
-pub scans_last : (label : LabelPlaces) (first old : List LogRecord) (s t u : Seen) → Scans label first old s t → IsScanned label old t u → IsScanned label first s u
-scans_last label first old s t u one two = record {
+pub scans_last : (custom : Option Extension) (label : LabelPlaces) (first old : List LogRecord) (s t u : Seen) → Scans custom label first old s t → IsScanned custom label old t u → IsScanned custom label first s u
+scans_last custom label first old s t u one two = record {
   taken = one.outside ∙ two.taken;
   end = one.end ∙ two.end;
   found = one.found ∙ two.found;
 }
 
-pub scans_refused : (label : LabelPlaces) (first old : List LogRecord) (s t : Seen) (e : ReplayFault) → Scans label first old s t → IsRefused old e → IsRefused first e
-scans_refused label first old s t e one (inl free) = inl free
-scans_refused label first old s t e one (inr is) = inr (ap (option_map of_profile) one.outside ∙ is)
+pub scans_refused : (custom : Option Extension) (label : LabelPlaces) (first old : List LogRecord) (s t : Seen) (e : ReplayFault) → Scans custom label first old s t → IsRefused custom old e → IsRefused custom first e
+scans_refused custom label first old s t e one (inl free) = inl free
+scans_refused custom label first old s t e one (inr is) = inr (ap (option_map of_profile) one.outside ∙ is)
 
 or_more : (a b c : Bool) → (a || (b || c)) ≡ ((a || b) || c)
 or_more true b c = refl
@@ -54,25 +55,25 @@ or_none true = refl
 or_none false = refl
 
 -- a record that is taken
-pub one_more : (label : LabelPlaces) (r : LogRecord) (parts : PartsView) (old new : List LogRecord) (s : Seen) → old ≡ r ∷ new → judged r ≡ Ok parts
-    → Scans label old new s (with_record label r s)
-one_more label r parts old new s is taken = record {
-  outside = ap first_outside is ∙ ap (λ j. first_of j (first_outside new)) taken;
+pub one_more : (custom : Option Extension) (label : LabelPlaces) (r : LogRecord) (parts : PartsView) (old new : List LogRecord) (s : Seen) → old ≡ r ∷ new → judged custom r ≡ Ok parts
+    → Scans custom label old new s (with_record label r s)
+one_more custom label r parts old new s is taken = record {
+  outside = ap (first_outside custom) is ∙ ap (λ j. first_of j (first_outside custom new)) taken;
   end = ap (end_after s.end.0) is;
   found = ap (λ rs. s.found || list_any (is_labelled label) rs) is ∙ or_more s.found (is_labelled label r) (list_any (is_labelled label) new);
 }
 
 -- no record is left
-pub none_left : (label : LabelPlaces) (old : List LogRecord) (s : Seen) → old ≡ [] → IsScanned label old s s
-none_left label old s is = record {
-  taken = ap first_outside is;
+pub none_left : (custom : Option Extension) (label : LabelPlaces) (old : List LogRecord) (s : Seen) → old ≡ [] → IsScanned custom label old s s
+none_left custom label old s is = record {
+  taken = ap (first_outside custom) is;
   end = ap (end_after s.end.0) is;
   found = ap (λ rs. s.found || list_any (is_labelled label) rs) is ∙ or_none s.found;
 }
 
 -- one that isn't taken
-pub one_refused : (r : LogRecord) (old new : List LogRecord) (fault : ProfileFault) → old ≡ r ∷ new → judged r ≡ Err fault → option_map of_profile (first_outside old) ≡ Some (of_profile fault)
-one_refused r old new fault is refused = ap (λ rs. option_map of_profile (first_outside rs)) is ∙ ap (λ j. option_map of_profile (first_of j (first_outside new))) refused
+pub one_refused : (custom : Option Extension) (r : LogRecord) (old new : List LogRecord) (fault : ProfileFault) → old ≡ r ∷ new → judged custom r ≡ Err fault → option_map of_profile (first_outside custom old) ≡ Some (of_profile fault)
+one_refused custom r old new fault is refused = ap (λ rs. option_map of_profile (first_outside custom rs)) is ∙ ap (λ j. option_map of_profile (first_of j (first_outside custom new))) refused
 
 -- Steps of a cursor.
 
@@ -105,23 +106,23 @@ pub further_in : (old new : CursorView) (turn : Turn) → turn ≡ More → Move
 further_in old new turn is moved = let P : Turn → Type 0 = λ k. MovesOn old new k in subst P is moved
 
 -- where the contents are those that were found
-module _ (label : LabelPlaces) (first : List LogRecord) (old new : CursorView) (c c' : Contents) (s t u : Seen) where
-  pub more_in : (turn : Turn) → c' ≡ c → turn ≡ More → Scans label first (to_come old c).records s t
-      → ScansNext label (to_come old c').records (to_come new c').records t u (Ok turn) → Scans label first (to_come new c).records s u
+module _ (custom : Option Extension) (label : LabelPlaces) (first : List LogRecord) (old new : CursorView) (c c' : Contents) (s t u : Seen) where
+  pub more_in : (turn : Turn) → c' ≡ c → turn ≡ More → Scans custom label first (to_come old c).records s t
+      → ScansNext custom label (to_come old c').records (to_come new c').records t u (Ok turn) → Scans custom label first (to_come new c).records s u
   more_in turn same is one two =
-      let P : Contents → Type 0 = λ x. ScansNext label (to_come old x).records (to_come new x).records t u (Ok turn) in
-      let Q : Turn → Type 0 = λ k. ScansNext label (to_come old c).records (to_come new c).records t u (Ok k) in
-      scans_more label first (to_come old c).records (to_come new c).records s t u one (subst Q is (subst P same two))
+      let P : Contents → Type 0 = λ x. ScansNext custom label (to_come old x).records (to_come new x).records t u (Ok turn) in
+      let Q : Turn → Type 0 = λ k. ScansNext custom label (to_come old c).records (to_come new c).records t u (Ok k) in
+      scans_more custom label first (to_come old c).records (to_come new c).records s t u one (subst Q is (subst P same two))
 
-  pub last_in : (turn : Turn) → c' ≡ c → turn ≡ Done → Scans label first (to_come old c).records s t
-      → ScansNext label (to_come old c').records (to_come new c').records t u (Ok turn) → IsScanned label first s u
+  pub last_in : (turn : Turn) → c' ≡ c → turn ≡ Done → Scans custom label first (to_come old c).records s t
+      → ScansNext custom label (to_come old c').records (to_come new c').records t u (Ok turn) → IsScanned custom label first s u
   last_in turn same is one two =
-      let P : Contents → Type 0 = λ x. ScansNext label (to_come old x).records (to_come new x).records t u (Ok turn) in
-      let Q : Turn → Type 0 = λ k. ScansNext label (to_come old c).records (to_come new c).records t u (Ok k) in
-      scans_last label first (to_come old c).records s t u one (subst Q is (subst P same two))
+      let P : Contents → Type 0 = λ x. ScansNext custom label (to_come old x).records (to_come new x).records t u (Ok turn) in
+      let Q : Turn → Type 0 = λ k. ScansNext custom label (to_come old c).records (to_come new c).records t u (Ok k) in
+      scans_last custom label first (to_come old c).records s t u one (subst Q is (subst P same two))
 
-  pub refused_in : (e : ReplayFault) → c' ≡ c → Scans label first (to_come old c).records s t
-      → ScansNext label (to_come old c').records (to_come new c').records t u (Err e) → IsRefused first e
+  pub refused_in : (e : ReplayFault) → c' ≡ c → Scans custom label first (to_come old c).records s t
+      → ScansNext custom label (to_come old c').records (to_come new c').records t u (Err e) → IsRefused custom first e
   refused_in e same one two =
-      let P : Contents → Type 0 = λ x. ScansNext label (to_come old x).records (to_come new x).records t u (Err e) in
-      scans_refused label first (to_come old c).records s t e one (subst P same two)
+      let P : Contents → Type 0 = λ x. ScansNext custom label (to_come old x).records (to_come new x).records t u (Err e) in
+      scans_refused custom label first (to_come old c).records s t e one (subst P same two)

@@ -30,6 +30,7 @@ use Rattle.replay_start.specs.Scanned.{log_refusal}
 use Rattle.replay_start.specs.declared.checked.Checked.{Checked}
 use Rattle.replay_start.specs.declared.fault.ReplayFault.{ReplayFault}
 use Rattle.replay_start.specs.declared.fault.ReplayFault.TheVariants as fault
+use Rattle.rmgr_hooks.specs.Custom.{Extension}
 
 -- a cluster that passed every check: what its control file and its label say, where its log lies, and the log's records
 pub record Start : Type 0 where
@@ -66,28 +67,28 @@ abbrev pub log_with : PathValue → Control → List Span → Option LogPath
 log_with root control spans = option_map (log_at root spans) (size_of_bytes control.walSegSize)
 
 -- the whole log passes, from the label's start on
-abbrev pub with_records : PathValue → Control → LabelPlaces → LogPath → List LogRecord → Result Start ReplayFault
-with_records root control label log records =
-    unless (log_refusal root control label records) (Ok (record { control = control; label = label; log = log; records = records }))
+abbrev pub with_records : Option Extension → PathValue → Control → LabelPlaces → LogPath → List LogRecord → Result Start ReplayFault
+with_records custom root control label log records =
+    unless (log_refusal custom root control label records) (Ok (record { control = control; label = label; log = log; records = records }))
 
 -- a control file that was read has the size of a segment
-abbrev pub in_log : Contents → PathValue → Control → LabelPlaces → Option LogPath → Result Start ReplayFault
-in_log c root control label (Some log) = with_records root control label log (log_of (pages_of log c) (bytes_of log.size) label.start.0).records
-in_log c root control label None = Err (fault.Cluster (cluster.Shape root field.WalSegSize control.walSegSize))
+abbrev pub in_log : Option Extension → Contents → PathValue → Control → LabelPlaces → Option LogPath → Result Start ReplayFault
+in_log custom c root control label (Some log) = with_records custom root control label log (log_of (pages_of log c) (bytes_of log.size) label.start.0).records
+in_log custom c root control label None = Err (fault.Cluster (cluster.Shape root field.WalSegSize control.walSegSize))
 
 -- before that, the history of the control file's timeline
-unfoldable pub from_label : Contents → PathValue → Control → LabelPlaces → Result Start ReplayFault
-from_label c root control label =
-    given (told_by (history_at c root (timeline_of control))) (λ spans. in_log c root control label (log_with root control spans))
+unfoldable pub from_label : Option Extension → Contents → PathValue → Control → LabelPlaces → Result Start ReplayFault
+from_label custom c root control label =
+    given (told_by (history_at c root (timeline_of control))) (λ spans. in_log custom c root control label (log_with root control spans))
 
 -- before that, what the control file must meet, and the label
-unfoldable pub from_control : Contents → PathValue → Control → Result Start ReplayFault
-from_control c root control =
-    unless (first_of (checksums_on root control ∷ no_hints root control ∷ [])) (given (label_at c root) (from_label c root control))
+unfoldable pub from_control : Option Extension → Contents → PathValue → Control → Result Start ReplayFault
+from_control custom c root control =
+    unless (first_of (checksums_on root control ∷ no_hints root control ∷ [])) (given (label_at c root) (from_label custom c root control))
 
 -- The first point that refuses decides: first of all the marks of unfinished runs, and the control file.
-unfoldable pub start_of : Contents → PathValue → Result Start ReplayFault
-start_of c root = unless (option_map fault.Cluster (unfinished c root)) (given (told_by (control_at c root)) (from_control c root))
+unfoldable pub start_of : Option Extension → Contents → PathValue → Result Start ReplayFault
+start_of custom c root = unless (option_map fault.Cluster (unfinished c root)) (given (told_by (control_at c root)) (from_control custom c root))
 
 -- what was checked is this start
 pub record IsStart (start : Start) (v : Checked) : Type 0 where

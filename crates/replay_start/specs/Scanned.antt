@@ -15,6 +15,7 @@ use Rattle.wal_records.specs.Reading.{LogRecord}
 use Rattle.replay_start.specs.Faults.{of_profile}
 use Rattle.replay_start.specs.declared.fault.ReplayFault.{ReplayFault}
 use Rattle.replay_start.specs.declared.fault.ReplayFault.TheVariants as fault
+use Rattle.rmgr_hooks.specs.Custom.{Extension}
 
 -- a record is that of the label's checkpoint: it stands at its place, and is a checkpoint from whose redo the log is read
 abbrev pub is_labelled : LabelPlaces → LogRecord → Bool
@@ -30,7 +31,7 @@ abbrev pub unlabelled : PathValue → Bool → Option ReplayFault
 unlabelled root found = if found then None else Some (fault.BadLabel root 2)
 
 -- what refuses a log of these records: the first that isn't taken, then its end, then that the label's checkpoint is missing
-unfoldable pub log_refusal : PathValue → Control → LabelPlaces → List LogRecord → Option ReplayFault
-log_refusal root control label records =
-    first_of (option_map of_profile (first_outside records) ∷ ends_too_soon control.minRecoveryPoint (end_after label.start.0 records)
+unfoldable pub log_refusal : Option Extension → PathValue → Control → LabelPlaces → List LogRecord → Option ReplayFault
+log_refusal custom root control label records =
+    first_of (option_map of_profile (first_outside custom records) ∷ ends_too_soon control.minRecoveryPoint (end_after label.start.0 records)
     ∷ unlabelled root (list_any (is_labelled label) records) ∷ [])

@@ -14,6 +14,7 @@ ghost use Rattle.replay_start.specs.Faults.{IsFree};
 ghost use Rattle.replay_start.specs.Checked.{Checks, from_control, from_label, start_of};
 ghost use Rattle.replay_start.specs.Scanned.{ends_too_soon, log_refusal, unlabelled};
 ghost use Rattle.clusters.specs.declared.fault.ClusterFault.TheVariants as cluster;
+ghost use Rattle.rmgr_hooks.specs.Custom.{handed_in};
 
 use crate::checked::Checked;
 use crate::fault::ReplayFault;
@@ -25,6 +26,7 @@ use backup_label::LabelPlaces;
 use block_refs::Parts;
 use cluster_tree::{Path, Tree};
 use control_file::Control;
+use rmgr_hooks::Manager;
 use std::alloc::Global;
 use wal_base::Lsn;
 use wal_records::RecordCursor;
@@ -50,16 +52,18 @@ fn check_seen(alloc: Global, root: &Path, control: &Control, seen: Seen) -> Resu
 
 // Reads the whole log from the label's start on, and tells where it ends.
 #[tactic(auto, using(crate::proofs::StageLemmas::log_steps))]
-fn check_log<F: Tree>(
+fn check_log<F: Tree, M: Manager>(
     alloc: Global,
     tree: &mut F,
     root: &Path,
     control: &Control,
     label: LabelPlaces,
     cursor: &mut RecordCursor,
+    custom: Option<&M>,
 ) -> Result<Lsn, ReplayFault>
     requires knows { IsTrue F.tells → Knows cursor.old (F.contents tree.old) }
-    ensures answer { IsTrue F.tells → Passes IsFree (log_refusal root.now control.now label (log_of
+    ensures answer { IsTrue F.tells → Passes IsFree (log_refusal (handed_in M.Manager custom.entry)
+        root.now control.now label (log_of
         (pages_of cursor.old.log (F.contents tree.old)) (bytes_of cursor.old.log.size)
         label.start.0).records) result }
     ensures end { IsTrue F.tells → IfOk result (λ end. end.0 ≡ end_after label.start.0 (log_of
@@ -78,24 +82,26 @@ fn check_log<F: Tree>(
         end: label.start,
         found: false,
     };
-    scan_all(cursor, tree, label, &mut Parts::new(), &mut seen)?;
+    scan_all(cursor, tree, label, &mut Parts::new(), &mut seen, custom)?;
     check_seen(alloc, root, control, seen)?;
     Ok(seen.end)
 }
 
 // What follows from the control file and the label.
 #[tactic(auto, unfolding(crate::specs::Checked::from_label))]
-fn check_label<F: Tree>(
+fn check_label<F: Tree, M: Manager>(
     alloc: Global,
     tree: &mut F,
     root: &Path,
     control: Control,
     label: LabelPlaces,
+    custom: Option<&M>,
 ) -> Result<Checked, ReplayFault>
     requires room { length root.now.parts ≤ 61 }
     requires control { IsControl control }
     ensures exact { IsTrue F.tells →
-        Checks (from_label (F.contents tree.old) root.now control label) result }
+        Checks (from_label (handed_in M.Manager custom.entry) (F.contents tree.old) root.now control
+        label) result }
     ensures knows { IsTrue F.tells →
         IfOk result (λ checked. Knows checked.cursor (F.contents tree.new)) }
     ensures control { IfOk result (λ checked. checked.control ≡ control) }
@@ -109,7 +115,7 @@ fn check_label<F: Tree>(
 {
     let history = history_at(alloc, tree, root, control.timeline())?;
     let mut cursor = log_cursor(alloc, root, &control, &history, label.start)?;
-    let end = check_log(alloc, tree, root, &control, label, &mut cursor)?;
+    let end = check_log(alloc, tree, root, &control, label, &mut cursor, custom)?;
     Ok(Checked {
         control,
         label,
@@ -120,16 +126,18 @@ fn check_label<F: Tree>(
 
 // What follows from the control file.
 #[tactic(auto, unfolding(crate::specs::Checked::from_control))]
-fn check_from<F: Tree>(
+fn check_from<F: Tree, M: Manager>(
     alloc: Global,
     tree: &mut F,
     root: &Path,
     control: Control,
+    custom: Option<&M>,
 ) -> Result<Checked, ReplayFault>
     requires room { length root.now.parts ≤ 61 }
     requires control { IsControl control }
     ensures exact { IsTrue F.tells →
-        Checks (from_control (F.contents tree.old) root.now control) result }
+        Checks (from_control (handed_in M.Manager custom.entry) (F.contents tree.old) root.now
+        control) result }
     ensures knows { IsTrue F.tells →
         IfOk result (λ checked. Knows checked.cursor (F.contents tree.new)) }
     ensures control { IfOk result (λ checked. checked.control ≡ control) }
@@ -143,7 +151,7 @@ fn check_from<F: Tree>(
 {
     check_control(alloc, root, &control)?;
     let label = label_at(alloc, tree, root)?;
-    check_label(alloc, tree, root, control, label)
+    check_label(alloc, tree, root, control, label, custom)
 }
 
 /// Checks a cluster before a replay, and reads its whole log once, from the label's start on, by the
@@ -155,11 +163,17 @@ fn check_from<F: Tree>(
 /// `minRecoveryPoint`, and `BadLabel` with line 2 where no record at the label's place is a checkpoint
 /// with the label's start as redo.
 #[tactic(auto, unfolding(crate::specs::Checked::start_of))]
-pub fn check<F: Tree>(alloc: Global, tree: &mut F, root: &Path) -> Result<Checked, ReplayFault>
+pub fn check<F: Tree, M: Manager>(
+    alloc: Global,
+    tree: &mut F,
+    root: &Path,
+    custom: Option<&M>,
+) -> Result<Checked, ReplayFault>
     requires room { length root.now.parts ≤ 61 }
     // the answer is that of the first point that refuses, or what was checked; or a failed read, or
     // want of memory
-    ensures exact { IsTrue F.tells → Checks (start_of (F.contents tree.old) root.now) result }
+    ensures exact { IsTrue F.tells → Checks (start_of (handed_in M.Manager custom.entry)
+        (F.contents tree.old) root.now) result }
     ensures knows { IsTrue F.tells →
         IfOk result (λ checked. Knows checked.cursor (F.contents tree.new)) }
     ensures control { IfOk result (λ checked. IsControl checked.control) }
@@ -175,5 +189,5 @@ pub fn check<F: Tree>(alloc: Global, tree: &mut F, root: &Path) -> Result<Checke
 {
     check_marks(alloc, tree, root)?;
     let control = control_at(alloc, tree, root)?;
-    check_from(alloc, tree, root, control)
+    check_from(alloc, tree, root, control, custom)
 }

@@ -10,6 +10,7 @@ ghost use Rattle.wal_records.specs.Cursor.{Knows, to_come};
 ghost use Rattle.replay_start.specs.Scanned.{is_labelled};
 ghost use Rattle.replay_start.specs.Steps.{MovesOn, ScansAll, ScansNext, with_record};
 ghost use Rattle.clusters.specs.declared.fault.ClusterFault.TheVariants as cluster;
+ghost use Rattle.rmgr_hooks.specs.Custom.{handed_in};
 
 use crate::ReplayFault;
 use backup_label::LabelPlaces;
@@ -17,6 +18,7 @@ use block_refs::Parts;
 use cluster_tree::Tree;
 use replay_control::checkpoint_said;
 use replay_profile::judge;
+use rmgr_hooks::Manager;
 use wal_base::Lsn;
 use wal_records::{Record, RecordCursor, Step};
 
@@ -66,16 +68,18 @@ fn seen_with(seen: Seen, label: LabelPlaces, rec: &Record, parts: &Parts) -> See
 }
 
 /// Reads the next record, and judges it.
-fn scan_next<F: Tree>(
+fn scan_next<F: Tree, M: Manager>(
     cursor: &mut RecordCursor,
     tree: &mut F,
     label: LabelPlaces,
     parts: &mut Parts,
     seen: &mut Seen,
+    custom: Option<&M>,
 ) -> Result<Turn, ReplayFault>
     requires opened { cursor.old.ended ≡ None }
     requires knows { IsTrue F.tells → Knows cursor.old (F.contents tree.old) }
-    ensures step { IsTrue F.tells → ScansNext label (to_come cursor.old (F.contents tree.old)).records
+    ensures step { IsTrue F.tells → ScansNext (handed_in M.Manager custom.entry) label
+        (to_come cursor.old (F.contents tree.old)).records
         (to_come cursor.new (F.contents tree.old)).records seen.old seen.new result }
     ensures moves { IfOk result (MovesOn cursor.old cursor.new) }
     ensures knows { IsTrue F.tells → Knows cursor.new (F.contents tree.new) }
@@ -91,22 +95,24 @@ fn scan_next<F: Tree>(
         Step::End(_, _) => return Ok(Turn::Done),
     }
     let rec = cursor.current().unwrap();
-    judge(rec, parts)?;
+    judge(rec, parts, custom)?;
     *seen = seen_with(*seen, label, rec, parts);
     Ok(Turn::More)
 }
 
 /// Reads what a cursor has still to give, and judges each record.
-pub(crate) fn scan_all<F: Tree>(
+pub(crate) fn scan_all<F: Tree, M: Manager>(
     cursor: &mut RecordCursor,
     tree: &mut F,
     label: LabelPlaces,
     parts: &mut Parts,
     seen: &mut Seen,
+    custom: Option<&M>,
 ) -> Result<(), ReplayFault>
     requires opened { cursor.old.ended ≡ None }
     requires knows { IsTrue F.tells → Knows cursor.old (F.contents tree.old) }
-    ensures all { IsTrue F.tells → ScansAll label (to_come cursor.old (F.contents tree.old)).records
+    ensures all { IsTrue F.tells → ScansAll (handed_in M.Manager custom.entry) label
+        (to_come cursor.old (F.contents tree.old)).records
         seen.old seen.new result }
     ensures knows { IsTrue F.tells → Knows cursor.new (F.contents tree.new) }
     ensures log { cursor.new.log ≡ cursor.old.log }
@@ -117,7 +123,7 @@ pub(crate) fn scan_all<F: Tree>(
     ensures never_writes { result ≢ Err ReplayFault.WriteFault }
 {
     'records: loop {
-        match scan_next(cursor, tree, label, parts, seen) {
+        match scan_next(cursor, tree, label, parts, seen, custom) {
             Ok(Turn::More) => {}
             Ok(Turn::Done) => return Ok(()),
             Err(e) => return Err(e),

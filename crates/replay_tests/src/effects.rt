@@ -7,6 +7,7 @@ use crate::texts::{byte, cut_at, number, owned, words_of};
 use block_effects::is_gone;
 use block_refs::{BlockName, Fork, Parts, RelName, split_record};
 use record_effects::act_on;
+use rmgr_hooks::NoManager;
 use std::alloc::Global;
 use wal_records::Record;
 
@@ -43,7 +44,7 @@ fn acts(alloc: Global, rec: &Record, parts: &Parts) -> Result<String, RowFault>
     let mut told = String::new(alloc);
     for at in 0..parts.count() {
         if let Some(block) = parts.get(at) {
-            let act = act_on(rec, parts, &block);
+            let act = act_on(rec, parts, &block, None::<&NoManager>);
             let gap = if told.is_empty() { "" } else { " " };
             write!(told, "{gap}{act:?}")?;
         }

@@ -4,13 +4,14 @@ use crate::logs::START;
 use crate::texts::owned;
 use block_refs::{Parts, split_record};
 use replay_profile::{ProfileFault, is_short, judge};
+use rmgr_hooks::NoManager;
 use std::alloc::Global;
 use wal_records::Record;
 
 /// What `judge` says of a record.
 pub(crate) fn judged(alloc: Global, rec: &Record) -> Result<String, RowFault> {
     let mut parts = Parts::new();
-    match judge(rec, &mut parts) {
+    match judge(rec, &mut parts, None::<&NoManager>) {
         Ok(()) => owned(alloc, "in"),
         Err(fault) => {
             let header = rec.header();

@@ -14,6 +14,7 @@ use block_replay::{RecordFault, Skipped, replay_blocks};
 use cluster_tree::{Path, Tree};
 use file_effects::act_on_files;
 use replay_profile::is_in_profile;
+use rmgr_hooks::NoManager;
 use std::alloc::Global;
 use storage_replay::Files;
 use wal_records::Record;
@@ -47,12 +48,21 @@ fn on_blocks<F: Tree>(
     requires fit { AreFit at.now }
     requires parts { ArePartsOf rec.now parts.now }
 {
-    if !is_in_profile(rec, parts) {
+    if !is_in_profile(rec, parts, None::<&NoManager>) {
         return Err(RowFault::NotInProfile);
     }
     let mut skipped = Skipped::new(alloc);
     let mut page = zero_page(alloc)?;
-    let answer = replay_blocks(alloc, tree, at, &mut skipped, rec, parts, &mut page);
+    let answer = replay_blocks(
+        alloc,
+        tree,
+        at,
+        &mut skipped,
+        rec,
+        parts,
+        &mut page,
+        None::<&NoManager>,
+    );
     told(alloc, answer, &skipped)
 }
 

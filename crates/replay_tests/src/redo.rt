@@ -9,6 +9,7 @@ use block_refs::{Parts, split_record};
 use btree_replay::redo_btree;
 use heap_replay::redo_heap;
 use record_effects::redo;
+use rmgr_hooks::NoManager;
 use std::alloc::Global;
 use storage_pages::redo_map;
 use wal_records::Record;
@@ -38,7 +39,7 @@ pub(crate) fn redone(
     let before = made(alloc, commands)?;
     let mut page = made(alloc, commands)?;
     let answer = match by {
-        Redo::Any(id) => redo(rec, parts, id, &mut page),
+        Redo::Any(id) => redo(rec, parts, id, &mut page, None::<&NoManager>),
         Redo::Heap(id) => redo_heap(rec, parts, id, &mut page),
         Redo::Btree(id) => redo_btree(rec, parts, id, &mut page),
         Redo::Map => redo_map(rec, parts, &mut page),

@@ -19,6 +19,7 @@ use Rattle.replay_control.specs.Following.{control_after}
 use Rattle.replay_profile.specs.Profile.{is_short, parts_or_none}
 use Rattle.wal_records.specs.Reading.{LogRecord}
 use Rattle.replay_world.specs.World.{World, blocks_of}
+use Rattle.rmgr_hooks.specs.Custom.{Extension}
 
 -- the main fork's first block of no relation
 abbrev pub no_block : BlockName
@@ -47,12 +48,12 @@ others_after root per_file rec parts w b =
     }))
 
 -- what a record of these parts leaves: first its blocks, in the order of their ids, and then all else
-unfoldable pub record_after : PathValue → (per_file : ℕ) → LogRecord → PartsView → World → Result World RecordFault
-record_after root per_file rec parts w =
-    unless (short_refusal rec parts) (given (blocks_after root per_file rec parts (blocks_of w)) (others_after root per_file rec parts w))
+unfoldable pub record_after : Option Extension → PathValue → (per_file : ℕ) → LogRecord → PartsView → World → Result World RecordFault
+record_after custom root per_file rec parts w =
+    unless (short_refusal rec parts) (given (blocks_after custom root per_file rec parts (blocks_of w)) (others_after root per_file rec parts w))
 
 -- and what a log's records leave, in its order
-unfoldable pub records_after : PathValue → (per_file : ℕ) → List LogRecord → World → Result World RecordFault
-records_after root per_file [] w = Ok w
-records_after root per_file (rec ∷ records) w =
-    given (record_after root per_file rec (parts_or_none (record_parts rec)) w) (records_after root per_file records)
+unfoldable pub records_after : Option Extension → PathValue → (per_file : ℕ) → List LogRecord → World → Result World RecordFault
+records_after custom root per_file [] w = Ok w
+records_after custom root per_file (rec ∷ records) w =
+    given (record_after custom root per_file rec (parts_or_none (record_parts rec)) w) (records_after custom root per_file records)

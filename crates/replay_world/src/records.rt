@@ -13,6 +13,7 @@ ghost use Rattle.file_effects.specs.Own.{is_replayed};
 ghost use Rattle.replay_profile.specs.Profile.{is_in_profile};
 ghost use Rattle.replay_world.specs.Records.{first_block, name_or_none, record_after, short_refusal};
 ghost use Rattle.replay_world.specs.World.{world_of};
+ghost use Rattle.rmgr_hooks.specs.Custom.{handed_in};
 
 use crate::world::Replaying;
 use block_refs::{BlockName, Fork, Parts, RelName};
@@ -22,6 +23,7 @@ use file_effects::act_on_files;
 use page_layout::{Page, RedoWhy};
 use replay_control::control_after;
 use replay_profile::is_short;
+use rmgr_hooks::Manager;
 use std::alloc::Global;
 use wal_records::Record;
 
@@ -65,19 +67,21 @@ fn check_whole(rec: &Record, parts: &Parts) -> Result<(), RecordFault>
 /// bytes lack some of its layout, what `replay_blocks` answers, and what `act_on_files` answers as
 /// `File`. After a fault what was done before it stays, and what `world` keeps is open.
 #[tactic(auto, unfolding(crate::specs::Records::record_after))]
-pub fn replay_record<F: Tree>(
+pub fn replay_record<F: Tree, M: Manager>(
     alloc: Global,
     tree: &mut F,
     world: &mut Replaying,
     rec: &Record,
     parts: &Parts,
     page: &mut Page,
+    custom: Option<&M>,
 ) -> Result<(), RecordFault>
     requires fit { AreFit world.old.files }
     requires parts { ArePartsOf rec.now parts.now }
-    requires taken { is_in_profile rec.now parts.now ≡ true }
+    requires taken { is_in_profile (handed_in M.Manager custom) rec.now parts.now ≡ true }
     ensures exact { IsTrue F.tells → MeetsInto IsFreeFault
-        (record_after world.old.files.root world.old.files.per_file rec.now parts.now
+        (record_after (handed_in M.Manager custom.entry) world.old.files.root
+        world.old.files.per_file rec.now parts.now
         (world_of (F.contents tree.old) world.old))
         (world_of (F.contents tree.new) world.new) result }
     ensures files { world.new.files ≡ world.old.files }
@@ -101,6 +105,7 @@ pub fn replay_record<F: Tree>(
         rec,
         parts,
         page,
+        custom,
     )?;
     act_on_files(alloc, tree, &world.files, rec, parts)?;
     world.control = control_after(rec, parts, &world.control);

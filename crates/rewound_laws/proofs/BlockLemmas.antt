@@ -1,5 +1,6 @@
 -- The blocks of a rewound target and of a whole copy of its source fit the base that target and source grew from.
 use Rattle.std.proofs.Common.{◌≡◌, ◌⊎◌, ℕ, ℤ, ◌<◌, ◌≤◌, Bool, true, false, List, length, Option, None, Ok, is_some, inl, inr, refl, sym, ap, ◌∙◌, subst}
+use Rattle.rmgr_hooks.specs.Custom.{Extension}
 use Rattle.std.specs.Option.{option_and_then}
 use Rattle.std.specs.Prelude.{if◌then◌else◌}
 use Rattle.alike_clusters.proofs.NameLemmas.{file-lies}
@@ -56,9 +57,9 @@ gap_as : (root other : PathValue) (per : ℕ) (rel : RelName) (fork : Fork) (c d
 gap_as root other per rel fork c d same no_gap block next less most there =
     same (block_of rel fork block) ∙ no_gap block next less most (sym (same (block_of rel fork next)) ∙ there)
 
-module _ (base : BlockName → Option (List ℕ)) (c c' d : Contents) (target source other : PathValue) (now : ℤ) (n : Needing) (s : Start)
+module _ (custom : Option Extension) (base : BlockName → Option (List ℕ)) (c c' d : Contents) (target source other : PathValue) (now : ℤ) (n : Needing) (s : Start)
     (planned : planned_of c target source now ≡ Ok (Needs n)) (sides : Sides c n.aim.between n.pairs) (left : IsRewound c n c') (copied : IsWholeCopy c n d other)
-    (grew : GrewFromOneState base c n d other s) where
+    (grew : GrewFromOneState custom base c n d other s) where
   abbrev w : Between
   w = n.aim.between
 
@@ -72,10 +73,10 @@ module _ (base : BlockName → Option (List ℕ)) (c c' d : Contents) (target so
   needed = planned-needed c target source now n planned
 
   some : 0 < per
-  some = some-blocks c d target source other now n s needed
+  some = some-blocks custom c d target source other now n s needed
 
   relseg : s.control.relseg ≡ per
-  relseg = copy-relseg c d target source other now n s needed copied grew.log.starts
+  relseg = copy-relseg custom c d target source other now n s needed copied grew.log.starts
 
   source_gap : (rel : RelName) (fork : Fork) → IsRel rel → HasNoGap w.source per rel fork c
   source_gap rel fork few = grew.files.no_gap rel fork few
@@ -100,9 +101,9 @@ module _ (base : BlockName → Option (List ℕ)) (c c' d : Contents) (target so
   copy_init : (rel : RelName) → has_init (first_world d other s).files other rel ≡ has_init c w.source rel
   copy_init rel = begun-init d other rel ∙ ap is_file (copied-file c d n other copied rel Init 0) ∙ sym (ap (λ p. is_file (entry_at c p)) (file-lies w.source rel Init 0))
 
-  copy_fits : (name : BlockName) → IsMainBlock name → has_init c w.source name.rel ≡ false → FitsBase other per name (base name) s.records (first_world d other s)
+  copy_fits : (name : BlockName) → IsMainBlock name → has_init c w.source name.rel ≡ false → FitsBase custom other per name (base name) s.records (first_world d other s)
   copy_fits name main logged =
-      subst (λ page. Fits (view name.block) (base name) page (steps name s.records))
+      subst (λ page. Fits (view name.block) (base name) page (steps custom name s.records))
       (sym (page_as other w.source per name (first_world d other s).files c (begun-block d other per name ∙ copied-block c d n other copied per name)))
       (grew.logged name main logged).source
 
@@ -131,33 +132,33 @@ module _ (base : BlockName → Option (List ℕ)) (c c' d : Contents) (target so
   left_init rel = begun-init c' w.target rel ∙ left-is_file c c' n sides left rel Init 0 ∙ sym (ap (λ p. is_file (entry_at c p)) (file-lies w.source rel Init 0))
 
   -- a block is the source's, or the target's that its own log didn't touch
-  left_page : (name : BlockName) → GrewFrom (base name) c w s name
+  left_page : (name : BlockName) → GrewFrom custom (base name) c w s name
       → (block_in w.target per name c' ≡ block_in w.source per name c)
       ⊎ ((is_some (block_in w.target per name c) ≡ true) × (w.wanted name.rel name.block ≡ false) × (block_in w.target per name c' ≡ block_in w.target per name c))
-      → Fits (view name.block) (base name) (page_in w.target per name c') (steps name s.records)
-  left_page name from (inl new) = subst (λ page. Fits (view name.block) (base name) page (steps name s.records)) (sym (page_as w.target w.source per name c' c new)) from.source
+      → Fits (view name.block) (base name) (page_in w.target per name c') (steps custom name s.records)
+  left_page name from (inl new) = subst (λ page. Fits (view name.block) (base name) page (steps custom name s.records)) (sym (page_as w.target w.source per name c' c new)) from.source
   left_page name from (inr (has, free, old)) =
-      subst (λ page. Fits (view name.block) (base name) page (steps name s.records)) (sym (page_as w.target w.target per name c' c old)) (inl (0, from.target has free))
+      subst (λ page. Fits (view name.block) (base name) page (steps custom name s.records)) (sym (page_as w.target w.target per name c' c old)) (inl (0, from.target has free))
 
-  left_fits : (name : BlockName) → IsMainBlock name → has_init c w.source name.rel ≡ false → FitsBase w.target per name (base name) s.records (first_world c' w.target s)
+  left_fits : (name : BlockName) → IsMainBlock name → has_init c w.source name.rel ≡ false → FitsBase custom w.target per name (base name) s.records (first_world c' w.target s)
   left_fits name main logged =
-      subst (λ page. Fits (view name.block) (base name) page (steps name s.records))
+      subst (λ page. Fits (view name.block) (base name) page (steps custom name s.records))
       (sym (page_as w.target w.target per name (first_world c' w.target s).files c' (begun-block c' w.target per name)))
       (left_page name (grew.logged name main logged) (left-block c c' n sides left name some main))
 
   -- ---- both, by the size of files that the copy's control file says
 
   based : (root : PathValue) (files : Contents) → AreWhole root per (first_world files root s).files → ((rel : RelName) → has_init (first_world files root s).files root rel ≡ has_init c w.source rel)
-      → ((name : BlockName) → IsMainBlock name → has_init c w.source name.rel ≡ false → FitsBase root per name (base name) s.records (first_world files root s))
-      → IsBased base s.label.start.0 s.records root s.control.relseg (first_world files root s)
+      → ((name : BlockName) → IsMainBlock name → has_init c w.source name.rel ≡ false → FitsBase custom root per name (base name) s.records (first_world files root s))
+      → IsBased custom base s.label.start.0 s.records root s.control.relseg (first_world files root s)
   based root files whole init fits = record {
     begins = subst (λ k. Begins root k (first_world files root s)) (sym relseg) (record { some = some; whole = whole; none = refl });
     life = λ name main logged. (grew.logged name main (sym (init name.rel) ∙ logged)).life;
-    fits = λ name main logged. subst (λ k. FitsBase root k name (base name) s.records (first_world files root s)) (sym relseg) (fits name main (sym (init name.rel) ∙ logged));
+    fits = λ name main logged. subst (λ k. FitsBase custom root k name (base name) s.records (first_world files root s)) (sym relseg) (fits name main (sym (init name.rel) ∙ logged));
     unchanged = λ name main unlogged. grew.unlogged name main (sym (init name.rel) ∙ unlogged);
   }
 
-  pub blocks-fit : AreReady base n c' d other s
+  pub blocks-fit : AreReady custom base n c' d other s
   blocks-fit = record {
     relseg = relseg;
     copy = based other d copy_whole copy_init copy_fits;

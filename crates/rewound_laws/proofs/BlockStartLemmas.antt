@@ -1,5 +1,6 @@
 -- The control file that a whole copy of a rewind's source begins its replay from.
 use Rattle.std.proofs.Common.{◌≡◌, ℕ, ℤ, ◌<◌, ◌^◌, List, [], ◌∷◌, length, Option, None, Some, Result, Ok, Err, refl, sym, ap, ◌∙◌, subst}
+use Rattle.rmgr_hooks.specs.Custom.{Extension}
 use Rattle.std.specs.Option.{option_map}
 use Rattle.backup_label.specs.declared.reading.LabelPlaces.{LabelPlaces}
 use Rattle.cluster_laws.proofs.StartLemmas.{control-path}
@@ -73,32 +74,32 @@ OkStart s = Ok s
 one_start : (a b : Start) → OkStart a ≡ OkStart b → a ≡ b
 one_start a b e = cc
 
-module _ (c : Contents) (root : PathValue) (s : Start) where
-  in_log_control : (v : Control) (label : LabelPlaces) (o : Option LogPath) → in_log c root v label o ≡ Ok s → s.control ≡ v
+module _ (custom : Option Extension) (c : Contents) (root : PathValue) (s : Start) where
+  in_log_control : (v : Control) (label : LabelPlaces) (o : Option LogPath) → in_log custom c root v label o ≡ Ok s → s.control ≡ v
   in_log_control v label None h = absurd (cc h)
   in_log_control v label (Some log) h =
       let records : List LogRecord = (log_of (pages_of log c) (bytes_of log.size) label.start.0).records in
-      let two = not-refused (log_refusal root v label records) (OkStart (record { control = v; label = label; log = log; records = records })) s h in
+      let two = not-refused (log_refusal custom root v label records) (OkStart (record { control = v; label = label; log = log; records = records })) s h in
       sym (ap (λ (x : Start). x.control) (one_start (record { control = v; label = label; log = log; records = records }) s two.1))
 
-  label_control : (v : Control) (label : LabelPlaces) → from_label c root v label ≡ Ok s → s.control ≡ v
+  label_control : (v : Control) (label : LabelPlaces) → from_label custom c root v label ≡ Ok s → s.control ≡ v
   unfolding from_label
   label_control v label h =
-      let spans = given-ok (told_by (history_at c root (timeline_of v))) (λ spans. in_log c root v label (log_with root v spans)) s h in
+      let spans = given-ok (told_by (history_at c root (timeline_of v))) (λ spans. in_log custom c root v label (log_with root v spans)) s h in
       in_log_control v label (log_with root v spans.0) spans.2
 
-  from_control_is : (v : Control) → from_control c root v ≡ Ok s → s.control ≡ v
+  from_control_is : (v : Control) → from_control custom c root v ≡ Ok s → s.control ≡ v
   unfolding from_control
   from_control_is v h =
-      let read = not-refused (first_of (checksums_on root v ∷ no_hints root v ∷ [])) (given (label_at c root) (from_label c root v)) s h in
-      let label = given-ok (label_at c root) (from_label c root v) s read.1 in
+      let read = not-refused (first_of (checksums_on root v ∷ no_hints root v ∷ [])) (given (label_at c root) (from_label custom c root v)) s h in
+      let label = given-ok (label_at c root) (from_label custom c root v) s read.1 in
       label_control v label.0 label.2
 
-  start_control : start_of c root ≡ Ok s → control_at c root ≡ Ok s.control
+  start_control : start_of custom c root ≡ Ok s → control_at c root ≡ Ok s.control
   unfolding start_of
   start_control h =
-      let read = not-refused (option_map fault.Cluster (unfinished c root)) (given (told_by (control_at c root)) (from_control c root)) s h in
-      let v = given-ok (told_by (control_at c root)) (from_control c root) s read.1 in
+      let read = not-refused (option_map fault.Cluster (unfinished c root)) (given (told_by (control_at c root)) (from_control custom c root)) s h in
+      let v = given-ok (told_by (control_at c root)) (from_control custom c root) s read.1 in
       told_ok (control_at c root) v.0 v.1 ∙ ap (λ x. Ok x) (sym (from_control_is v.0 v.2))
 
 -- ---- so the copy's says what the rewind knows
@@ -106,7 +107,7 @@ module _ (c : Contents) (root : PathValue) (s : Start) where
 file_bytes : (a b : List ℕ) → Some (FileEntry a) ≡ Some (FileEntry b) → a ≡ b
 file_bytes a b e = cc
 
-module _ (c d : Contents) (target source other : PathValue) (now : ℤ) (n : Needing) (s : Start) (needed : IsNeeded c target source now n) where
+module _ (custom : Option Extension) (c d : Contents) (target source other : PathValue) (now : ℤ) (n : Needing) (s : Start) (needed : IsNeeded c target source now n) where
   source_file : IsRead (entry_at c (below source control_parts)) needed.s
   source_file = read_at c source needed.s needed.source_read
 
@@ -123,9 +124,9 @@ module _ (c d : Contents) (target source other : PathValue) (now : ℤ) (n : Nee
   unfolding whole_copy
   copied_control copy = copy control_parts
 
-  pub copy-relseg : IsWholeCopy c n d other → start_of d other ≡ Ok s → s.control.relseg ≡ n.aim.between.per_file
+  pub copy-relseg : IsWholeCopy c n d other → start_of custom d other ≡ Ok s → s.control.relseg ≡ n.aim.between.per_file
   copy-relseg copy starts =
-      let read : IsRead (entry_at d (below other control_parts)) s.control = read_at d other s.control (start_control d other s starts) in
+      let read : IsRead (entry_at d (below other control_parts)) s.control = read_at d other s.control (start_control custom d other s starts) in
       let same : read.bytes ≡ control_bytes n.aim.control = file_bytes read.bytes (control_bytes n.aim.control) (sym read.there ∙ copied_control copy) in
       relseg-again n.aim.control (ap length same_nonce ∙ nonce-long source_file.bytes needed.s source_file.says) s.control
       (subst (λ k. k < 2 ^ 32) (sym same_relseg) (relseg-fits source_file.bytes needed.s source_file.says)) (ap control_of (sym same) ∙ read.says)

@@ -1,5 +1,6 @@
 -- Replay of one log over a rewound target and over a whole copy of its source.
 use Rattle.std.proofs.Common.{◌≡◌, ℕ, ℤ, List, Option, Ok, sym, subst}
+use Rattle.rmgr_hooks.specs.Custom.{Extension, IsSound}
 use Rattle.alike_clusters.specs.Clusters.{AlikeClusters}
 use Rattle.block_refs.specs.declared.names.BlockName.{BlockName}
 use Rattle.cluster_laws.proofs.BothLemmas.{both-end}
@@ -21,28 +22,28 @@ use Rattle.rewound_laws.specs.Copy.{IsWholeCopy}
 use Rattle.rewound_laws.specs.Grew.{GrewFromOneState}
 use Rattle.rewound_laws.specs.Needed.{IsNeeded}
 
-module _ (base : BlockName → Option (List ℕ)) (c c' d : Contents) (target source other : PathValue) (now : ℤ) (n : Needing) (s : Start)
+module _ (custom : Option Extension) (sound : IsSound custom) (base : BlockName → Option (List ℕ)) (c c' d : Contents) (target source other : PathValue) (now : ℤ) (n : Needing) (s : Start)
     (planned : planned_of c target source now ≡ Ok (Needs n)) (sides : Sides c n.aim.between n.pairs) (left : IsRewound c n c') (copied : IsWholeCopy c n d other)
-    (grew : GrewFromOneState base c n d other s) where
+    (grew : GrewFromOneState custom base c n d other s) where
   abbrev per : ℕ
   per = s.control.relseg
 
   needed : IsNeeded c target source now n
   needed = planned-needed c target source now n planned
 
-  ready : AreReady base n c' d other s
-  ready = blocks-fit base c c' d target source other now n s planned sides left copied grew
+  ready : AreReady custom base n c' d other s
+  ready = blocks-fit custom base c c' d target source other now n s planned sides left copied grew
 
   alike : AlikeClusters per d other c' target
   alike =
       subst (λ per_file. AlikeClusters per_file d other c' target) (sym ready.relseg)
       (rewound-alike c c' d target source other now n needed sides left copied grew.room)
 
-  rewound-converges : BothEnd d other c' target s
+  rewound-converges : BothEnd custom d other c' target s
   rewound-converges =
-      both-end base s.label.start.0 d c' other target s alike grew.log.bytes (copy-kinds c d n other copied grew.files.kinds grew.room.other_room) grew.log.starts grew.log.enough
+      both-end custom sound base s.label.start.0 d c' other target s alike grew.log.bytes (copy-kinds c d n other copied grew.files.kinds grew.room.other_room) grew.log.starts grew.log.enough
       ready.copy
-      (subst (λ root. IsBased base s.label.start.0 s.records root per (first_world c' root s)) (needed-target c target source now n needed) ready.rewound)
+      (subst (λ root. IsBased custom base s.label.start.0 s.records root per (first_world c' root s)) (needed-target c target source now n needed) ready.rewound)
 
 pub follows : RewoundConverges
-follows c c' target source now n planned left base d other s copied grew = rewound-converges base c c' d target source other now n s planned left.sides left copied grew
+follows custom sound c c' target source now n planned left base d other s copied grew = rewound-converges custom sound base c c' d target source other now n s planned left.sides left copied grew

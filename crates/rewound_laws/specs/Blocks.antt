@@ -1,6 +1,7 @@
 -- The blocks of a rewound target and of a whole copy of its source, before either replays the source's log: PostgreSQL 16, src/bin/pg_rewind/filemap.c
 -- and pg_rewind.c. Own: "Clusters that grew from one state", "The law of one block".
 use Rattle.std.specs.Prelude.{◌≡◌, ◌⊎◌, ℕ, ℤ, ◌<◌, ◌≤◌, true, false, List, length, Option, Ok, is_some}
+use Rattle.rmgr_hooks.specs.Custom.{Extension}
 use Rattle.block_refs.specs.declared.names.BlockName.{BlockName}
 use Rattle.cluster_laws.specs.Kinds.{HasKinds}
 use Rattle.cluster_laws.specs.Converging.{IsBased}
@@ -24,16 +25,16 @@ RewoundBlocks = (c c' : Contents) (n : Needing) (name : BlockName) → 0 < n.aim
 
 -- Both clusters, under the mark of a replay and before the first record, fit the base as the convergence law asks it; and the control file that
 -- both have says how many blocks a file may have as the rewind took it.
-pub record AreReady (base : BlockName → Option (List ℕ)) (n : Needing) (c' d : Contents) (other : PathValue) (s : Start) : Type 0 where
+pub record AreReady (custom : Option Extension) (base : BlockName → Option (List ℕ)) (n : Needing) (c' d : Contents) (other : PathValue) (s : Start) : Type 0 where
   pub relseg : s.control.relseg ≡ n.aim.between.per_file
-  pub copy : IsBased base s.label.start.0 s.records other s.control.relseg (first_world d other s)
-  pub rewound : IsBased base s.label.start.0 s.records n.aim.between.target s.control.relseg (first_world c' n.aim.between.target s)
+  pub copy : IsBased custom base s.label.start.0 s.records other s.control.relseg (first_world d other s)
+  pub rewound : IsBased custom base s.label.start.0 s.records n.aim.between.target s.control.relseg (first_world c' n.aim.between.target s)
 
 -- where both clusters grew from one state
 abbrev pub BlocksFit : Type 0
-BlocksFit = (base : BlockName → Option (List ℕ)) (c c' d : Contents) (target source other : PathValue) (now : ℤ) (n : Needing) (s : Start)
+BlocksFit = (custom : Option Extension) (base : BlockName → Option (List ℕ)) (c c' d : Contents) (target source other : PathValue) (now : ℤ) (n : Needing) (s : Start)
     → planned_of c target source now ≡ Ok (Needs n) → IsRewound c n c' → IsWholeCopy c n d other
-    → GrewFromOneState base c n d other s → AreReady base n c' d other s
+    → GrewFromOneState custom base c n d other s → AreReady custom base n c' d other s
 
 -- the entries of a whole copy are of the kinds that servers leave where the source's are
 abbrev pub CopyHasKinds : Type 0

@@ -1,7 +1,7 @@
 -- A rewind that is resumed, as the command that was carried out.
 use Rattle.std.proofs.Common.{◌≡◌, ◌⊎◌, ℕ, ℤ, Bool, true, false, not, IsTrue, List, Option, inl, inr, sym, ap, ◌∙◌, subst, Result, Ok, OnOk}
 use Rattle.cluster_tree.specs.Contents.{Contents}
-use Rattle.rmgr_hooks.specs.Custom.{Describer}
+use Rattle.rmgr_hooks.specs.Custom.{Extension}
 use Rattle.cluster_tree.specs.Run.{Moment}
 use Rattle.cluster_tree.specs.Stops.{LeavesOnly, Stops}
 use Rattle.commands.specs.declared.command.Command.{Command}
@@ -28,7 +28,7 @@ resume_seen T words (inr dry) = inr (λ may. let same : true ≡ false = sym may
 
 module _ {k : Command} {words : RewindWords} (is : k ≡ command.Resume words) where
   -- it was carried out
-  pub of_resume : (custom : Option Describer) (tells : Bool) (c : Contents) (now : ℤ) {o e : Bool} {ended : Cause} {s u : Seen}
+  pub of_resume : (custom : Option Extension) (tells : Bool) (c : Contents) (now : ℤ) {o e : Bool} {ended : Cause} {s u : Seen}
       → CarriesUnseen (IsTrue tells ⊎ IsTrue words.dry_run) (IsTrue tells) (resume_answer c words now) (IsResume words) o e ended s u → CarriesOut custom tells c now o e (Ok k) ended s u
   of_resume custom tells c now {o} {e} {ended} {s} {u} p =
       let P : Command → Type 0 = λ x. CarriesOut custom tells c now o e (Ok x) ended s u in
@@ -42,15 +42,15 @@ module _ {k : Command} {words : RewindWords} (is : k ≡ command.Resume words) w
 
   module _ {n m : ℤ} (same : n ≡ m) where
     -- what it leaves
-    pub resumed_at : (r : Result (Unit {0}) Cause) (tells : Bool) (c c' : Contents) (out out' : List ℕ) → OnOk r (LeavesResumed words n c c') → OnOk r (LeavesAsked (Ok k) m tells c c' out out')
-    resumed_at r tells c c' out out' left =
-        let Q : Command → Type 0 = λ x. OnOk r (LeavesAsked (Ok x) m tells c c' out out') in
+    pub resumed_at : (custom : Option Extension) (r : Result (Unit {0}) Cause) (tells : Bool) (c c' : Contents) (out out' : List ℕ) → OnOk r (LeavesResumed words n c c') → OnOk r (LeavesAsked custom (Ok k) m tells c c' out out')
+    resumed_at custom r tells c c' out out' left =
+        let Q : Command → Type 0 = λ x. OnOk r (LeavesAsked custom (Ok x) m tells c c' out out') in
         subst Q (sym is) (subst (λ x. OnOk r (LeavesResumed words x c c')) same left)
 
     -- what a stop may leave
-    pub left_of_resume : (first : Moment) (a b : Stops) → LeavesOnly (IsLeftByResume words n first) a b → LeavesOnly (IsLeftAsked (Ok k) m first) a b
-    left_of_resume first a b left =
-        let P : Command → Type 0 = λ x. LeavesOnly (IsLeftAsked (Ok x) m first) a b in
+    pub left_of_resume : (custom : Option Extension) (first : Moment) (a b : Stops) → LeavesOnly (IsLeftByResume words n first) a b → LeavesOnly (IsLeftAsked custom (Ok k) m first) a b
+    left_of_resume custom first a b left =
+        let P : Command → Type 0 = λ x. LeavesOnly (IsLeftAsked custom (Ok x) m first) a b in
         subst P (sym is) (subst (λ x. LeavesOnly (IsLeftByResume words x first) a b) same left)
 
     -- and once it is done

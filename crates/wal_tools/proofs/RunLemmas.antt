@@ -46,47 +46,47 @@ use Rattle.wal_tools.specs.Answers.{IsAnswer, answered}
 use Rattle.wal_tools.specs.Leaves.{LeavesAsked, StaysAsked}
 use Rattle.wal_tools.specs.Runs.{Runs}
 use Rattle.wal_tools.specs.Words.{IsSeen, MayChange, NeedsNoTree, refused_by_words, words_cause}
-use Rattle.rmgr_hooks.specs.Custom.{Describer}
+use Rattle.rmgr_hooks.specs.Custom.{Extension}
 
 -- what is done has the command's form, and begins with a look
-pub answered-form : (custom : Option Describer) (c : Contents) (now : ℤ) (asked : Result Command CommandFault) → IsAnswer now asked (answered custom c now asked)
+pub answered-form : (custom : Option Extension) (c : Contents) (now : ℤ) (asked : Result Command CommandFault) → IsAnswer now asked (answered custom c now asked)
 answered-form custom c now (Ok (command.Rewind words)) = rewind-form c c words now
 answered-form custom c now (Ok (command.Resume words)) = resume-form c words now
 answered-form custom c now (Ok (command.Controldata words)) = control-form (control_at c words.root)
 answered-form custom c now (Ok (command.Waldump words)) = waldump-form custom c words
 answered-form custom c now (Ok (command.Resetwal words)) = reset-form c words now
 answered-form custom c now (Ok (command.Archivecleanup words)) = cleanup-form c words
-answered-form custom c now (Ok (command.Walreplay words)) = replay-form c words
+answered-form custom c now (Ok (command.Walreplay words)) = replay-form custom c words
 answered-form custom c now (Ok (command.Walcompare words)) = compare-form c words
 answered-form custom c now (Ok (command.Pair words)) = pair-form c words
 answered-form custom c now (Err e) = refl
 
-pub answered-looks : (custom : Option Describer) (c : Contents) (now : ℤ) (asked : Result Command CommandFault) → Looks ((answered custom c now asked).acts)
+pub answered-looks : (custom : Option Extension) (c : Contents) (now : ℤ) (asked : Result Command CommandFault) → Looks ((answered custom c now asked).acts)
 answered-looks custom c now (Ok (command.Rewind words)) = rewind-looks c c words now
 answered-looks custom c now (Ok (command.Resume words)) = resume-looks c words now
 answered-looks custom c now (Ok (command.Controldata words)) = control-looks (control_at c words.root)
 answered-looks custom c now (Ok (command.Waldump words)) = waldump-looks custom c words
 answered-looks custom c now (Ok (command.Resetwal words)) = reset-looks c words now
 answered-looks custom c now (Ok (command.Archivecleanup words)) = cleanup-looks c words
-answered-looks custom c now (Ok (command.Walreplay words)) = replay-looks c words
+answered-looks custom c now (Ok (command.Walreplay words)) = replay-looks custom c words
 answered-looks custom c now (Ok (command.Walcompare words)) = compare-looks c words
 answered-looks custom c now (Ok (command.Pair words)) = pair-looks c words
 answered-looks custom c now (Err e) = tt
 
 -- what is carried out of words
-abbrev pub CarriesOut : Option Describer → Bool → Contents → ℤ → Bool → Bool → Result Command CommandFault → Cause → Seen → Seen → Type 0
+abbrev pub CarriesOut : Option Extension → Bool → Contents → ℤ → Bool → Bool → Result Command CommandFault → Cause → Seen → Seen → Type 0
 CarriesOut custom tells c now o e asked ended s u = CarriesUnseen (IsSeen (IsTrue tells) asked) (IsTrue tells ⊎ NeedsNoTree asked) (answered custom c now asked) (IsAnswer now asked) o e ended s u
 
 -- the words ask for this command
-pub of_command : (custom : Option Describer) (tells : Bool) (c : Contents) (now : ℤ) {asked : Result Command CommandFault} {k : Command} {o e : Bool} {ended : Cause} {s u : Seen} → asked ≡ Ok k → CarriesOut custom tells c now o e (Ok k) ended s u → CarriesOut custom tells c now o e asked ended s u
+pub of_command : (custom : Option Extension) (tells : Bool) (c : Contents) (now : ℤ) {asked : Result Command CommandFault} {k : Command} {o e : Bool} {ended : Cause} {s u : Seen} → asked ≡ Ok k → CarriesOut custom tells c now o e (Ok k) ended s u → CarriesOut custom tells c now o e asked ended s u
 of_command custom tells c now {asked} {k} {o} {e} {ended} {s} {u} is p = let P : Result Command CommandFault → Type 0 = λ a. CarriesOut custom tells c now o e a ended s u in subst P (sym is) p
 
 -- the time under another name
-pub at_time : (custom : Option Describer) (tells : Bool) (c : Contents) (asked : Result Command CommandFault) {n m : ℤ} {o e : Bool} {ended : Cause} {s u : Seen} → n ≡ m → CarriesOut custom tells c n o e asked ended s u → CarriesOut custom tells c m o e asked ended s u
+pub at_time : (custom : Option Extension) (tells : Bool) (c : Contents) (asked : Result Command CommandFault) {n m : ℤ} {o e : Bool} {ended : Cause} {s u : Seen} → n ≡ m → CarriesOut custom tells c n o e asked ended s u → CarriesOut custom tells c m o e asked ended s u
 at_time custom tells c asked {o = o} {e} {ended} {s} {u} is p = subst (λ x. CarriesOut custom tells c x o e asked ended s u) is p
 
 -- a run's end under another name
-pub runs_at : (custom : Option Describer) (tells : Bool) (c : Contents) (asked : Result Command CommandFault) {n m : ℤ} {o e : Bool} {ended : Cause} {line : List ℕ} {s u : Seen} → n ≡ m
+pub runs_at : (custom : Option Extension) (tells : Bool) (c : Contents) (asked : Result Command CommandFault) {n m : ℤ} {o e : Bool} {ended : Cause} {line : List ℕ} {s u : Seen} → n ≡ m
     → Runs (IsSeen (IsTrue tells) asked) (IsTrue tells ⊎ NeedsNoTree asked) (answered custom c n asked) (IsAnswer n asked) o e ended line s u
     → Runs (IsSeen (IsTrue tells) asked) (IsTrue tells ⊎ NeedsNoTree asked) (answered custom c m asked) (IsAnswer m asked) o e ended line s u
 runs_at custom tells c asked {o = o} {e} {ended} {line} {s} {u} is p =
@@ -97,26 +97,26 @@ by_tree tells (inl t) = t
 by_tree tells (inr none) = absurd none
 
 -- pg_controldata was
-pub of_controldata : (custom : Option Describer) (tells : Bool) (c : Contents) (now : ℤ) {k : Command} {words : ControldataWords} {o e : Bool} {ended : Cause} {s u : Seen} → k ≡ command.Controldata words
+pub of_controldata : (custom : Option Extension) (tells : Bool) (c : Contents) (now : ℤ) {k : Command} {words : ControldataWords} {o e : Bool} {ended : Cause} {s u : Seen} → k ≡ command.Controldata words
     → Carries (IsTrue tells) (controldata_answer c words) IsControldata o e ended s u → CarriesOut custom tells c now o e (Ok k) ended s u
 of_controldata custom tells c now {o = o} {e} {ended} {s} {u} is p =
     let P : Command → Type 0 = λ x. CarriesOut custom tells c now o e (Ok x) ended s u in
     subst P (sym is) (unseen_known (by_tree tells) (unseen_seen (inr (λ may. may)) p))
 
 -- pg_walcompare was
-pub of_walcompare : (custom : Option Describer) (tells : Bool) (c : Contents) (now : ℤ) {k : Command} {words : WalcompareWords} {o e : Bool} {ended : Cause} {s u : Seen} → k ≡ command.Walcompare words
+pub of_walcompare : (custom : Option Extension) (tells : Bool) (c : Contents) (now : ℤ) {k : Command} {words : WalcompareWords} {o e : Bool} {ended : Cause} {s u : Seen} → k ≡ command.Walcompare words
     → Carries (IsTrue tells) (walcompare_answer c words) IsWalcompare o e ended s u → CarriesOut custom tells c now o e (Ok k) ended s u
 of_walcompare custom tells c now {o = o} {e} {ended} {s} {u} is p =
     let P : Command → Type 0 = λ x. CarriesOut custom tells c now o e (Ok x) ended s u in
     subst P (sym is) (unseen_known (by_tree tells) (unseen_seen (inr (λ may. may)) p))
 
 -- where it is done the clusters are the same
-pub same_at : {k : Command} {words : WalcompareWords} (r : Result (Unit {0}) Cause) (now : ℤ) (tells : Bool) (c c' : Contents) (out out' : List ℕ) → k ≡ command.Walcompare words → OnOk r (AreSame c words)
-    → OnOk r (LeavesAsked (Ok k) now tells c c' out out')
-same_at {k} {words} r now tells c c' out out' is same = let Q : Command → Type 0 = λ x. OnOk r (LeavesAsked (Ok x) now tells c c' out out') in subst Q (sym is) same
+pub same_at : (custom : Option Extension) {k : Command} {words : WalcompareWords} (r : Result (Unit {0}) Cause) (now : ℤ) (tells : Bool) (c c' : Contents) (out out' : List ℕ) → k ≡ command.Walcompare words → OnOk r (AreSame c words)
+    → OnOk r (LeavesAsked custom (Ok k) now tells c c' out out')
+same_at custom {k} {words} r now tells c c' out out' is same = let Q : Command → Type 0 = λ x. OnOk r (LeavesAsked custom (Ok x) now tells c c' out out') in subst Q (sym is) same
 
 -- pg_waldump was
-pub of_waldump : (custom : Option Describer) (tells : Bool) (c : Contents) (now : ℤ) {k : Command} {words : WaldumpWords} {o e : Bool} {ended : Cause} {s u : Seen} → k ≡ command.Waldump words
+pub of_waldump : (custom : Option Extension) (tells : Bool) (c : Contents) (now : ℤ) {k : Command} {words : WaldumpWords} {o e : Bool} {ended : Cause} {s u : Seen} → k ≡ command.Waldump words
     → Carries (IsTrue tells ⊎ AskForList words) (waldump_answer custom c words) (IsWaldump words) o e ended s u → CarriesOut custom tells c now o e (Ok k) ended s u
 of_waldump custom tells c now {o = o} {e} {ended} {s} {u} is p = let P : Command → Type 0 = λ x. CarriesOut custom tells c now o e (Ok x) ended s u in subst P (sym is) (unseen_seen (inr (λ may. may)) p)
 
@@ -134,7 +134,7 @@ dry_seen T words (inl t) = inl t
 dry_seen T words (inr dry) = inr (λ may. let same : true ≡ false = sym may ∙ ap not dry in cc same)
 
 -- it was carried out
-pub of_archivecleanup : (custom : Option Describer) (tells : Bool) (c : Contents) (now : ℤ) {k : Command} {words : ArchivecleanupWords} {o e : Bool} {ended : Cause} {s u : Seen} → k ≡ command.Archivecleanup words
+pub of_archivecleanup : (custom : Option Extension) (tells : Bool) (c : Contents) (now : ℤ) {k : Command} {words : ArchivecleanupWords} {o e : Bool} {ended : Cause} {s u : Seen} → k ≡ command.Archivecleanup words
     → CarriesUnseen (IsTrue tells ⊎ IsTrue words.dry_run) (IsTrue tells) (archivecleanup_answer c words) (IsArchivecleanup words) o e ended s u → CarriesOut custom tells c now o e (Ok k) ended s u
 of_archivecleanup custom tells c now {words = words} {o} {e} {ended} {s} {u} is p =
     let P : Command → Type 0 = λ x. CarriesOut custom tells c now o e (Ok x) ended s u in
@@ -161,7 +161,7 @@ rewind_seen T words (inl t) = inl t
 rewind_seen T words (inr dry) = inr (λ may. let same : true ≡ false = sym may ∙ ap not dry in cc same)
 
 -- it was carried out
-pub of_rewind : (custom : Option Describer) (tells : Bool) (c : Contents) (now : ℤ) {k : Command} {words : RewindWords} {o e : Bool} {ended : Cause} {s u : Seen} → k ≡ command.Rewind words
+pub of_rewind : (custom : Option Extension) (tells : Bool) (c : Contents) (now : ℤ) {k : Command} {words : RewindWords} {o e : Bool} {ended : Cause} {s u : Seen} → k ≡ command.Rewind words
     → CarriesUnseen (IsTrue tells ⊎ IsTrue words.dry_run) (IsTrue tells) (rewind_answer c c words now) (IsRewind words) o e ended s u → CarriesOut custom tells c now o e (Ok k) ended s u
 of_rewind custom tells c now {words = words} {o} {e} {ended} {s} {u} is p =
     let P : Command → Type 0 = λ x. CarriesOut custom tells c now o e (Ok x) ended s u in
@@ -176,11 +176,11 @@ pub wet_rewind : {k : Command} {words : RewindWords} → k ≡ command.Rewind wo
 wet_rewind {k} {words} is dry = let P : Command → Type 0 = λ x. MayChange (Ok x) in subst P (sym is) (wet words.dry_run dry)
 
 -- what it leaves, with the time under another name
-pub rewound_at : {k : Command} {words : RewindWords} {n m : ℤ} (r : Result (Unit {0}) Cause) (tells : Bool) (c c' : Contents) (out out' : List ℕ) → k ≡ command.Rewind words → n ≡ m → OnOk r (LeavesRewound words n c c')
-    → OnOk r (LeavesAsked (Ok k) m tells c c' out out')
-rewound_at {k} {words} {n} {m} r tells c c' out out' is same left =
+pub rewound_at : (custom : Option Extension) {k : Command} {words : RewindWords} {n m : ℤ} (r : Result (Unit {0}) Cause) (tells : Bool) (c c' : Contents) (out out' : List ℕ) → k ≡ command.Rewind words → n ≡ m → OnOk r (LeavesRewound words n c c')
+    → OnOk r (LeavesAsked custom (Ok k) m tells c c' out out')
+rewound_at custom {k} {words} {n} {m} r tells c c' out out' is same left =
     let P : ℤ → Type 0 = λ x. OnOk r (LeavesRewound words x c c') in
-    let Q : Command → Type 0 = λ x. OnOk r (LeavesAsked (Ok x) m tells c c' out out') in
+    let Q : Command → Type 0 = λ x. OnOk r (LeavesAsked custom (Ok x) m tells c c' out out') in
     subst Q (sym is) (subst P same left)
 
 -- what pg_walreplay does is seen where the tree tells
@@ -189,8 +189,8 @@ seen_replay T words (inl t) = t
 seen_replay T words (inr none) = absurd (none tt)
 
 -- it was carried out
-pub of_walreplay : (custom : Option Describer) (tells : Bool) (c : Contents) (now : ℤ) {k : Command} {words : WalreplayWords} {o e : Bool} {ended : Cause} {s u : Seen} → k ≡ command.Walreplay words
-    → CarriesUnseen (IsTrue tells) (IsTrue tells) (walreplay_answer c words) (IsWalreplay words) o e ended s u → CarriesOut custom tells c now o e (Ok k) ended s u
+pub of_walreplay : (custom : Option Extension) (tells : Bool) (c : Contents) (now : ℤ) {k : Command} {words : WalreplayWords} {o e : Bool} {ended : Cause} {s u : Seen} → k ≡ command.Walreplay words
+    → CarriesUnseen (IsTrue tells) (IsTrue tells) (walreplay_answer custom c words) (IsWalreplay words) o e ended s u → CarriesOut custom tells c now o e (Ok k) ended s u
 of_walreplay custom tells c now {words = words} {o} {e} {ended} {s} {u} is p =
     let P : Command → Type 0 = λ x. CarriesOut custom tells c now o e (Ok x) ended s u in
     subst P (sym is) (unseen_by (seen_replay (IsTrue tells) words) (λ t. inl t) (unseen_known (by_tree tells) p))
@@ -200,13 +200,13 @@ pub replay_may : {k : Command} {words : WalreplayWords} → k ≡ command.Walrep
 replay_may {k} {words} is = let P : Command → Type 0 = λ x. MayChange (Ok x) in subst P (sym is) tt
 
 -- what it leaves
-pub replayed_at : {k : Command} {words : WalreplayWords} (r : Result (Unit {0}) Cause) (now : ℤ) (tells : Bool) (c c' : Contents) (out out' : List ℕ) → k ≡ command.Walreplay words → OnOk r (LeavesReplayed words tells c c' out out')
-    → OnOk r (LeavesAsked (Ok k) now tells c c' out out')
-replayed_at {k} {words} r now tells c c' out out' is left = let Q : Command → Type 0 = λ x. OnOk r (LeavesAsked (Ok x) now tells c c' out out') in subst Q (sym is) left
+pub replayed_at : (custom : Option Extension) {k : Command} {words : WalreplayWords} (r : Result (Unit {0}) Cause) (now : ℤ) (tells : Bool) (c c' : Contents) (out out' : List ℕ) → k ≡ command.Walreplay words → OnOk r (LeavesReplayed custom words tells c c' out out')
+    → OnOk r (LeavesAsked custom (Ok k) now tells c c' out out')
+replayed_at custom {k} {words} r now tells c c' out out' is left = let Q : Command → Type 0 = λ x. OnOk r (LeavesAsked custom (Ok x) now tells c c' out out') in subst Q (sym is) left
 
 -- and what stays
-pub stays_at : {k : Command} {words : WalreplayWords} (c c' : Contents) {ended : Cause} → k ≡ command.Walreplay words → StaysMarked words c c' ended → StaysAsked (Ok k) c c' ended
-stays_at {k} {words} c c' {ended} is stays = let Q : Command → Type 0 = λ x. StaysAsked (Ok x) c c' ended in subst Q (sym is) stays
+pub stays_at : (custom : Option Extension) {k : Command} {words : WalreplayWords} (c c' : Contents) {ended : Cause} → k ≡ command.Walreplay words → StaysMarked custom words c c' ended → StaysAsked custom (Ok k) c c' ended
+stays_at custom {k} {words} c c' {ended} is stays = let Q : Command → Type 0 = λ x. StaysAsked custom (Ok x) c c' ended in subst Q (sym is) stays
 
 -- what pair does is seen where the tree tells
 seen_pair : (T : Type 0) (words : PairWords) → IsSeen T (Ok (command.Pair words)) → T
@@ -214,7 +214,7 @@ seen_pair T words (inl t) = t
 seen_pair T words (inr none) = absurd (none tt)
 
 -- it was carried out
-pub of_pair : (custom : Option Describer) (tells : Bool) (c : Contents) (now : ℤ) {k : Command} {words : PairWords} {o e : Bool} {ended : Cause} {s u : Seen} → k ≡ command.Pair words
+pub of_pair : (custom : Option Extension) (tells : Bool) (c : Contents) (now : ℤ) {k : Command} {words : PairWords} {o e : Bool} {ended : Cause} {s u : Seen} → k ≡ command.Pair words
     → CarriesUnseen (IsTrue tells) (IsTrue tells) (pair_answer c words) (IsPair words) o e ended s u → CarriesOut custom tells c now o e (Ok k) ended s u
 of_pair custom tells c now {words = words} {o} {e} {ended} {s} {u} is p =
     let P : Command → Type 0 = λ x. CarriesOut custom tells c now o e (Ok x) ended s u in
@@ -225,49 +225,49 @@ pub pair_may : {k : Command} {words : PairWords} → k ≡ command.Pair words �
 pair_may {k} {words} is = let P : Command → Type 0 = λ x. MayChange (Ok x) in subst P (sym is) tt
 
 -- what it leaves
-pub paired_at : {k : Command} {words : PairWords} (r : Result (Unit {0}) Cause) (now : ℤ) (tells : Bool) (c c' : Contents) (out out' : List ℕ) → k ≡ command.Pair words → OnOk r (LeavesPair words tells c c' out out')
-    → OnOk r (LeavesAsked (Ok k) now tells c c' out out')
-paired_at {k} {words} r now tells c c' out out' is left = let Q : Command → Type 0 = λ x. OnOk r (LeavesAsked (Ok x) now tells c c' out out') in subst Q (sym is) left
+pub paired_at : (custom : Option Extension) {k : Command} {words : PairWords} (r : Result (Unit {0}) Cause) (now : ℤ) (tells : Bool) (c c' : Contents) (out out' : List ℕ) → k ≡ command.Pair words → OnOk r (LeavesPair words tells c c' out out')
+    → OnOk r (LeavesAsked custom (Ok k) now tells c c' out out')
+paired_at custom {k} {words} r now tells c c' out out' is left = let Q : Command → Type 0 = λ x. OnOk r (LeavesAsked custom (Ok x) now tells c c' out out') in subst Q (sym is) left
 
 -- and what stays
-pub beside_at : {k : Command} {words : PairWords} (c c' : Contents) (ended : Cause) → k ≡ command.Pair words → StaysBeside words.root c c' → StaysAsked (Ok k) c c' ended
-beside_at {k} {words} c c' ended is stays = let Q : Command → Type 0 = λ x. StaysAsked (Ok x) c c' ended in subst Q (sym is) stays
+pub beside_at : (custom : Option Extension) {k : Command} {words : PairWords} (c c' : Contents) (ended : Cause) → k ≡ command.Pair words → StaysBeside words.root c c' → StaysAsked custom (Ok k) c c' ended
+beside_at custom {k} {words} c c' ended is stays = let Q : Command → Type 0 = λ x. StaysAsked custom (Ok x) c c' ended in subst Q (sym is) stays
 
 -- what stays does so where a fault of a device, or want of memory, stands in place of the cause
-stays_free : (asked : Result Command CommandFault) (c c' : Contents) (own : Cause) {ended : Cause} → IsFree ended → StaysAsked asked c c' own → StaysAsked asked c c' ended
-stays_free (Ok (command.Rewind words)) c c' own free stays = tt
-stays_free (Ok (command.Resume words)) c c' own free stays = tt
-stays_free (Ok (command.Controldata words)) c c' own free stays = tt
-stays_free (Ok (command.Waldump words)) c c' own free stays = tt
-stays_free (Ok (command.Resetwal words)) c c' own free stays = tt
-stays_free (Ok (command.Archivecleanup words)) c c' own free stays = tt
-stays_free (Ok (command.Walreplay words)) c c' own free stays = record { log = stays.log; mark = λ s is. inl free }
-stays_free (Ok (command.Walcompare words)) c c' own free stays = tt
-stays_free (Ok (command.Pair words)) c c' own free stays = stays
-stays_free (Err e) c c' own free stays = tt
+stays_free : (custom : Option Extension) (asked : Result Command CommandFault) (c c' : Contents) (own : Cause) {ended : Cause} → IsFree ended → StaysAsked custom asked c c' own → StaysAsked custom asked c c' ended
+stays_free custom (Ok (command.Rewind words)) c c' own free stays = tt
+stays_free custom (Ok (command.Resume words)) c c' own free stays = tt
+stays_free custom (Ok (command.Controldata words)) c c' own free stays = tt
+stays_free custom (Ok (command.Waldump words)) c c' own free stays = tt
+stays_free custom (Ok (command.Resetwal words)) c c' own free stays = tt
+stays_free custom (Ok (command.Archivecleanup words)) c c' own free stays = tt
+stays_free custom (Ok (command.Walreplay words)) c c' own free stays = record { log = stays.log; mark = λ s is. inl free }
+stays_free custom (Ok (command.Walcompare words)) c c' own free stays = tt
+stays_free custom (Ok (command.Pair words)) c c' own free stays = stays
+stays_free custom (Err e) c c' own free stays = tt
 
 -- where nothing was done, for want of memory
-pub stays_unmade : (asked : Result Command CommandFault) (c : Contents) → StaysAsked asked c c cause.OutOfMemory
-stays_unmade (Ok (command.Rewind words)) c = tt
-stays_unmade (Ok (command.Resume words)) c = tt
-stays_unmade (Ok (command.Controldata words)) c = tt
-stays_unmade (Ok (command.Waldump words)) c = tt
-stays_unmade (Ok (command.Resetwal words)) c = tt
-stays_unmade (Ok (command.Archivecleanup words)) c = tt
-stays_unmade (Ok (command.Walreplay words)) c = record { log = λ path holds. refl; mark = λ s is. inl (inr (inr (inr refl))) }
-stays_unmade (Ok (command.Walcompare words)) c = tt
-stays_unmade (Ok (command.Pair words)) c = λ path beside. refl
-stays_unmade (Err e) c = tt
+pub stays_unmade : (custom : Option Extension) (asked : Result Command CommandFault) (c : Contents) → StaysAsked custom asked c c cause.OutOfMemory
+stays_unmade custom (Ok (command.Rewind words)) c = tt
+stays_unmade custom (Ok (command.Resume words)) c = tt
+stays_unmade custom (Ok (command.Controldata words)) c = tt
+stays_unmade custom (Ok (command.Waldump words)) c = tt
+stays_unmade custom (Ok (command.Resetwal words)) c = tt
+stays_unmade custom (Ok (command.Archivecleanup words)) c = tt
+stays_unmade custom (Ok (command.Walreplay words)) c = record { log = λ path holds. refl; mark = λ s is. inl (inr (inr (inr refl))) }
+stays_unmade custom (Ok (command.Walcompare words)) c = tt
+stays_unmade custom (Ok (command.Pair words)) c = λ path beside. refl
+stays_unmade custom (Err e) c = tt
 
 -- where the words are refused
-pub stays_refused : (f : CommandFault) (asked : Result Command CommandFault) (c : Contents) {why : Cause} → why ≡ words_cause f → (f ≡ fault.OutOfMemory) ⊎ (asked ≡ Err f) → StaysAsked asked c c why
-stays_refused f asked c is (inl m) = subst (StaysAsked asked c c) (sym (is ∙ ap words_cause m)) (stays_unmade asked c)
-stays_refused f asked c {why} is (inr r) = let P : Result Command CommandFault → Type 0 = λ a. StaysAsked a c c why in subst P (sym r) tt
+pub stays_refused : (custom : Option Extension) (f : CommandFault) (asked : Result Command CommandFault) (c : Contents) {why : Cause} → why ≡ words_cause f → (f ≡ fault.OutOfMemory) ⊎ (asked ≡ Err f) → StaysAsked custom asked c c why
+stays_refused custom f asked c is (inl m) = subst (StaysAsked custom asked c c) (sym (is ∙ ap words_cause m)) (stays_unmade custom asked c)
+stays_refused custom f asked c {why} is (inr r) = let P : Result Command CommandFault → Type 0 = λ a. StaysAsked custom a c c why in subst P (sym r) tt
 
 -- and with the cause that is told
-pub stays_told : (asked : Result Command CommandFault) (c c' : Contents) {outcome own ended : Cause} → own ≡ outcome → (ended ≡ own) ⊎ (IsTrue (has_values own) × (ended ≡ cause.OutOfMemory)) → StaysAsked asked c c' outcome → StaysAsked asked c c' ended
-stays_told asked c c' same (inl is) stays = subst (StaysAsked asked c c') (sym (is ∙ same)) stays
-stays_told asked c c' {outcome} same (inr m) stays = stays_free asked c c' outcome (inr (inr (inr m.1))) stays
+pub stays_told : (custom : Option Extension) (asked : Result Command CommandFault) (c c' : Contents) {outcome own ended : Cause} → own ≡ outcome → (ended ≡ own) ⊎ (IsTrue (has_values own) × (ended ≡ cause.OutOfMemory)) → StaysAsked custom asked c c' outcome → StaysAsked custom asked c c' ended
+stays_told custom asked c c' same (inl is) stays = subst (StaysAsked custom asked c c') (sym (is ∙ same)) stays
+stays_told custom asked c c' {outcome} same (inr m) stays = stays_free custom asked c c' outcome (inr (inr (inr m.1))) stays
 
 -- what pg_resetwal does is seen where the tree tells, and of a dry run
 seen_reset : (T : Type 0) (words : ResetwalWords) → IsSeen T (Ok (command.Resetwal words)) → T ⊎ IsTrue (is_some words.options.dry)
@@ -279,7 +279,7 @@ reset_seen T words (inl t) = inl t
 reset_seen T words (inr dry) = inr (λ may. let same : true ≡ false = sym may ∙ ap not dry in cc same)
 
 -- it was carried out
-pub of_resetwal : (custom : Option Describer) (tells : Bool) (c : Contents) (now : ℤ) {k : Command} {words : ResetwalWords} {o e : Bool} {ended : Cause} {s u : Seen} → k ≡ command.Resetwal words
+pub of_resetwal : (custom : Option Extension) (tells : Bool) (c : Contents) (now : ℤ) {k : Command} {words : ResetwalWords} {o e : Bool} {ended : Cause} {s u : Seen} → k ≡ command.Resetwal words
     → CarriesUnseen (IsTrue tells ⊎ IsTrue (is_some words.options.dry)) (IsTrue tells) (resetwal_answer c words now) (IsResetwal words now) o e ended s u → CarriesOut custom tells c now o e (Ok k) ended s u
 of_resetwal custom tells c now {words = words} {o} {e} {ended} {s} {u} is p =
     let P : Command → Type 0 = λ x. CarriesOut custom tells c now o e (Ok x) ended s u in
@@ -310,7 +310,7 @@ seen_by : (T : Type 0) (asked : Result Command CommandFault) → T ⊎ NeedsNoTr
 seen_by T asked (inl t) = inl t
 seen_by T asked (inr need) = inr (needless asked need)
 
-module _ (custom : Option Describer) (tells : Bool) (c : Contents) (now : ℤ) (asked : Result Command CommandFault) {o e : Bool} {k : List ChangeCall} {out err : Sunk} where
+module _ (custom : Option Extension) (tells : Bool) (c : Contents) (now : ℤ) (asked : Result Command CommandFault) {o e : Bool} {k : List ChangeCall} {out err : Sunk} where
   -- there was no memory for the words
   pub no_words : CarriesOut custom tells c now o e asked cause.OutOfMemory (seen c k out err) (seen c k out err)
   no_words = unseen_still refl refl (λ d j. carries_fault (answered-form custom c now asked) (answered-looks custom c now asked) (inr refl) refl refl)
@@ -335,17 +335,17 @@ refused_alone f asked (inl m) e is = inr (ap words_cause m)
 refused_alone f asked (inr r) e is = let same : Some (words_cause f) ≡ Some e = sym (ap refused_by_words r) ∙ is in inl (cc same)
 
 -- the cause that is told is the outcome, or want of memory for its line
-pub exact_told : (custom : Option Describer) (tells : Bool) (c : Contents) (now : ℤ) (asked : Result Command CommandFault) {o e : Bool} {outcome own ended : Cause} {s u : Seen} → own ≡ outcome → (ended ≡ own) ⊎ (IsTrue (has_values own) × (ended ≡ cause.OutOfMemory))
+pub exact_told : (custom : Option Extension) (tells : Bool) (c : Contents) (now : ℤ) (asked : Result Command CommandFault) {o e : Bool} {outcome own ended : Cause} {s u : Seen} → own ≡ outcome → (ended ≡ own) ⊎ (IsTrue (has_values own) × (ended ≡ cause.OutOfMemory))
     → CarriesOut custom tells c now o e asked outcome s u → IsTrue tells ⊎ NeedsNoTree asked → IsFree ended ⊎ (ended ≡ cause_in (answered custom c now asked).refusal)
 exact_told custom tells c now asked {o} {e} {outcome} {own} {ended} {s} {u} same (inl is) p h = carries_exact h (carries_told (is ∙ same) (seen_of (seen_by (IsTrue tells) asked h) p))
 exact_told custom tells c now asked same (inr m) p h = inl (inr (inr (inr m.1)))
 
 -- a run that is done had that outcome
-pub leaves_done : (r : Result (Unit {0}) Cause) (asked : Result Command CommandFault) {n m : ℤ} (tells : Bool) (c c' : Contents) (out out' : List ℕ) {own ended : Cause} → (r ≡ Err cause.Done → ⊥) → own ≡ cause_of r → (ended ≡ own) ⊎ (IsTrue (has_values own) × (ended ≡ cause.OutOfMemory)) → ended ≡ cause.Done
-    → n ≡ m → OnOk r (LeavesAsked asked n tells c c' out out') → LeavesAsked asked m tells c c' out out'
-leaves_done (Ok u) asked tells c c' out out' undone own told done same left = let P : ℤ → Type 0 = λ x. LeavesAsked asked x tells c c' out out' in subst P same left
-leaves_done (Err e) asked tells c c' out out' undone own (inl is) done same left = absurd (undone (ap Err (sym own ∙ sym is ∙ done)))
-leaves_done (Err e) asked tells c c' out out' undone own (inr m) done same left = let no : cause.OutOfMemory ≡ cause.Done = sym m.1 ∙ done in absurd (cc no)
+pub leaves_done : (custom : Option Extension) (r : Result (Unit {0}) Cause) (asked : Result Command CommandFault) {n m : ℤ} (tells : Bool) (c c' : Contents) (out out' : List ℕ) {own ended : Cause} → (r ≡ Err cause.Done → ⊥) → own ≡ cause_of r → (ended ≡ own) ⊎ (IsTrue (has_values own) × (ended ≡ cause.OutOfMemory)) → ended ≡ cause.Done
+    → n ≡ m → OnOk r (LeavesAsked custom asked n tells c c' out out') → LeavesAsked custom asked m tells c c' out out'
+leaves_done custom (Ok u) asked tells c c' out out' undone own told done same left = let P : ℤ → Type 0 = λ x. LeavesAsked custom asked x tells c c' out out' in subst P same left
+leaves_done custom (Err e) asked tells c c' out out' undone own (inl is) done same left = absurd (undone (ap Err (sym own ∙ sym is ∙ done)))
+leaves_done custom (Err e) asked tells c c' out out' undone own (inr m) done same left = let no : cause.OutOfMemory ≡ cause.Done = sym m.1 ∙ done in absurd (cc no)
 
 -- a line that is made in memory, where there was none, has values
 pub values_of : (b : Bool) → (b ≡ false → ⊥) → b ≡ true

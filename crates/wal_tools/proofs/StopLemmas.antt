@@ -1,5 +1,6 @@
 -- What a stop may leave of a run, from the words on.
-use Rattle.std.proofs.Common.{◌≡◌, ◌⊎◌, ℤ, refl, sym, ap, ◌∙◌, subst, inl, inr, IsTrue, None, Result, Ok, Err, OnOk}
+use Rattle.std.proofs.Common.{Option, ◌≡◌, ◌⊎◌, ℤ, refl, sym, ap, ◌∙◌, subst, inl, inr, IsTrue, None, Result, Ok, Err, OnOk}
+use Rattle.rmgr_hooks.specs.Custom.{Extension}
 use Rattle.cluster_tree.specs.Contents.{Contents}
 use Rattle.cluster_tree.specs.Frame.{Reads, moment_of}
 use Rattle.cluster_tree.specs.Run.{Moment}
@@ -27,59 +28,59 @@ use Rattle.run_acts.specs.declared.cause.Cause.TheVariants as cause
 use Rattle.wal_tools.specs.Stopped.{IsDurableAsked, IsLeftAsked}
 
 -- what is untouched is left by every command
-within : (asked : Result Command CommandFault) (now : ℤ) (first : Moment) → Within (IsUntouched first) (IsLeftAsked asked now first)
-within (Ok (command.Rewind words)) now first c u = inl u
-within (Ok (command.Resume words)) now first c u = inl u
-within (Ok (command.Controldata words)) now first c u = u
-within (Ok (command.Waldump words)) now first c u = u
-within (Ok (command.Resetwal words)) now first c u = inl u
-within (Ok (command.Archivecleanup words)) now first c u = (c, u, λ path. inl refl)
-within (Ok (command.Walreplay words)) now first c u = inl u
-within (Ok (command.Walcompare words)) now first c u = u
-within (Ok (command.Pair words)) now first c u = (c, u, λ path beside. refl)
-within (Err e) now first c u = u
+within : (custom : Option Extension) (asked : Result Command CommandFault) (now : ℤ) (first : Moment) → Within (IsUntouched first) (IsLeftAsked custom asked now first)
+within custom (Ok (command.Rewind words)) now first c u = inl u
+within custom (Ok (command.Resume words)) now first c u = inl u
+within custom (Ok (command.Controldata words)) now first c u = u
+within custom (Ok (command.Waldump words)) now first c u = u
+within custom (Ok (command.Resetwal words)) now first c u = inl u
+within custom (Ok (command.Archivecleanup words)) now first c u = (c, u, λ path. inl refl)
+within custom (Ok (command.Walreplay words)) now first c u = inl u
+within custom (Ok (command.Walcompare words)) now first c u = u
+within custom (Ok (command.Pair words)) now first c u = (c, u, λ path beside. refl)
+within custom (Err e) now first c u = u
 
 -- nothing was done
-pub still_left : (asked : Result Command CommandFault) (now : ℤ) (first : Moment) → LeavesOnly (IsLeftAsked asked now first) first.stops first.stops
-still_left asked now first =
+pub still_left : (custom : Option Extension) (asked : Result Command CommandFault) (now : ℤ) (first : Moment) → LeavesOnly (IsLeftAsked custom asked now first) first.stops first.stops
+still_left custom asked now first =
     let P : Contents → Type 0 = IsUntouched first in
-    leaves_weaker P (IsLeftAsked asked now first) first.stops first.stops (within asked now first) (leaves_only P P first first (holds_first P P first (inl refl) (λ c i. inr i)) (λ c u. u))
+    leaves_weaker P (IsLeftAsked custom asked now first) first.stops first.stops (within custom asked now first) (leaves_only P P first first (holds_first P P first (inl refl) (λ c i. inr i)) (λ c u. u))
 
 -- something was read
-pub read_left : {F : Type 0} (t : Ghosts F) (asked : Result Command CommandFault) (now : ℤ) (old new : F) → Reads t old new → LeavesOnly (IsLeftAsked asked now (moment_of t old)) (t.stops old) (t.stops new)
-read_left t asked now old new reads = subst (LeavesOnly (IsLeftAsked asked now (moment_of t old)) (t.stops old)) (sym reads.unstopped) (still_left asked now (moment_of t old))
+pub read_left : (custom : Option Extension) {F : Type 0} (t : Ghosts F) (asked : Result Command CommandFault) (now : ℤ) (old new : F) → Reads t old new → LeavesOnly (IsLeftAsked custom asked now (moment_of t old)) (t.stops old) (t.stops new)
+read_left custom t asked now old new reads = subst (LeavesOnly (IsLeftAsked custom asked now (moment_of t old)) (t.stops old)) (sym reads.unstopped) (still_left custom asked now (moment_of t old))
 
 -- pg_archivecleanup was carried out
-pub left_of_cleanup : {k : Command} {words : ArchivecleanupWords} (now : ℤ) (first : Moment) (a b : Stops) → k ≡ command.Archivecleanup words → LeavesOnly (IsLeftByCleanup words first) a b → LeavesOnly (IsLeftAsked (Ok k) now first) a b
-left_of_cleanup {k} {words} now first a b is left = let P : Command → Type 0 = λ x. LeavesOnly (IsLeftAsked (Ok x) now first) a b in subst P (sym is) left
+pub left_of_cleanup : (custom : Option Extension) {k : Command} {words : ArchivecleanupWords} (now : ℤ) (first : Moment) (a b : Stops) → k ≡ command.Archivecleanup words → LeavesOnly (IsLeftByCleanup words first) a b → LeavesOnly (IsLeftAsked custom (Ok k) now first) a b
+left_of_cleanup custom {k} {words} now first a b is left = let P : Command → Type 0 = λ x. LeavesOnly (IsLeftAsked custom (Ok x) now first) a b in subst P (sym is) left
 
 -- pair was
-pub left_of_pair : {k : Command} {words : PairWords} (now : ℤ) (first : Moment) (a b : Stops) → k ≡ command.Pair words → LeavesOnly (IsLeftByPair words first) a b → LeavesOnly (IsLeftAsked (Ok k) now first) a b
-left_of_pair {k} {words} now first a b is left = let P : Command → Type 0 = λ x. LeavesOnly (IsLeftAsked (Ok x) now first) a b in subst P (sym is) left
+pub left_of_pair : (custom : Option Extension) {k : Command} {words : PairWords} (now : ℤ) (first : Moment) (a b : Stops) → k ≡ command.Pair words → LeavesOnly (IsLeftByPair words first) a b → LeavesOnly (IsLeftAsked custom (Ok k) now first) a b
+left_of_pair custom {k} {words} now first a b is left = let P : Command → Type 0 = λ x. LeavesOnly (IsLeftAsked custom (Ok x) now first) a b in subst P (sym is) left
 
 -- pg_rewind was, with the time under another name
-pub left_of_rewind : {k : Command} {words : RewindWords} {n m : ℤ} (first : Moment) (a b : Stops) → k ≡ command.Rewind words → n ≡ m → LeavesOnly (IsLeftByRewind words n first.state.contents first) a b → LeavesOnly (IsLeftAsked (Ok k) m first) a b
-left_of_rewind {k} {words} {n} {m} first a b is same left =
-    let P : Command → Type 0 = λ x. LeavesOnly (IsLeftAsked (Ok x) m first) a b in
+pub left_of_rewind : (custom : Option Extension) {k : Command} {words : RewindWords} {n m : ℤ} (first : Moment) (a b : Stops) → k ≡ command.Rewind words → n ≡ m → LeavesOnly (IsLeftByRewind words n first.state.contents first) a b → LeavesOnly (IsLeftAsked custom (Ok k) m first) a b
+left_of_rewind custom {k} {words} {n} {m} first a b is same left =
+    let P : Command → Type 0 = λ x. LeavesOnly (IsLeftAsked custom (Ok x) m first) a b in
     subst P (sym is) (subst (λ x. LeavesOnly (IsLeftByRewind words x first.state.contents first) a b) same left)
 
 -- pg_resetwal was
-pub left_of_reset : {k : Command} {words : ResetwalWords} {n m : ℤ} (first : Moment) (a b : Stops) → k ≡ command.Resetwal words → n ≡ m → LeavesOnly (IsLeftByReset words n first) a b → LeavesOnly (IsLeftAsked (Ok k) m first) a b
-left_of_reset {k} {words} {n} {m} first a b is same left =
-    let P : Command → Type 0 = λ x. LeavesOnly (IsLeftAsked (Ok x) m first) a b in
+pub left_of_reset : (custom : Option Extension) {k : Command} {words : ResetwalWords} {n m : ℤ} (first : Moment) (a b : Stops) → k ≡ command.Resetwal words → n ≡ m → LeavesOnly (IsLeftByReset words n first) a b → LeavesOnly (IsLeftAsked custom (Ok k) m first) a b
+left_of_reset custom {k} {words} {n} {m} first a b is same left =
+    let P : Command → Type 0 = λ x. LeavesOnly (IsLeftAsked custom (Ok x) m first) a b in
     subst P (sym is) (subst (λ x. LeavesOnly (IsLeftByReset words x first) a b) same left)
 
 -- pg_walreplay was
-pub left_of_replay : {k : Command} {words : WalreplayWords} (now : ℤ) (first : Moment) (a b : Stops) → k ≡ command.Walreplay words → LeavesOnly (IsLeftByWalreplay words first) a b → LeavesOnly (IsLeftAsked (Ok k) now first) a b
-left_of_replay {k} {words} now first a b is left = let P : Command → Type 0 = λ x. LeavesOnly (IsLeftAsked (Ok x) now first) a b in subst P (sym is) left
+pub left_of_replay : (custom : Option Extension) {k : Command} {words : WalreplayWords} (now : ℤ) (first : Moment) (a b : Stops) → k ≡ command.Walreplay words → LeavesOnly (IsLeftByWalreplay custom words first) a b → LeavesOnly (IsLeftAsked custom (Ok k) now first) a b
+left_of_replay custom {k} {words} now first a b is left = let P : Command → Type 0 = λ x. LeavesOnly (IsLeftAsked custom (Ok x) now first) a b in subst P (sym is) left
 
 -- the words ask for this command
-pub left_of_command : {k : Command} (asked : Result Command CommandFault) (now : ℤ) (first : Moment) (a b : Stops) → asked ≡ Ok k → LeavesOnly (IsLeftAsked (Ok k) now first) a b → LeavesOnly (IsLeftAsked asked now first) a b
-left_of_command {k} asked now first a b is left = let P : Result Command CommandFault → Type 0 = λ x. LeavesOnly (IsLeftAsked x now first) a b in subst P (sym is) left
+pub left_of_command : (custom : Option Extension) {k : Command} (asked : Result Command CommandFault) (now : ℤ) (first : Moment) (a b : Stops) → asked ≡ Ok k → LeavesOnly (IsLeftAsked custom (Ok k) now first) a b → LeavesOnly (IsLeftAsked custom asked now first) a b
+left_of_command custom {k} asked now first a b is left = let P : Result Command CommandFault → Type 0 = λ x. LeavesOnly (IsLeftAsked custom x now first) a b in subst P (sym is) left
 
 -- the time under another name
-pub left_at : (asked : Result Command CommandFault) {n m : ℤ} (first : Moment) (a b : Stops) → n ≡ m → LeavesOnly (IsLeftAsked asked n first) a b → LeavesOnly (IsLeftAsked asked m first) a b
-left_at asked first a b same left = subst (λ x. LeavesOnly (IsLeftAsked asked x first) a b) same left
+pub left_at : (custom : Option Extension) (asked : Result Command CommandFault) {n m : ℤ} (first : Moment) (a b : Stops) → n ≡ m → LeavesOnly (IsLeftAsked custom asked n first) a b → LeavesOnly (IsLeftAsked custom asked m first) a b
+left_at custom asked first a b same left = subst (λ x. LeavesOnly (IsLeftAsked custom asked x first) a b) same left
 
 -- ---- once it is done
 

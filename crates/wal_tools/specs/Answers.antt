@@ -15,17 +15,17 @@ use Rattle.cmd_walcompare.specs.Walcompare.{IsWalcompare, walcompare_answer}
 use Rattle.cmd_waldump.specs.Waldump.{IsWaldump, waldump_answer}
 use Rattle.cmd_walreplay.specs.Walreplay.{IsWalreplay, walreplay_answer}
 use Rattle.wal_tools.specs.Words.{words_cause}
-use Rattle.rmgr_hooks.specs.Custom.{Describer}
+use Rattle.rmgr_hooks.specs.Custom.{Extension}
 
 -- what is done about the words, from the contents and the time in seconds since 1970
-abbrev pub answered : Option Describer → Contents → ℤ → Result Command CommandFault → Answer
+abbrev pub answered : Option Extension → Contents → ℤ → Result Command CommandFault → Answer
 answered custom c now (Ok (command.Rewind words)) = rewind_answer c c words now
 answered custom c now (Ok (command.Resume words)) = resume_answer c words now
 answered custom c now (Ok (command.Controldata words)) = controldata_answer c words
 answered custom c now (Ok (command.Waldump words)) = waldump_answer custom c words
 answered custom c now (Ok (command.Resetwal words)) = resetwal_answer c words now
 answered custom c now (Ok (command.Archivecleanup words)) = archivecleanup_answer c words
-answered custom c now (Ok (command.Walreplay words)) = walreplay_answer c words
+answered custom c now (Ok (command.Walreplay words)) = walreplay_answer custom c words
 answered custom c now (Ok (command.Walcompare words)) = walcompare_answer c words
 answered custom c now (Ok (command.Pair words)) = pair_answer c words
 answered custom c now (Err e) = refused (words_cause e)

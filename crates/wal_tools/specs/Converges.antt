@@ -1,6 +1,7 @@
 -- The promise of pg_rewind: PostgreSQL 16 manual, reference page of pg_rewind, "How It Works". Own: "A rewound target and a whole copy", "Clusters that grew
 -- from one state".
-use Rattle.std.specs.Prelude.{◌≡◌, ℤ, false, Result, Ok, Err}
+use Rattle.std.specs.Prelude.{Option, ◌≡◌, ℤ, false, Result, Ok, Err}
+use Rattle.rmgr_hooks.specs.Custom.{Extension}
 use Rattle.cluster_tree.specs.Contents.{Contents}
 use Rattle.commands.specs.declared.command.Command.{Command}
 use Rattle.commands.specs.declared.command.Command.TheVariants as command
@@ -11,15 +12,15 @@ use Rattle.wal_tools.specs.Resumed.{ConvergesResumed}
 
 -- A rewind that was asked for and needed, and that is done, leaves a target that follows its source; and so does one that was
 -- stopped and is resumed. Of other commands nothing is said.
-abbrev pub ConvergesAsked : Result Command CommandFault → ℤ → (c c' : Contents) → Type 0
-ConvergesAsked (Ok (command.Rewind words)) now c c' =
-    (n : Needing) → words.dry_run ≡ false → planned_of c words.target words.source now ≡ Ok (Needs n) → Follows c words.target n c'
-ConvergesAsked (Ok (command.Resume words)) now c c' = ConvergesResumed words now c c'
-ConvergesAsked (Ok (command.Controldata words)) now c c' = Unit {0}
-ConvergesAsked (Ok (command.Waldump words)) now c c' = Unit {0}
-ConvergesAsked (Ok (command.Resetwal words)) now c c' = Unit {0}
-ConvergesAsked (Ok (command.Archivecleanup words)) now c c' = Unit {0}
-ConvergesAsked (Ok (command.Walreplay words)) now c c' = Unit {0}
-ConvergesAsked (Ok (command.Walcompare words)) now c c' = Unit {0}
-ConvergesAsked (Ok (command.Pair words)) now c c' = Unit {0}
-ConvergesAsked (Err e) now c c' = Unit {0}
+abbrev pub ConvergesAsked : Option Extension → Result Command CommandFault → ℤ → (c c' : Contents) → Type 0
+ConvergesAsked custom (Ok (command.Rewind words)) now c c' =
+    (n : Needing) → words.dry_run ≡ false → planned_of c words.target words.source now ≡ Ok (Needs n) → Follows custom c words.target n c'
+ConvergesAsked custom (Ok (command.Resume words)) now c c' = ConvergesResumed custom words now c c'
+ConvergesAsked custom (Ok (command.Controldata words)) now c c' = Unit {0}
+ConvergesAsked custom (Ok (command.Waldump words)) now c c' = Unit {0}
+ConvergesAsked custom (Ok (command.Resetwal words)) now c c' = Unit {0}
+ConvergesAsked custom (Ok (command.Archivecleanup words)) now c c' = Unit {0}
+ConvergesAsked custom (Ok (command.Walreplay words)) now c c' = Unit {0}
+ConvergesAsked custom (Ok (command.Walcompare words)) now c c' = Unit {0}
+ConvergesAsked custom (Ok (command.Pair words)) now c c' = Unit {0}
+ConvergesAsked custom (Err e) now c c' = Unit {0}

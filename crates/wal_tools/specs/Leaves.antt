@@ -1,7 +1,8 @@
 -- What a run of pg_rewind, of pg_walreplay and of pair leaves, and what one of pg_walcompare found: PostgreSQL 16 manual, reference page of pg_rewind;
 -- src/backend/access/transam/xlogrecovery.c, PerformWalRecovery. Own: "The plan of a rewind", "A rewind that is resumed", "The answer of a
 -- replay", "What a comparison of clusters shows", "A pair from a number".
-use Rattle.std.specs.Prelude.{ℕ, ℤ, Bool, List, Result, Ok, Err}
+use Rattle.std.specs.Prelude.{Option, ℕ, ℤ, Bool, List, Result, Ok, Err}
+use Rattle.rmgr_hooks.specs.Custom.{Extension}
 use Rattle.cluster_tree.specs.Contents.{Contents}
 use Rattle.commands.specs.declared.command.Command.{Command}
 use Rattle.commands.specs.declared.command.Command.TheVariants as command
@@ -18,28 +19,28 @@ use Rattle.run_acts.specs.declared.cause.Cause.{Cause}
 -- leaves what its changes make, and where no complete mark stands what a rewind leaves. A replay leaves the replayed files, and standard output goes on by
 -- the line on their log. Of a comparison the two clusters are the same. Of pair the three clusters were made and tried, and standard output goes on by the
 -- line on them.
-abbrev pub LeavesAsked : Result Command CommandFault → ℤ → (tells : Bool) → (c c' : Contents) → (out out' : List ℕ) → Type 0
-LeavesAsked (Ok (command.Rewind words)) now tells c c' out out' = LeavesRewound words now c c'
-LeavesAsked (Ok (command.Resume words)) now tells c c' out out' = LeavesResumed words now c c'
-LeavesAsked (Ok (command.Controldata words)) now tells c c' out out' = Unit {0}
-LeavesAsked (Ok (command.Waldump words)) now tells c c' out out' = Unit {0}
-LeavesAsked (Ok (command.Resetwal words)) now tells c c' out out' = Unit {0}
-LeavesAsked (Ok (command.Archivecleanup words)) now tells c c' out out' = Unit {0}
-LeavesAsked (Ok (command.Walreplay words)) now tells c c' out out' = LeavesReplayed words tells c c' out out'
-LeavesAsked (Ok (command.Walcompare words)) now tells c c' out out' = AreSame c words
-LeavesAsked (Ok (command.Pair words)) now tells c c' out out' = LeavesPair words tells c c' out out'
-LeavesAsked (Err e) now tells c c' out out' = Unit {0}
+abbrev pub LeavesAsked : Option Extension → Result Command CommandFault → ℤ → (tells : Bool) → (c c' : Contents) → (out out' : List ℕ) → Type 0
+LeavesAsked custom (Ok (command.Rewind words)) now tells c c' out out' = LeavesRewound words now c c'
+LeavesAsked custom (Ok (command.Resume words)) now tells c c' out out' = LeavesResumed words now c c'
+LeavesAsked custom (Ok (command.Controldata words)) now tells c c' out out' = Unit {0}
+LeavesAsked custom (Ok (command.Waldump words)) now tells c c' out out' = Unit {0}
+LeavesAsked custom (Ok (command.Resetwal words)) now tells c c' out out' = Unit {0}
+LeavesAsked custom (Ok (command.Archivecleanup words)) now tells c c' out out' = Unit {0}
+LeavesAsked custom (Ok (command.Walreplay words)) now tells c c' out out' = LeavesReplayed custom words tells c c' out out'
+LeavesAsked custom (Ok (command.Walcompare words)) now tells c c' out out' = AreSame c words
+LeavesAsked custom (Ok (command.Pair words)) now tells c c' out out' = LeavesPair words tells c c' out out'
+LeavesAsked custom (Err e) now tells c c' out out' = Unit {0}
 
 -- What a run leaves whatever its cause. A replay leaves the log as it was, and the mark where it is refused behind its first change; pair
 -- leaves all but its three clusters as it was.
-abbrev pub StaysAsked : Result Command CommandFault → (c c' : Contents) → (ended : Cause) → Type 0
-StaysAsked (Ok (command.Rewind words)) c c' ended = Unit {0}
-StaysAsked (Ok (command.Resume words)) c c' ended = Unit {0}
-StaysAsked (Ok (command.Controldata words)) c c' ended = Unit {0}
-StaysAsked (Ok (command.Waldump words)) c c' ended = Unit {0}
-StaysAsked (Ok (command.Resetwal words)) c c' ended = Unit {0}
-StaysAsked (Ok (command.Archivecleanup words)) c c' ended = Unit {0}
-StaysAsked (Ok (command.Walreplay words)) c c' ended = StaysMarked words c c' ended
-StaysAsked (Ok (command.Walcompare words)) c c' ended = Unit {0}
-StaysAsked (Ok (command.Pair words)) c c' ended = StaysBeside words.root c c'
-StaysAsked (Err e) c c' ended = Unit {0}
+abbrev pub StaysAsked : Option Extension → Result Command CommandFault → (c c' : Contents) → (ended : Cause) → Type 0
+StaysAsked custom (Ok (command.Rewind words)) c c' ended = Unit {0}
+StaysAsked custom (Ok (command.Resume words)) c c' ended = Unit {0}
+StaysAsked custom (Ok (command.Controldata words)) c c' ended = Unit {0}
+StaysAsked custom (Ok (command.Waldump words)) c c' ended = Unit {0}
+StaysAsked custom (Ok (command.Resetwal words)) c c' ended = Unit {0}
+StaysAsked custom (Ok (command.Archivecleanup words)) c c' ended = Unit {0}
+StaysAsked custom (Ok (command.Walreplay words)) c c' ended = StaysMarked custom words c c' ended
+StaysAsked custom (Ok (command.Walcompare words)) c c' ended = Unit {0}
+StaysAsked custom (Ok (command.Pair words)) c c' ended = StaysBeside words.root c c'
+StaysAsked custom (Err e) c c' ended = Unit {0}

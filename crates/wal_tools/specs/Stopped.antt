@@ -1,5 +1,6 @@
 -- What a stop at any moment of a run may leave. Own: "What a stop may leave", "Changes under a mark".
-use Rattle.std.specs.Prelude.{◌≡◌, ℤ, None, Result, Ok, Err}
+use Rattle.std.specs.Prelude.{Option, ◌≡◌, ℤ, None, Result, Ok, Err}
+use Rattle.rmgr_hooks.specs.Custom.{Extension}
 use Rattle.cluster_tree.specs.Contents.{Contents}
 use Rattle.cluster_tree.specs.Run.{Moment}
 use Rattle.commands.specs.declared.command.Command.{Command}
@@ -15,17 +16,17 @@ use Rattle.marked_runs.specs.Moments.{IsUntouched, StandsSynced}
 
 -- A command that changes a cluster leaves it untouched, marked as unfinished or whole; a clean-up leaves all but some of the files that go, and pair all but
 -- its three clusters; one that only reads leaves all untouched.
-abbrev pub IsLeftAsked : Result Command CommandFault → ℤ → Moment → Contents → Type 0
-IsLeftAsked (Ok (command.Rewind words)) now first c = IsLeftByRewind words now first.state.contents first c
-IsLeftAsked (Ok (command.Resume words)) now first c = IsLeftByResume words now first c
-IsLeftAsked (Ok (command.Controldata words)) now first c = IsUntouched first c
-IsLeftAsked (Ok (command.Waldump words)) now first c = IsUntouched first c
-IsLeftAsked (Ok (command.Resetwal words)) now first c = IsLeftByReset words now first c
-IsLeftAsked (Ok (command.Archivecleanup words)) now first c = IsLeftByCleanup words first c
-IsLeftAsked (Ok (command.Walreplay words)) now first c = IsLeftByWalreplay words first c
-IsLeftAsked (Ok (command.Walcompare words)) now first c = IsUntouched first c
-IsLeftAsked (Ok (command.Pair words)) now first c = IsLeftByPair words first c
-IsLeftAsked (Err e) now first c = IsUntouched first c
+abbrev pub IsLeftAsked : Option Extension → Result Command CommandFault → ℤ → Moment → Contents → Type 0
+IsLeftAsked custom (Ok (command.Rewind words)) now first c = IsLeftByRewind words now first.state.contents first c
+IsLeftAsked custom (Ok (command.Resume words)) now first c = IsLeftByResume words now first c
+IsLeftAsked custom (Ok (command.Controldata words)) now first c = IsUntouched first c
+IsLeftAsked custom (Ok (command.Waldump words)) now first c = IsUntouched first c
+IsLeftAsked custom (Ok (command.Resetwal words)) now first c = IsLeftByReset words now first c
+IsLeftAsked custom (Ok (command.Archivecleanup words)) now first c = IsLeftByCleanup words first c
+IsLeftAsked custom (Ok (command.Walreplay words)) now first c = IsLeftByWalreplay custom words first c
+IsLeftAsked custom (Ok (command.Walcompare words)) now first c = IsUntouched first c
+IsLeftAsked custom (Ok (command.Pair words)) now first c = IsLeftByPair words first c
+IsLeftAsked custom (Err e) now first c = IsUntouched first c
 
 -- Once it is done, a stop leaves what stands, and nothing else: of a rewind that was asked for and needed, of a resume, of a reset that was asked
 -- for, and of a replay.

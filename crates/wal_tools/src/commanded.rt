@@ -31,7 +31,7 @@ use run_acts::Cause;
 use std::alloc::Global;
 
 /// Carries out a command; where a manager of an extension is handed in, the text of its records is its
-/// own.
+/// own, and so is what they make of a page.
 pub(crate) fn carry_out<F: Tree, O: Sink, E: Sink, M: Manager>(
     alloc: Global,
     command: &Command,
@@ -44,7 +44,7 @@ pub(crate) fn carry_out<F: Tree, O: Sink, E: Sink, M: Manager>(
     requires { IsFit command.now }
     ensures carries { CarriesUnseen (IsSeen (IsTrue F.tells) (Ok command.now))
         (IsTrue F.tells ⊎ NeedsNoTree (Ok command.now))
-        (answered (handed_in M.ID M.text custom.entry) (F.contents tree.old) now (Ok command.now))
+        (answered (handed_in M.Manager custom.entry) (F.contents tree.old) now (Ok command.now))
         (IsAnswer now (Ok command.now)) O.tells E.tells (cause_of result)
         (seen (F.contents tree.old) (F.calls tree.old)
         (sunk (O.written out.old) (O.failed_writes out.old))
@@ -67,13 +67,14 @@ pub(crate) fn carry_out<F: Tree, O: Sink, E: Sink, M: Manager>(
     ensures reads { ¬ MayChange (Ok command.now) → Reads F.Tree tree.old tree.new }
     ensures frame { Came F.Tree tree.old tree.new }
     ensures leaves { IsTrue F.tells → OnOk result
-        (LeavesAsked (Ok command.now) now O.tells (F.contents tree.old) (F.contents tree.new)
-        (O.written out.old) (O.written out.new)) }
+        (LeavesAsked (handed_in M.Manager custom.entry) (Ok command.now) now O.tells
+        (F.contents tree.old) (F.contents tree.new) (O.written out.old) (O.written out.new)) }
     ensures stays { IsTrue F.tells →
-        StaysAsked (Ok command.now) (F.contents tree.old) (F.contents tree.new) (cause_of result) }
+        StaysAsked (handed_in M.Manager custom.entry) (Ok command.now)
+        (F.contents tree.old) (F.contents tree.new) (cause_of result) }
     ensures stops { IsTrue F.tells →
-        LeavesOnly (IsLeftAsked (Ok command.now) now (moment_of F.Tree tree.old))
-        (F.stops tree.old) (F.stops tree.new) }
+        LeavesOnly (IsLeftAsked (handed_in M.Manager custom.entry) (Ok command.now) now
+        (moment_of F.Tree tree.old)) (F.stops tree.old) (F.stops tree.new) }
     ensures resumable { IsTrue F.tells →
         LeavesToResume F.Tree (Ok command.now) now tree.old tree.new }
     ensures fresh { IsTrue F.tells → LeavesFresh F.Tree (Ok command.now) now tree.old tree.new }
@@ -88,7 +89,7 @@ pub(crate) fn carry_out<F: Tree, O: Sink, E: Sink, M: Manager>(
         Command::Waldump(words) => waldump(alloc, tree, out, words, custom),
         Command::Resetwal(words) => resetwal(alloc, tree, out, words, now),
         Command::Archivecleanup(words) => archivecleanup(alloc, tree, out, err, words),
-        Command::Walreplay(words) => walreplay(alloc, tree, out, words),
+        Command::Walreplay(words) => walreplay(alloc, tree, out, words, custom),
         Command::Walcompare(words) => walcompare(alloc, tree, out, words),
         Command::Pair(words) => pair(alloc, tree, out, words),
     }

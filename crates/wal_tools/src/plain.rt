@@ -61,14 +61,14 @@ pub fn run<F: Tree, O: Sink, E: Sink>(
         MayChange (command_of (map string_bytes words.now)) }
     ensures changed { IsTrue F.tells → (p : PathValue) → result.cause ≢ Cause.Changed p }
 
-    ensures leaves { IsTrue F.tells → result.cause ≡ Cause.Done → LeavesAsked
+    ensures leaves { IsTrue F.tells → result.cause ≡ Cause.Done → LeavesAsked None
         (command_of (map string_bytes words.now)) now O.tells (F.contents tree.old)
         (F.contents tree.new) (O.written out.old) (O.written out.new) }
-    ensures converges { IsTrue F.tells → result.cause ≡ Cause.Done → ConvergesAsked
+    ensures converges { IsTrue F.tells → result.cause ≡ Cause.Done → ConvergesAsked None
         (command_of (map string_bytes words.now)) now (F.contents tree.old) (F.contents tree.new) }
-    ensures stays { IsTrue F.tells → StaysAsked (command_of (map string_bytes words.now))
+    ensures stays { IsTrue F.tells → StaysAsked None (command_of (map string_bytes words.now))
         (F.contents tree.old) (F.contents tree.new) result.cause }
-    ensures stops { IsTrue F.tells → LeavesOnly (IsLeftAsked
+    ensures stops { IsTrue F.tells → LeavesOnly (IsLeftAsked None
         (command_of (map string_bytes words.now)) now (moment_of F.Tree tree.old))
         (F.stops tree.old) (F.stops tree.new) }
     ensures resumable { IsTrue F.tells → LeavesToResume F.Tree

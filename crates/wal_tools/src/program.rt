@@ -41,7 +41,7 @@ fn answer<F: Tree, O: Sink, E: Sink, M: Manager>(
     ensures carries { CarriesUnseen
         (IsSeen (IsTrue F.tells) (command_of (map string_bytes words.now)))
         (IsTrue F.tells ⊎ NeedsNoTree (command_of (map string_bytes words.now)))
-        (answered (handed_in M.ID M.text custom.entry) (F.contents tree.old) now
+        (answered (handed_in M.Manager custom.entry) (F.contents tree.old) now
         (command_of (map string_bytes words.now)))
         (IsAnswer now (command_of (map string_bytes words.now))) O.tells E.tells (cause_of result)
         (seen (F.contents tree.old) (F.calls tree.old)
@@ -69,12 +69,13 @@ fn answer<F: Tree, O: Sink, E: Sink, M: Manager>(
     ensures reads { ¬ MayChange (command_of (map string_bytes words.now)) →
         Reads F.Tree tree.old tree.new }
     ensures frame { Came F.Tree tree.old tree.new }
-    ensures leaves { IsTrue F.tells → OnOk result (LeavesAsked
+    ensures leaves { IsTrue F.tells → OnOk result (LeavesAsked (handed_in M.Manager custom.entry)
         (command_of (map string_bytes words.now)) now O.tells (F.contents tree.old)
         (F.contents tree.new) (O.written out.old) (O.written out.new)) }
-    ensures stays { IsTrue F.tells → StaysAsked (command_of (map string_bytes words.now))
-        (F.contents tree.old) (F.contents tree.new) (cause_of result) }
-    ensures stops { IsTrue F.tells → LeavesOnly (IsLeftAsked
+    ensures stays { IsTrue F.tells → StaysAsked (handed_in M.Manager custom.entry)
+        (command_of (map string_bytes words.now)) (F.contents tree.old) (F.contents tree.new)
+        (cause_of result) }
+    ensures stops { IsTrue F.tells → LeavesOnly (IsLeftAsked (handed_in M.Manager custom.entry)
         (command_of (map string_bytes words.now)) now (moment_of F.Tree tree.old))
         (F.stops tree.old) (F.stops tree.new) }
     ensures resumable { IsTrue F.tells → LeavesToResume F.Tree
@@ -108,8 +109,8 @@ fn cause_of(outcome: Result<(), Cause>) -> Cause
 ///
 /// `words` are the command and its words, `tree` holds the files, `out` and `err` are standard
 /// output and standard error, and `now` is in seconds since 1970. Where a manager of an extension is
-/// handed in, pg_waldump shows the text of its records as its own. Where the run ends in another cause
-/// than `Done`, one line on `err` names it.
+/// handed in, pg_waldump shows the text of its records as its own, and pg_walreplay replays the records
+/// that it knows. Where the run ends in another cause than `Done`, one line on `err` names it.
 pub fn run_with<F: Tree, O: Sink, E: Sink, M: Manager>(
     alloc: Global,
     words: &[String],
@@ -123,12 +124,12 @@ pub fn run_with<F: Tree, O: Sink, E: Sink, M: Manager>(
     // the cause is that of the words and the contents, a fault of a device, or want of memory
     ensures exact { IsTrue F.tells ⊎ NeedsNoTree (command_of (map string_bytes words.now)) →
         IsFree result.cause ⊎ (result.cause ≡ cause_in (answered
-        (handed_in M.ID M.text custom.entry) (F.contents tree.old) now
+        (handed_in M.Manager custom.entry) (F.contents tree.old) now
         (command_of (map string_bytes words.now))).refusal) }
     // the acts of the command, in order, as far as they came, and then the line of the cause
     ensures runs { Runs (IsSeen (IsTrue F.tells) (command_of (map string_bytes words.now)))
         (IsTrue F.tells ⊎ NeedsNoTree (command_of (map string_bytes words.now)))
-        (answered (handed_in M.ID M.text custom.entry) (F.contents tree.old) now
+        (answered (handed_in M.Manager custom.entry) (F.contents tree.old) now
         (command_of (map string_bytes words.now)))
         (IsAnswer now (command_of (map string_bytes words.now))) O.tells E.tells result.cause
         (line_of (name_of (map string_bytes words.now)) result.cause)
@@ -153,19 +154,21 @@ pub fn run_with<F: Tree, O: Sink, E: Sink, M: Manager>(
     // replayed tree, which it tells; of a comparison that is done the clusters are the same; and a pair
     // that is done was made and tried
     ensures leaves { IsTrue F.tells → result.cause ≡ Cause.Done → LeavesAsked
-        (command_of (map string_bytes words.now)) now O.tells (F.contents tree.old)
-        (F.contents tree.new) (O.written out.old) (O.written out.new) }
+        (handed_in M.Manager custom.entry) (command_of (map string_bytes words.now)) now O.tells
+        (F.contents tree.old) (F.contents tree.new) (O.written out.old) (O.written out.new) }
     // and the rewound target follows its source, also of a rewind that was stopped and is resumed: where
     // both grew from one state, replay of the source's log gives below it what it gives below a whole
     // copy of the source
     ensures converges { IsTrue F.tells → result.cause ≡ Cause.Done → ConvergesAsked
-        (command_of (map string_bytes words.now)) now (F.contents tree.old) (F.contents tree.new) }
+        (handed_in M.Manager custom.entry) (command_of (map string_bytes words.now)) now
+        (F.contents tree.old) (F.contents tree.new) }
     // whatever its cause, a replay leaves the log, and a refusal behind its first change the mark; and
     // pair all but its clusters
-    ensures stays { IsTrue F.tells → StaysAsked (command_of (map string_bytes words.now))
-        (F.contents tree.old) (F.contents tree.new) result.cause }
+    ensures stays { IsTrue F.tells → StaysAsked (handed_in M.Manager custom.entry)
+        (command_of (map string_bytes words.now)) (F.contents tree.old) (F.contents tree.new)
+        result.cause }
     // a stop at any moment, of a resume too, leaves a cluster untouched, marked as unfinished or whole
-    ensures stops { IsTrue F.tells → LeavesOnly (IsLeftAsked
+    ensures stops { IsTrue F.tells → LeavesOnly (IsLeftAsked (handed_in M.Manager custom.entry)
         (command_of (map string_bytes words.now)) now (moment_of F.Tree tree.old))
         (F.stops tree.old) (F.stops tree.new) }
     // a rewind that begins on synced contents leaves these at any stop, or what a plan of just what is

@@ -11,7 +11,7 @@ use Rattle.wal_records.specs.Reading.{LogRecord}
 use Rattle.block_refs.specs.declared.fault.PartsFault.{PartsFault}
 use Rattle.block_refs.specs.Outcomes.{record_parts}
 use Rattle.block_refs.specs.Parts.{PartsView}
-use Rattle.rmgr_hooks.specs.Custom.{Describer}
+use Rattle.rmgr_hooks.specs.Custom.{Extension}
 use Rattle.waldump_core.specs.declared.dumped.Dumped.{Dumped}
 use Rattle.waldump_core.specs.declared.fault.DumpFault.{DumpFault}
 use Rattle.waldump_core.specs.declared.fault.DumpFault.TheVariants as fault
@@ -53,7 +53,7 @@ or_none sel None before answer = if is_empty before then Err (fault.NoRecordAt s
 or_none sel (Some end) before answer = answer
 
 -- the dump of the records ahead, said of their list
-abbrev lines_left : Option Describer → ℕ → Selection → ℕ → List LogRecord → List (List ℕ)
+abbrev lines_left : Option Extension → ℕ → Selection → ℕ → List LogRecord → List (List ℕ)
 lines_left custom size sel shown ahead = shown_lines custom sel (rest_within sel.limit shown (filter (is_selected sel) (take_while has_parts (take_while (is_before size sel.stop) ahead))))
 
 abbrev answer_left : ℕ → Selection → ℕ → Why → ℕ → Option Lsn → List LogRecord → Result Dumped DumpFault
@@ -61,7 +61,7 @@ answer_left size sel place why shown end ahead =
     or_none sel end (take_while (is_before size sel.stop) ahead)
     (ended_left size sel place why ahead (told_left sel shown end (take_while has_parts (take_while (is_before size sel.stop) ahead))))
 
-record Rest (custom : Option Describer) (size : ℕ) (sel : Selection) (place : ℕ) (why : Why) (shown : ℕ) (end : Option Lsn) (ahead : List LogRecord) (dump : Dump) : Type 0 where
+record Rest (custom : Option Extension) (size : ℕ) (sel : Selection) (place : ℕ) (why : Why) (shown : ℕ) (end : Option Lsn) (ahead : List LogRecord) (dump : Dump) : Type 0 where
   lines : dump.lines ≡ lines_left custom size sel shown ahead
   answer : dump.answer ≡ answer_left size sel place why shown end ahead
 
@@ -70,7 +70,7 @@ abbrev Room : ℕ → ℕ → Type 0
 Room limit shown = (limit ≡ 0) ⊎ (shown < limit)
 
 -- what follows for the records behind one
-abbrev Follows : Option Describer → ℕ → Selection → ℕ → Why → List LogRecord → (Progress → Dump) → Type 0
+abbrev Follows : Option Extension → ℕ → Selection → ℕ → Why → List LogRecord → (Progress → Dump) → Type 0
 Follows custom size sel place why ahead rest = (shown : ℕ) (end : Option Lsn) → Room sel.limit shown → Rest custom size sel place why shown end ahead (rest (behind shown end))
 
 not_full : (limit shown more : ℕ) → Room limit shown → more ≡ 0 → fills limit (shown + more) ≡ false
@@ -86,15 +86,15 @@ none_within (suc n) false none is = ap (take (suc n)) is
 none_left : (limit shown : ℕ) → length (rest_within limit shown []) ≡ 0
 none_left limit shown = ap length (none_within (limit - shown) (limit == 0) [] refl)
 
-no_lines : (custom : Option Describer) (sel : Selection) (q : Bool) (records : List LogRecord) → records ≡ [] → cond q [] (map (line_of custom sel) records) ≡ []
+no_lines : (custom : Option Extension) (sel : Selection) (q : Bool) (records : List LogRecord) → records ≡ [] → cond q [] (map (line_of custom sel) records) ≡ []
 no_lines custom sel true records is = refl
 no_lines custom sel false records is = ap (map (line_of custom sel)) is
 
-none_shown : (custom : Option Describer) (sel : Selection) (shown : ℕ) → shown_lines custom sel (rest_within sel.limit shown []) ≡ []
+none_shown : (custom : Option Extension) (sel : Selection) (shown : ℕ) → shown_lines custom sel (rest_within sel.limit shown []) ≡ []
 none_shown custom sel shown = no_lines custom sel sel.quiet (rest_within sel.limit shown []) (none_within (sel.limit - shown) (sel.limit == 0) [] refl)
 
 -- where the records end, behind the last one
-log_ended : (custom : Option Describer) (size : ℕ) (sel : Selection) (place : ℕ) (why : Why) (shown : ℕ) (end : Option Lsn) → Room sel.limit shown → Rest custom size sel place why shown end [] (walk_over custom size sel place why [] (behind shown end))
+log_ended : (custom : Option Extension) (size : ℕ) (sel : Selection) (place : ℕ) (why : Why) (shown : ℕ) (end : Option Lsn) → Room sel.limit shown → Rest custom size sel place why shown end [] (walk_over custom size sel place why [] (behind shown end))
 unfolding walk_over first_of
 log_ended custom size sel place why shown None room = record { lines = sym (none_shown custom sel shown); answer = refl }
 log_ended custom size sel place why shown (Some end) room = record {
@@ -103,7 +103,7 @@ log_ended custom size sel place why shown (Some end) room = record {
 }
 
 -- at a record that doesn't lie before the stop
-stopped : (custom : Option Describer) (size : ℕ) (sel : Selection) (place : ℕ) (why : Why) (shown : ℕ) (end : Option Lsn) (r : LogRecord) (ahead : List LogRecord) (rest : Progress → Dump) → is_before size sel.stop r ≡ false → Room sel.limit shown
+stopped : (custom : Option Extension) (size : ℕ) (sel : Selection) (place : ℕ) (why : Why) (shown : ℕ) (end : Option Lsn) (r : LogRecord) (ahead : List LogRecord) (rest : Progress → Dump) → is_before size sel.stop r ≡ false → Room sel.limit shown
     → Rest custom size sel place why shown end (r ∷ ahead) (after (shows_nothing (at_stop sel.start shown end)) rest)
 unfolding first_of
 stopped custom size sel place why shown None r ahead rest past room = record { lines = rw past (sym (none_shown custom sel shown)); answer = rw past refl }
@@ -116,7 +116,7 @@ stopped custom size sel place why shown (Some end) r ahead rest past room =
     }
 
 -- at a record that has no parts
-flawed : (custom : Option Describer) (size : ℕ) (sel : Selection) (place : ℕ) (why : Why) (shown : ℕ) (end : Option Lsn) (r : LogRecord) (ahead : List LogRecord) (rest : Progress → Dump) (e : PartsFault) → is_before size sel.stop r ≡ true → record_parts r ≡ Err e → Room sel.limit shown
+flawed : (custom : Option Extension) (size : ℕ) (sel : Selection) (place : ℕ) (why : Why) (shown : ℕ) (end : Option Lsn) (r : LogRecord) (ahead : List LogRecord) (rest : Progress → Dump) (e : PartsFault) → is_before size sel.stop r ≡ true → record_parts r ≡ Err e → Room sel.limit shown
     → Rest custom size sel place why shown end (r ∷ ahead) (after (read_turn custom sel shown r (Err e)) rest)
 unfolding first_of
 flawed custom size sel place why shown None r ahead rest e before is room =
@@ -229,18 +229,18 @@ answer_behind size sel place why shown next end r ahead parts before is same =
     ∙ ap (λ l. ended_left size sel place why ahead (told_left sel shown end l)) (read_more size sel r ahead parts before is)
     ∙ ap (ended_left size sel place why ahead) same
 
-loud_lines : (custom : Option Describer) (sel : Selection) (r : LogRecord) (parts : PartsView) (records : List LogRecord) (q : Bool) → sel.quiet ≡ q → record_parts r ≡ Ok parts → shown_of custom sel r parts ++ shown_lines custom sel records ≡ shown_lines custom sel (r ∷ records)
+loud_lines : (custom : Option Extension) (sel : Selection) (r : LogRecord) (parts : PartsView) (records : List LogRecord) (q : Bool) → sel.quiet ≡ q → record_parts r ≡ Ok parts → shown_of custom sel r parts ++ shown_lines custom sel records ≡ shown_lines custom sel (r ∷ records)
 loud_lines custom sel r parts records true quiet is = rw quiet refl
 loud_lines custom sel r parts records false quiet is = rw (quiet, is) refl
 
 -- the lines behind a record that can be read
-lines_other : (custom : Option Describer) (size : ℕ) (sel : Selection) (shown : ℕ) (r : LogRecord) (ahead : List LogRecord) (parts : PartsView) → is_before size sel.stop r ≡ true → record_parts r ≡ Ok parts → is_selected sel r ≡ false
+lines_other : (custom : Option Extension) (size : ℕ) (sel : Selection) (shown : ℕ) (r : LogRecord) (ahead : List LogRecord) (parts : PartsView) → is_before size sel.stop r ≡ true → record_parts r ≡ Ok parts → is_selected sel r ≡ false
     → lines_left custom size sel shown (r ∷ ahead) ≡ lines_left custom size sel shown ahead
 lines_other custom size sel shown r ahead parts before is other =
     ap (λ l. shown_lines custom sel (rest_within sel.limit shown (filter (is_selected sel) l))) (read_more size sel r ahead parts before is)
     ∙ ap (λ l. shown_lines custom sel (rest_within sel.limit shown l)) (picked sel r (take_while has_parts (take_while (is_before size sel.stop) ahead)) false other)
 
-lines_more : (custom : Option Describer) (size : ℕ) (sel : Selection) (shown : ℕ) (r : LogRecord) (ahead : List LogRecord) (parts : PartsView) → is_before size sel.stop r ≡ true → record_parts r ≡ Ok parts → is_selected sel r ≡ true → Room sel.limit shown
+lines_more : (custom : Option Extension) (size : ℕ) (sel : Selection) (shown : ℕ) (r : LogRecord) (ahead : List LogRecord) (parts : PartsView) → is_before size sel.stop r ≡ true → record_parts r ≡ Ok parts → is_selected sel r ≡ true → Room sel.limit shown
     → shown_of custom sel r parts ++ lines_left custom size sel (shown + 1) ahead ≡ lines_left custom size sel shown (r ∷ ahead)
 lines_more custom size sel shown r ahead parts before is selected room =
     loud_lines custom sel r parts (rest_within sel.limit (shown + 1) (filter (is_selected sel) (take_while has_parts (take_while (is_before size sel.stop) ahead)))) sel.quiet refl is
@@ -249,7 +249,7 @@ lines_more custom size sel shown r ahead parts before is selected room =
     ∙ ap (λ l. shown_lines custom sel (rest_within sel.limit shown (filter (is_selected sel) l))) (sym (read_more size sel r ahead parts before is))
 
 -- nothing is left behind the one that fills the limit
-none_filled : (custom : Option Describer) (size : ℕ) (sel : Selection) (shown : ℕ) (ahead : List LogRecord) → (shown + 1 == sel.limit) ≡ true → lines_left custom size sel (shown + 1) ahead ≡ []
+none_filled : (custom : Option Extension) (size : ℕ) (sel : Selection) (shown : ℕ) (ahead : List LogRecord) → (shown + 1 == sel.limit) ≡ true → lines_left custom size sel (shown + 1) ahead ≡ []
 none_filled custom size sel shown ahead full =
     no_lines custom sel sel.quiet (rest_within sel.limit (shown + 1) (filter (is_selected sel) (take_while has_parts (take_while (is_before size sel.stop) ahead)))) (at_limit sel.limit shown (filter (is_selected sel) (take_while has_parts (take_while (is_before size sel.stop) ahead))) full)
 
@@ -258,7 +258,7 @@ full_answer : (size : ℕ) (sel : Selection) (place : ℕ) (why : Why) (shown : 
 full_answer size sel place why shown r ahead full = rw (filled sel.limit shown full) refl
 
 -- a record that is shown
-shown_rest : (custom : Option Describer) (size : ℕ) (sel : Selection) (place : ℕ) (why : Why) (shown : ℕ) (end : Option Lsn) (r : LogRecord) (ahead : List LogRecord) (rest : Progress → Dump) (parts : PartsView) (full : Bool) → (shown + 1 == sel.limit) ≡ full
+shown_rest : (custom : Option Extension) (size : ℕ) (sel : Selection) (place : ℕ) (why : Why) (shown : ℕ) (end : Option Lsn) (r : LogRecord) (ahead : List LogRecord) (rest : Progress → Dump) (parts : PartsView) (full : Bool) → (shown + 1 == sel.limit) ≡ full
     → is_before size sel.stop r ≡ true → record_parts r ≡ Ok parts → is_selected sel r ≡ true → Room sel.limit shown → Follows custom size sel place why ahead rest
     → Rest custom size sel place why shown end (r ∷ ahead) (after (selected_turn custom sel shown r parts true) rest)
 shown_rest custom size sel place why shown end r ahead rest parts true full before is selected room follows =
@@ -276,7 +276,7 @@ shown_rest custom size sel place why shown end r ahead rest parts false more bef
       answer = rw more (next.answer ∙ sym (answer_behind size sel place why shown (shown + 1) end r ahead parts before is (told_more sel shown end r (take_while has_parts (take_while (is_before size sel.stop) ahead)) selected room more)));
     }
 
-met_rest : (custom : Option Describer) (size : ℕ) (sel : Selection) (place : ℕ) (why : Why) (shown : ℕ) (end : Option Lsn) (r : LogRecord) (ahead : List LogRecord) (rest : Progress → Dump) (parts : PartsView) (met : Bool) → meets sel r parts ≡ met
+met_rest : (custom : Option Extension) (size : ℕ) (sel : Selection) (place : ℕ) (why : Why) (shown : ℕ) (end : Option Lsn) (r : LogRecord) (ahead : List LogRecord) (rest : Progress → Dump) (parts : PartsView) (met : Bool) → meets sel r parts ≡ met
     → is_before size sel.stop r ≡ true → record_parts r ≡ Ok parts → Room sel.limit shown → Follows custom size sel place why ahead rest
     → Rest custom size sel place why shown end (r ∷ ahead) (after (selected_turn custom sel shown r parts met) rest)
 met_rest custom size sel place why shown end r ahead rest parts true met before is room follows =
@@ -289,21 +289,21 @@ met_rest custom size sel place why shown end r ahead rest parts false met before
       answer = next.answer ∙ sym (answer_behind size sel place why shown shown end r ahead parts before is (told_other sel shown end r (take_while has_parts (take_while (is_before size sel.stop) ahead)) other));
     }
 
-read_rest : (custom : Option Describer) (size : ℕ) (sel : Selection) (place : ℕ) (why : Why) (shown : ℕ) (end : Option Lsn) (r : LogRecord) (ahead : List LogRecord) (rest : Progress → Dump) (found : Result PartsView PartsFault) → record_parts r ≡ found
+read_rest : (custom : Option Extension) (size : ℕ) (sel : Selection) (place : ℕ) (why : Why) (shown : ℕ) (end : Option Lsn) (r : LogRecord) (ahead : List LogRecord) (rest : Progress → Dump) (found : Result PartsView PartsFault) → record_parts r ≡ found
     → is_before size sel.stop r ≡ true → Room sel.limit shown → Follows custom size sel place why ahead rest
     → Rest custom size sel place why shown end (r ∷ ahead) (after (read_turn custom sel shown r found) rest)
 read_rest custom size sel place why shown end r ahead rest (Err e) is before room follows = flawed custom size sel place why shown end r ahead rest e before is room
 read_rest custom size sel place why shown end r ahead rest (Ok parts) is before room follows = met_rest custom size sel place why shown end r ahead rest parts (meets sel r parts) refl before is room follows
 
 -- a record, by where it lies
-rest_at : (custom : Option Describer) (size : ℕ) (sel : Selection) (place : ℕ) (why : Why) (shown : ℕ) (end : Option Lsn) (r : LogRecord) (records : List LogRecord) (rest : Progress → Dump) (below before : Bool) → nat_lt r.start sel.start.0 ≡ below → is_before size sel.stop r ≡ before
+rest_at : (custom : Option Extension) (size : ℕ) (sel : Selection) (place : ℕ) (why : Why) (shown : ℕ) (end : Option Lsn) (r : LogRecord) (records : List LogRecord) (rest : Progress → Dump) (below before : Bool) → nat_lt r.start sel.start.0 ≡ below → is_before size sel.stop r ≡ before
     → Room sel.limit shown → Follows custom size sel place why (from_start sel records) rest → Rest custom size sel place why shown end (from_start sel (r ∷ records)) (after (turn_at custom size sel (behind shown end) r) rest)
 unfolding turn_at
 rest_at custom size sel place why shown end r records rest true before low lies room follows = rw low (follows shown end room)
 rest_at custom size sel place why shown end r records rest false false low lies room follows = rw (low, lies) (stopped custom size sel place why shown end r (from_start sel records) rest lies room)
 rest_at custom size sel place why shown end r records rest false true low lies room follows = rw (low, lies) (read_rest custom size sel place why shown end r (from_start sel records) rest (record_parts r) refl lies room follows)
 
-rest_of : (custom : Option Describer) (size : ℕ) (sel : Selection) (place : ℕ) (why : Why) (records : List LogRecord) → Follows custom size sel place why (from_start sel records) (walk_over custom size sel place why records)
+rest_of : (custom : Option Extension) (size : ℕ) (sel : Selection) (place : ℕ) (why : Why) (records : List LogRecord) → Follows custom size sel place why (from_start sel records) (walk_over custom size sel place why records)
 unfolding walk_over
 rest_of custom size sel place why [] shown end room = log_ended custom size sel place why shown end room
 rest_of custom size sel place why (r ∷ records) shown end room =
@@ -326,7 +326,7 @@ dump_is : (a b : Dump) → a.lines ≡ b.lines → a.answer ≡ b.answer → a �
 dump_is a b lines answer = ap (λ l. record { lines = l; answer = a.answer }) lines ∙ ap (λ x. record { lines = b.lines; answer = x }) answer
 
 -- A walk from the first record on gives the dump of the log.
-pub walk_is : (custom : Option Describer) (size : ℕ) (sel : Selection) (log : Log) → walk_behind custom size sel nothing_shown log ≡ dump_of_log custom size sel log
+pub walk_is : (custom : Option Extension) (size : ℕ) (sel : Selection) (log : Log) → walk_behind custom size sel nothing_shown log ≡ dump_of_log custom size sel log
 unfolding answer_of
 walk_is custom size sel log =
     let rest = rest_of custom size sel log.place log.why log.records 0 None (start_room sel.limit) in

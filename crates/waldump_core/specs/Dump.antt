@@ -12,7 +12,7 @@ use Rattle.wal_records.specs.Reading.{LogRecord}
 use Rattle.block_refs.specs.declared.fault.PartsFault.{PartsFault}
 use Rattle.block_refs.specs.Outcomes.{record_parts}
 use Rattle.block_refs.specs.Parts.{PartsView}
-use Rattle.rmgr_hooks.specs.Custom.{Describer}
+use Rattle.rmgr_hooks.specs.Custom.{Extension}
 use Rattle.waldump_core.specs.declared.dumped.Dumped.{Dumped}
 use Rattle.waldump_core.specs.declared.fault.DumpFault.{DumpFault}
 use Rattle.waldump_core.specs.declared.fault.DumpFault.TheVariants as fault
@@ -72,16 +72,16 @@ selected size sel records = within sel.limit (filter (is_selected sel) (readable
 abbrev pub walked : ℕ → Selection → List LogRecord → List LogRecord
 walked size sel records = up_to sel.limit (is_selected sel) (readable size sel records)
 
-abbrev pub line_with : Option Describer → Selection → LogRecord → Result PartsView PartsFault → List ℕ
+abbrev pub line_with : Option Extension → Selection → LogRecord → Result PartsView PartsFault → List ℕ
 line_with custom sel r (Err e) = []
 line_with custom sel r (Ok parts) = line_text custom sel.details r parts
 
 -- what a record shows: its line, and with the details those below it
-abbrev pub line_of : Option Describer → Selection → LogRecord → List ℕ
+abbrev pub line_of : Option Extension → Selection → LogRecord → List ℕ
 line_of custom sel r = line_with custom sel r (record_parts r)
 
 -- what is shown, in the order of the log; a quiet dump (--quiet) shows nothing
-abbrev pub shown_lines : Option Describer → Selection → List LogRecord → List (List ℕ)
+abbrev pub shown_lines : Option Extension → Selection → List LogRecord → List (List ℕ)
 shown_lines custom sel records = if sel.quiet then [] else map (line_of custom sel) records
 
 abbrev pub at_lsn : ℕ → Lsn
@@ -118,14 +118,14 @@ answer_of size sel log =
     (if list_all (is_before size sel.stop) (from_start sel log.records) then Err (fault.LogEnds (at_lsn log.place) log.why) else Ok done)
 
 -- the dump of these records
-abbrev pub dump_of_log : Option Describer → ℕ → Selection → Log → Dump
+abbrev pub dump_of_log : Option Extension → ℕ → Selection → Log → Dump
 dump_of_log custom size sel log = record { lines = shown_lines custom sel (selected size sel log.records); answer = answer_of size sel log }
 
 -- the dump of the log from a place on
-abbrev pub dump_from : Option Describer → Pages → ℕ → Selection → Option ℕ → Dump
+abbrev pub dump_from : Option Extension → Pages → ℕ → Selection → Option ℕ → Dump
 dump_from custom pages size sel None = record { lines = []; answer = Err (fault.NoRecordAt sel.start) }
 dump_from custom pages size sel (Some place) = dump_of_log custom size sel (log_of pages size place)
 
 -- The dump of a log: from the first place on the page that holds the start.
-abbrev pub dump_of : Option Describer → Pages → ℕ → Selection → Dump
+abbrev pub dump_of : Option Extension → Pages → ℕ → Selection → Dump
 dump_of custom pages size sel = dump_from custom pages size sel (first_place pages size (page_of sel.start.0))

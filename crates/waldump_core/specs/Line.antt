@@ -10,7 +10,7 @@ use Rattle.block_refs.specs.Parts.{PartsView}
 use Rattle.rmgr_desc.specs.Describe.{description_of}
 use Rattle.rmgr_desc.specs.Managers.{manager_name_of}
 use Rattle.rmgr_desc.specs.Operations.{operation_name_of}
-use Rattle.rmgr_hooks.specs.Custom.{Describer}
+use Rattle.rmgr_hooks.specs.Custom.{Extension}
 use Rattle.waldump_core.specs.Refs.{refs_text}
 
 -- %-11s
@@ -37,13 +37,13 @@ head_text r images =
     ++ (sizes_text r.header (r.header.total - images) ++ places_text r.start r.header.prev.0))
 
 -- what stands behind the name of the operation: what a manager of an extension tells of its own records, where one is handed in
-unfoldable pub described : Option Describer → LogRecord → PartsView → List ℕ
+unfoldable pub described : Option Extension → LogRecord → PartsView → List ℕ
 described None r parts = description_of r parts
 described (Some custom) r parts =
     if r.header.manager == custom.id then custom.text r.header.info (main_bytes r.body parts) else description_of r parts
 
 -- a record with these parts: its line, and with the details a line for each block reference
-unfoldable pub line_text : Option Describer → Bool → LogRecord → PartsView → List ℕ
+unfoldable pub line_text : Option Extension → Bool → LogRecord → PartsView → List ℕ
 line_text custom details r parts =
     head_text r (image_total parts.blocks) ++ (operation_name_of r.header.manager r.header.info ++ (codes " "
     ++ (described custom r parts ++ refs_text details parts.blocks)))

@@ -4,7 +4,7 @@ use Rattle.acts.specs.Texts.{texts_of}
 use Rattle.cluster_tree.specs.Contents.{Contents}
 use Rattle.wal_base.specs.Segment.{bytes_of}
 use Rattle.wal_records.specs.Cursor.{CursorView, to_come}
-use Rattle.rmgr_hooks.specs.Custom.{Describer}
+use Rattle.rmgr_hooks.specs.Custom.{Extension}
 use Rattle.waldump_core.specs.declared.fault.DumpFault.{DumpFault}
 use Rattle.waldump_core.specs.declared.progress.Progress.{Progress}
 use Rattle.waldump_core.specs.declared.progress.Turn.{Turn}
@@ -14,11 +14,11 @@ use Rattle.waldump_core.specs.Dump.{Dump}
 use Rattle.waldump_core.specs.Walk.{answered, walk_behind}
 
 -- the dump of the log that a cursor has still to give, behind this progress
-abbrev pub left : Option Describer → Selection → Progress → CursorView → Contents → Dump
+abbrev pub left : Option Extension → Selection → Progress → CursorView → Contents → Dump
 left custom sel progress cursor contents = walk_behind custom (bytes_of cursor.log.size) sel progress (to_come cursor contents)
 
 -- what is left of a dump behind a turn
-abbrev pub left_behind : Option Describer → Selection → Turn → CursorView → Contents → Dump
+abbrev pub left_behind : Option Extension → Selection → Turn → CursorView → Contents → Dump
 left_behind custom sel (Goes progress) cursor contents = left custom sel progress cursor contents
 left_behind custom sel (Stops dumped) cursor contents = answered (Ok dumped)
 

@@ -8,7 +8,7 @@ use Rattle.wal_records.specs.Reading.{LogRecord}
 use Rattle.block_refs.specs.declared.fault.PartsFault.{PartsFault}
 use Rattle.block_refs.specs.Outcomes.{record_parts}
 use Rattle.block_refs.specs.Parts.{PartsView}
-use Rattle.rmgr_hooks.specs.Custom.{Describer}
+use Rattle.rmgr_hooks.specs.Custom.{Extension}
 use Rattle.waldump_core.specs.declared.dumped.Dumped.{Dumped}
 use Rattle.waldump_core.specs.declared.fault.DumpFault.{DumpFault}
 use Rattle.waldump_core.specs.declared.fault.DumpFault.TheVariants as fault
@@ -61,22 +61,22 @@ abbrev pub behind_shown : ℕ → ℕ → Lsn → Turn
 behind_shown limit shown end = if shown == limit then Stops (dumped shown end) else Goes record { shown = shown; end = Some end }
 
 -- what a record that is selected shows
-abbrev pub shown_of : Option Describer → Selection → LogRecord → PartsView → List (List ℕ)
+abbrev pub shown_of : Option Extension → Selection → LogRecord → PartsView → List (List ℕ)
 shown_of custom sel r parts = if sel.quiet then [] else line_text custom sel.details r parts ∷ []
 
 -- a record with these parts
-abbrev pub selected_turn : Option Describer → Selection → ℕ → LogRecord → PartsView → Bool → Shown
+abbrev pub selected_turn : Option Extension → Selection → ℕ → LogRecord → PartsView → Bool → Shown
 selected_turn custom sel shown r parts true = record { lines = shown_of custom sel r parts; outcome = Ok (behind_shown sel.limit (shown + 1) (at_lsn r.end)) }
 selected_turn custom sel shown r parts false = shows_nothing (Ok (behind_passed shown (at_lsn r.end)))
 
 -- a record with parts, or with none
-abbrev pub read_turn : Option Describer → Selection → ℕ → LogRecord → Result PartsView PartsFault → Shown
+abbrev pub read_turn : Option Extension → Selection → ℕ → LogRecord → Result PartsView PartsFault → Shown
 read_turn custom sel shown r (Err e) = shows_nothing (Err (parts_cause e))
 read_turn custom sel shown r (Ok parts) = selected_turn custom sel shown r parts (meets sel r parts)
 
 -- A record behind this progress: it is passed over where it starts below the start, all ends where it doesn't lie before the stop,
 -- and else it is read.
-unfoldable pub turn_at : Option Describer → ℕ → Selection → Progress → LogRecord → Shown
+unfoldable pub turn_at : Option Extension → ℕ → Selection → Progress → LogRecord → Shown
 turn_at custom size sel progress r =
     if nat_lt r.start sel.start.0 then shows_nothing (Ok (Goes progress))
     else if is_before size sel.stop r then read_turn custom sel progress.shown r (record_parts r)
@@ -91,10 +91,10 @@ abbrev pub after : Shown → (Progress → Dump) → Dump
 after shown rest = with_lines shown.lines (after_turn shown.outcome rest)
 
 -- the dump of records behind this progress, where the log then ends at a place
-unfoldable pub walk_over : Option Describer → ℕ → Selection → ℕ → Why → List LogRecord → Progress → Dump
+unfoldable pub walk_over : Option Extension → ℕ → Selection → ℕ → Why → List LogRecord → Progress → Dump
 walk_over custom size sel place why [] progress = answered (Err (at_end sel.start progress.end place why))
 walk_over custom size sel place why (r ∷ rest) progress = after (turn_at custom size sel progress r) (walk_over custom size sel place why rest)
 
 -- the dump of what is left of a log behind this progress
-abbrev pub walk_behind : Option Describer → ℕ → Selection → Progress → Log → Dump
+abbrev pub walk_behind : Option Extension → ℕ → Selection → Progress → Log → Dump
 walk_behind custom size sel progress log = walk_over custom size sel log.place log.why log.records progress

@@ -102,7 +102,7 @@ fn add_described<M: Manager>(
 ) -> Result<(), OutOfMemory>
     requires parts { ArePartsOf rec.now parts.now }
     ensures { IfOk result (λ _. string_bytes text.new ≡ string_bytes text.old
-        ++ described (handed_in M.ID M.text custom.entry) rec.now parts.now) }
+        ++ described (handed_in M.Manager custom.entry) rec.now parts.now) }
 {
     let header = rec.header();
     match custom {
@@ -128,7 +128,7 @@ pub fn add_line<M: Manager>(
 ) -> Result<(), OutOfMemory>
     requires parts { ArePartsOf rec.now parts.now }
     ensures { IfOk result (λ _. string_bytes text.new ≡ string_bytes text.old
-        ++ line_text (handed_in M.ID M.text custom.entry) details rec.now parts.now) }
+        ++ line_text (handed_in M.Manager custom.entry) details rec.now parts.now) }
 {
     let header = rec.header();
     add_head(text, rec, parts.image_total())?;

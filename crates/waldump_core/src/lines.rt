@@ -61,7 +61,7 @@ impl Lines {
     ) -> Result<(), OutOfMemory>
         requires parts { ArePartsOf rec.now parts.now }
         ensures added { OnOk result (self.new ≡ self.old
-            ++ line_text (handed_in M.ID M.text custom.entry) details rec.now parts.now) }
+            ++ line_text (handed_in M.Manager custom.entry) details rec.now parts.now) }
         ensures kept { OnErr result (self.new ≡ self.old) }
     {
         self.line.clear();

@@ -31,7 +31,7 @@ fn show_line<M: Manager>(
     requires parts { ArePartsOf rec.now parts.now }
     ensures added { OnOk result (lines.new
         ≡ lines.old ++ texts_of (shown_of
-        (handed_in M.ID M.text asked.now.custom) asked.now.sel rec.now parts.now)) }
+        (handed_in M.Manager asked.now.custom) asked.now.sel rec.now parts.now)) }
     ensures kept { OnErr result (lines.new ≡ lines.old) }
     ensures quiet { IsTrue asked.now.sel.quiet → lines.new ≡ lines.old }
     ensures free { IfErr result (λ e. e ≡ DumpFault.OutOfMemory) }
@@ -56,11 +56,11 @@ fn show_parts<M: Manager>(
     requires parts { ArePartsOf rec.now parts.now }
     requires room { progress.shown + 1 < 2 ^ 64 }
     ensures turn { MatchResult result
-        (λ turn. (selected_turn (handed_in M.ID M.text asked.now.custom) asked.now.sel
+        (λ turn. (selected_turn (handed_in M.Manager asked.now.custom) asked.now.sel
         progress.shown rec.now parts.now (meets asked.now.sel rec.now parts.now)).outcome ≡ Ok turn)
         (λ e. e ≡ DumpFault.OutOfMemory) }
     ensures added { OnOk result (lines.new ≡ lines.old ++ texts_of
-        (selected_turn (handed_in M.ID M.text asked.now.custom) asked.now.sel progress.shown
+        (selected_turn (handed_in M.Manager asked.now.custom) asked.now.sel progress.shown
         rec.now parts.now (meets asked.now.sel rec.now parts.now)).lines) }
     ensures kept { OnErr result (lines.new ≡ lines.old) }
     ensures quiet { IsTrue asked.now.sel.quiet → lines.new ≡ lines.old }
@@ -87,13 +87,13 @@ pub fn take_turn<M: Manager>(
 ) -> Result<Turn, DumpFault>
     requires room { progress.shown + 1 < 2 ^ 64 }
     ensures turn { MatchResult result
-        (λ turn. (turn_at (handed_in M.ID M.text asked.now.custom)
+        (λ turn. (turn_at (handed_in M.Manager asked.now.custom)
         (bytes_of asked.now.size) asked.now.sel progress rec.now).outcome ≡ Ok turn)
         (λ e. (e ≡ DumpFault.OutOfMemory)
-        ⊎ ((turn_at (handed_in M.ID M.text asked.now.custom)
+        ⊎ ((turn_at (handed_in M.Manager asked.now.custom)
         (bytes_of asked.now.size) asked.now.sel progress rec.now).outcome ≡ Err e)) }
     ensures added { OnOk result (lines.new
-        ≡ lines.old ++ texts_of (turn_at (handed_in M.ID M.text asked.now.custom)
+        ≡ lines.old ++ texts_of (turn_at (handed_in M.Manager asked.now.custom)
         (bytes_of asked.now.size) asked.now.sel progress rec.now).lines) }
     ensures kept { OnErr result (lines.new ≡ lines.old) }
     ensures quiet { IsTrue asked.now.sel.quiet → lines.new ≡ lines.old }

@@ -46,11 +46,11 @@ fn advance<F: Tree, M: Manager>(
     requires knows { IsTrue F.tells → Knows cursor.old (F.contents tree.old) }
     ensures knows { IsTrue F.tells → Knows cursor.new (F.contents tree.new) }
     ensures step { IsTrue F.tells → MatchResult result
-        (λ turn. Gives (left (handed_in M.ID M.text asked.now.custom) asked.now.sel
+        (λ turn. Gives (left (handed_in M.Manager asked.now.custom) asked.now.sel
         progress cursor.old (F.contents tree.old)) lines.old
-        (left_behind (handed_in M.ID M.text asked.now.custom) asked.now.sel
+        (left_behind (handed_in M.Manager asked.now.custom) asked.now.sel
         turn cursor.new (F.contents tree.old)) lines.new)
-        (λ e. IsOfReads e ⊎ EndsBy (left (handed_in M.ID M.text asked.now.custom) asked.now.sel
+        (λ e. IsOfReads e ⊎ EndsBy (left (handed_in M.Manager asked.now.custom) asked.now.sel
         progress cursor.old (F.contents tree.old)) e) }
     ensures kept { OnErr result (lines.new ≡ lines.old) }
     ensures quiet { IsTrue asked.now.sel.quiet → lines.new ≡ lines.old }
@@ -88,10 +88,10 @@ fn walk<F: Tree, O: Sink, M: Manager>(
     requires knows { IsTrue F.tells → Knows cursor.old (F.contents tree.old) }
     requires none { lines.old ≡ [] }
     ensures answer { IsTrue F.tells → Meets IsFree
-        (left (handed_in M.ID M.text asked.now.custom) asked.now.sel nothing_shown cursor.old
+        (left (handed_in M.Manager asked.now.custom) asked.now.sel nothing_shown cursor.old
         (F.contents tree.old)).answer result }
     ensures shown { IsTrue F.tells → Performs O.tells false (ending_of result)
-        (prints (left (handed_in M.ID M.text asked.now.custom) asked.now.sel nothing_shown
+        (prints (left (handed_in M.Manager asked.now.custom) asked.now.sel nothing_shown
         cursor.old (F.contents tree.old)).lines)
         (seen (F.contents tree.old) (F.calls tree.old)
         (sunk (O.written out.old) (O.failed_writes out.old)) (sunk [] 0))
@@ -136,10 +136,10 @@ fn dump_at<F: Tree, O: Sink, M: Manager>(
     place: u64,
 ) -> Result<Dumped, DumpFault>
     requires room { length log.folder.parts ≤ 63 }
-    ensures answer { IsTrue F.tells → Meets IsFree (dump_from (handed_in M.ID M.text custom.entry)
+    ensures answer { IsTrue F.tells → Meets IsFree (dump_from (handed_in M.Manager custom.entry)
         (pages_of log (F.contents tree.old)) (bytes_of log.size) sel.now (Some place)).answer result }
     ensures shown { IsTrue F.tells → Performs O.tells false (ending_of result)
-        (prints (dump_from (handed_in M.ID M.text custom.entry) (pages_of log (F.contents tree.old))
+        (prints (dump_from (handed_in M.Manager custom.entry) (pages_of log (F.contents tree.old))
         (bytes_of log.size) sel.now (Some place)).lines)
         (seen (F.contents tree.old) (F.calls tree.old)
         (sunk (O.written out.old) (O.failed_writes out.old)) (sunk [] 0))
@@ -195,13 +195,13 @@ pub fn dump_with<F: Tree, O: Sink, M: Manager>(
 ) -> Result<Dumped, DumpFault>
     requires room { length log.folder.parts ≤ 63 }
     // The answer is the dump's, a device's fault, or want of memory.
-    ensures exact { IsTrue F.tells → Meets IsFree (dump_of (handed_in M.ID M.text custom.entry)
+    ensures exact { IsTrue F.tells → Meets IsFree (dump_of (handed_in M.Manager custom.entry)
         (pages_of log (F.contents tree.old)) (bytes_of log.size) sel.now).answer result }
     // Its lines are acts that are done in turn: all of them where the answer is the dump's own, else
     // the first ones, whole, and of one more a part only where a write of it failed.
     ensures shown { IsTrue F.tells → (err_tells : Bool) (err : Sunk) →
         Performs O.tells err_tells (ending_of result)
-        (prints (dump_of (handed_in M.ID M.text custom.entry) (pages_of log (F.contents tree.old))
+        (prints (dump_of (handed_in M.Manager custom.entry) (pages_of log (F.contents tree.old))
         (bytes_of log.size) sel.now).lines)
         (seen (F.contents tree.old) (F.calls tree.old)
         (sunk (O.written out.old) (O.failed_writes out.old)) err)

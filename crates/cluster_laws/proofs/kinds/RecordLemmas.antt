@@ -1,5 +1,6 @@
 -- Records, where each entry is of the kind of its place.
 use Rattle.std.proofs.Common.{ℕ, true, false, nat_lt, List, [], ◌∷◌, Option, None, Some, Result, Ok, Err}
+use Rattle.rmgr_hooks.specs.Custom.{Extension}
 use Rattle.std.specs.Prelude.{if◌then◌else◌}
 use Rattle.block_effects.specs.Effects.{zeros}
 use Rattle.block_refs.specs.Outcomes.{record_parts, start_of}
@@ -56,7 +57,7 @@ told_finds : {A B : Type 0} (Q : B → Type 0) (r : Result A FileFault) (next : 
 told_finds Q (Ok a) next told later = later a
 told_finds Q (Err e) next told later = absurd told
 
-module _ (root : PathValue) (per : ℕ) where
+module _ (custom : Option Extension) (root : PathValue) (per : ℕ) where
   abbrev Has : Contents → Type 0
   Has c = HasKinds root c
 
@@ -93,14 +94,14 @@ module _ (root : PathValue) (per : ℕ) where
       skipped_finds : Finds HasBlocks (change_skipped root p w)
       skipped_finds = with_finds (with_name p w.skipped) (of_files (created root p.rel p.fork w.files)) (files_finds (created root p.rel p.fork w.files) (created-fine root p.rel p.fork w.files has))
 
-      at_finds : (told : Found) (page : List ℕ) → Finds HasBlocks (change_at root per rec parts block w told page)
+      at_finds : (told : Found) (page : List ℕ) → Finds HasBlocks (change_at custom root per rec parts block w told page)
       at_finds found.Absent page = skipped_finds
       at_finds found.Zero page = skipped_finds
-      at_finds found.Page page = with_finds w.skipped (older_put root per rec p (redone rec parts block) page w.files) (older_finds (redone rec parts block) page w.files has)
+      at_finds found.Page page = with_finds w.skipped (older_put root per rec p (redone custom rec parts block) page w.files) (older_finds (redone custom rec parts block) page w.files has)
 
-      changed_finds : Finds HasBlocks (changed root per rec parts block w)
+      changed_finds : Finds HasBlocks (changed custom root per rec parts block w)
       changed_finds =
-          told_finds HasBlocks (block_read root per p w.files zeros) (λ reading. change_at root per rec parts block w reading.found reading.bytes) (read-block_told root per p zeros w.files has)
+          told_finds HasBlocks (block_read root per p w.files zeros) (λ reading. change_at custom root per rec parts block w reading.found reading.bytes) (read-block_told root per p zeros w.files has)
           (λ reading. at_finds reading.found reading.bytes)
 
       map_finds : Finds Has (map_changed root per rec parts p w.files)
@@ -108,20 +109,20 @@ module _ (root : PathValue) (per : ℕ) where
           told_finds Has (block_read root per p w.files zeros) (λ reading. older_put root per rec p (stamped rec.end (visible_map rec parts)) reading.bytes w.files) (read-block_told root per p zeros w.files has)
           (λ reading. older_finds (stamped rec.end (visible_map rec parts)) reading.bytes w.files has)
 
-      act_finds : (a : Act) → Finds HasBlocks (by_act root per rec parts block w a)
+      act_finds : (a : Act) → Finds HasBlocks (by_act custom root per rec parts block w a)
       act_finds act.Nothing = has
       act_finds act.Gone = has
       act_finds act.Image = with_finds w.skipped (image_put root per rec p (image_at rec parts block.id) w.files) (image_finds (image_at rec parts block.id) w.files has)
-      act_finds act.Make = with_finds w.skipped (redone_put root per rec p (redone rec parts block zeros) w.files) (redone_finds (redone rec parts block zeros) w.files has)
+      act_finds act.Make = with_finds w.skipped (redone_put root per rec p (redone custom rec parts block zeros) w.files) (redone_finds (redone custom rec parts block zeros) w.files has)
       act_finds act.Change = changed_finds
       act_finds act.MapPage = with_finds w.skipped (map_changed root per rec parts p w.files) map_finds
 
   module _ (rec : LogRecord) (parts : PartsView) where
-    each_finds : (blocks : List Placed) (w : BlockWorld) → HasKinds root w.files → Finds HasBlocks (each_after root per rec parts blocks w)
+    each_finds : (blocks : List Placed) (w : BlockWorld) → HasKinds root w.files → Finds HasBlocks (each_after custom root per rec parts blocks w)
     unfolding each_after block_after
     each_finds [] w has = has
     each_finds (placed ∷ more) w has =
-        given_finds HasBlocks HasBlocks (block_after root per rec parts placed w) (each_after root per rec parts more) (act_finds rec parts placed.block w has (act_on rec parts placed.block)) (λ v left. each_finds more v left)
+        given_finds HasBlocks HasBlocks (block_after custom root per rec parts placed w) (each_after custom root per rec parts more) (act_finds rec parts placed.block w has (act_on custom rec parts placed.block)) (λ v left. each_finds more v left)
 
     others_finds : (w : World) (b : BlockWorld) → HasKinds root b.files → FindsKinds root (others_after root per rec parts w b)
     others_finds w b has = by (files_after root per rec parts b.files) (effects-fine root rec parts per b.files has)
@@ -136,20 +137,20 @@ module _ (root : PathValue) (per : ℕ) where
     blocks_finds w (Err (RedoFailed start name why)) finds = tt
     blocks_finds w (Err (File e)) finds = absurd finds
 
-    pub record-finds : (w : World) → HasKinds root w.files → FindsKinds root (record_after root per rec parts w)
+    pub record-finds : (w : World) → HasKinds root w.files → FindsKinds root (record_after custom root per rec parts w)
     unfolding record_after
     record-finds w has =
-        elim (is_short rec parts) as (λ t. FindsKinds root (unless (if t then Some (RedoFailed (start_of rec) (name_or_none (first_block parts)) Layout) else None) (given (blocks_after root per rec parts (blocks_of w)) (others_after root per rec parts w)))) [
+        elim (is_short rec parts) as (λ t. FindsKinds root (unless (if t then Some (RedoFailed (start_of rec) (name_or_none (first_block parts)) Layout) else None) (given (blocks_after custom root per rec parts (blocks_of w)) (others_after root per rec parts w)))) [
           | true ↦ tt
-          | false ↦ blocks_finds w (blocks_after root per rec parts (blocks_of w)) (each_finds parts.blocks (blocks_of w) has)
+          | false ↦ blocks_finds w (blocks_after custom root per rec parts (blocks_of w)) (each_finds parts.blocks (blocks_of w) has)
         ]
 
-  pub log-finds : (records : List LogRecord) (w : World) → HasKinds root w.files → FindsKinds root (records_after root per records w)
+  pub log-finds : (records : List LogRecord) (w : World) → HasKinds root w.files → FindsKinds root (records_after custom root per records w)
   unfolding records_after
   log-finds [] w has = has
-  log-finds (rec ∷ records) w has = by (record_after root per rec (parts_or_none (record_parts rec)) w) (record-finds rec (parts_or_none (record_parts rec)) w has) (log-finds records)
+  log-finds (rec ∷ records) w has = by (record_after custom root per rec (parts_or_none (record_parts rec)) w) (record-finds rec (parts_or_none (record_parts rec)) w has) (log-finds records)
     where
-      by : (r : Result World RecordFault) → FindsKinds root r → ((v : World) → HasKinds root v.files → FindsKinds root (records_after root per records v)) → FindsKinds root (given r (records_after root per records))
+      by : (r : Result World RecordFault) → FindsKinds root r → ((v : World) → HasKinds root v.files → FindsKinds root (records_after custom root per records v)) → FindsKinds root (given r (records_after custom root per records))
       by (Ok v) finds later = later v finds
       by (Err (RedoFailed start name why)) finds later = tt
       by (Err (File e)) finds later = absurd finds

@@ -86,8 +86,8 @@ one_after a b e = cc
 
 -- what a replay of the source's log leaves of a cluster whose relation has so many blocks
 module _ (root : PathValue) (seed blocks : ℕ) (few : blocks ≤ 4096) (c : Contents) (s : Start) (after : After)
-    (passes : start_of c root ≡ Ok s) (log : s.records ≡ side_records Source seed blocks) (per : s.control.relseg ≡ 131072) (has : HasRelation root blocks c)
-    (ends : after_replay c root ≡ Ok after) where
+    (passes : start_of None c root ≡ Ok s) (log : s.records ≡ side_records Source seed blocks) (per : s.control.relseg ≡ 131072) (has : HasRelation root blocks c)
+    (ends : after_replay None c root ≡ Ok after) where
   apart : {a b : List (List ℕ)} → a ≢ b → below root a ≢ below root b
   apart {a} {b} other same = other (own-parts root a b same)
 
@@ -103,26 +103,26 @@ module _ (root : PathValue) (seed blocks : ℕ) (few : blocks ≤ 4096) (c : Con
   first_is : first_world c root s ≡ first
   first_is = ap (λ d. record { files = d; control = s.control; skipped = [] }) (written-new c (below root mark_parts) mark_text)
 
-  run : replayed_into root s (first_world c root s) ≡ Ok after
+  run : replayed_into None root s (first_world c root s) ≡ Ok after
   unfolding after_replay
-  run = sym (ap (λ r. given r (λ t. replayed_into root t (first_world c root t))) passes) ∙ ends
+  run = sym (ap (λ r. given r (λ t. replayed_into None root t (first_world c root t))) passes) ∙ ends
 
   pub record Ended : Type 0 where
     pub world : World
-    pub is : records_after root 131072 (side_records Source seed blocks) first ≡ Ok world
+    pub is : records_after None root 131072 (side_records Source seed blocks) first ≡ Ok world
     pub after_is : closed root (timeline_of s.control) (length s.records) (end_of s) world ≡ after
 
   pub ended : Ended
   ended =
-      let got = given-ok (recorded (records_after root s.control.relseg s.records (first_world c root s))) (closed_or root (timeline_of s.control) (length s.records) (end_of s)) after run in
+      let got = given-ok (recorded (records_after None root s.control.relseg s.records (first_world c root s))) (closed_or root (timeline_of s.control) (length s.records) (end_of s)) after run in
       let last = not-refused (missing_page got.0.skipped) (Ok (closed root (timeline_of s.control) (length s.records) (end_of s) got.0)) after got.2 in
       record {
         world = got.0;
         is =
-            ap (λ w. records_after root 131072 (side_records Source seed blocks) w) (sym first_is)
-            ∙ ap (λ n. records_after root n (side_records Source seed blocks) (first_world c root s)) (sym per)
-            ∙ ap (λ rs. records_after root s.control.relseg rs (first_world c root s)) (sym log)
-            ∙ recorded_ok (records_after root s.control.relseg s.records (first_world c root s)) got.0 got.1;
+            ap (λ w. records_after None root 131072 (side_records Source seed blocks) w) (sym first_is)
+            ∙ ap (λ n. records_after None root n (side_records Source seed blocks) (first_world c root s)) (sym per)
+            ∙ ap (λ rs. records_after None root s.control.relseg rs (first_world c root s)) (sym log)
+            ∙ recorded_ok (records_after None root s.control.relseg s.records (first_world c root s)) got.0 got.1;
         after_is = one_after (closed root (timeline_of s.control) (length s.records) (end_of s) got.0) after last.1;
       }
 
@@ -132,7 +132,7 @@ module _ (root : PathValue) (seed blocks : ℕ) (few : blocks ≤ 4096) (c : Con
   abbrev pub left_control : Control
   left_control = control_left (timeline_of s.control) (end_of s) world.control
 
-  pub control-run : (w : World) × (w.control ≡ s.control) × (records_after root 131072 (side_records Source seed blocks) w ≡ Ok world)
+  pub control-run : (w : World) × (w.control ≡ s.control) × (records_after None root 131072 (side_records Source seed blocks) w ≡ Ok world)
   control-run = (first, refl, ended.is)
 
   has_first : HasRelation root blocks marked

@@ -123,11 +123,11 @@ after-along w n control low new says along =
     (checkpoint-along start says.said control (omega (arith, low, place_near (bytes_of w.origin.size) w.end)) says.low along))
 
 -- a world's control file behind a record
-control-behind : (root : PathValue) (per : ℕ) (rec : LogRecord) (parts : PartsView) (w v : World) → record_after root per rec parts w ≡ Ok v → v.control ≡ control_after rec parts w.control
+control-behind : (root : PathValue) (per : ℕ) (rec : LogRecord) (parts : PartsView) (w v : World) → record_after None root per rec parts w ≡ Ok v → v.control ≡ control_after rec parts w.control
 unfolding record_after
 control-behind root per rec parts w v made =
-    let run = (not-refused (short_refusal rec parts) (handed (blocks_after root per rec parts (blocks_of w)) (others_after root per rec parts w)) v made).1 in
-    let two = given-ok (blocks_after root per rec parts (blocks_of w)) (others_after root per rec parts w) v run in
+    let run = (not-refused (short_refusal rec parts) (handed (blocks_after None root per rec parts (blocks_of w)) (others_after root per rec parts w)) v made).1 in
+    let two = given-ok (blocks_after None root per rec parts (blocks_of w)) (others_after root per rec parts w) v run in
     let after : Contents → World = λ c. record { files = c; control = control_after rec parts w.control; skipped = without_gone rec parts two.0.skipped } in
     let last = given-ok (of_files (files_after root per rec parts two.0.files)) (λ c. OkWorld (after c)) v two.2 in
     sym (ap (λ (u : World). u.control) (one-world_of (after last.0) v last.2))
@@ -135,12 +135,12 @@ control-behind root per rec parts w v made =
 -- ---- along a log
 
 log-along : (root : PathValue) (per : ℕ) (ns : List NewRecord) (w : Written) (u v : World) → w.end < 2 ^ 63 → AllNew w ns → AllByRecursion IsSaid ns → IsAlong u.control
-    → records_after root per (log_records w ns) u ≡ Ok v → IsAlong v.control
+    → records_after None root per (log_records w ns) u ≡ Ok v → IsAlong v.control
 unfolding records_after
 log-along root per [] w u v low new says along made = subst (λ (x : World). IsAlong x.control) (one-world_of u v made) along
 log-along root per (n ∷ ns) w u v low new says along made =
     let rec = new_log_record w n in
-    let two = given-ok (record_after root per rec (parts_in rec) u) (records_after root per (log_records (appended w n) ns)) v made in
+    let two = given-ok (record_after None root per rec (parts_in rec) u) (records_after None root per (log_records (appended w n) ns)) v made in
     log-along root per ns (appended w n) two.0 v (omega (arith, new.1, grown_end w n)) new.2 says.1
     (subst IsAlong (sym (control-behind root per rec (parts_in rec) u two.0 two.1)) (after-along w n u.control low new.0 says.0 along)) two.2
 
@@ -151,7 +151,7 @@ copy-along seed blocks control few is =
     record { at = place; cp = last_checkpoint Source place; point = place; is = is; start = low; low = last-low Source place low }
 
 pub log-controls : (root : PathValue) (seed blocks tli end : ℕ) (w v : World) → blocks ≤ 4096 → tli < 2 ^ 32 → end < 2 ^ 64 → w.control ≡ copy_control seed blocks
-    → records_after root 131072 (side_records Source seed blocks) w ≡ Ok v → IsKept (control_left tli end v.control)
+    → records_after None root 131072 (side_records Source seed blocks) w ≡ Ok v → IsKept (control_left tli end v.control)
 log-controls root seed blocks tli end w v few timeline low is made =
     left-kept tli end v.control timeline low
     (log-along root 131072 (records_of Source seed blocks) (begun (origin_of Source)) w v (lit< tt) (all-new Source seed blocks few) (all-said Source seed blocks few)

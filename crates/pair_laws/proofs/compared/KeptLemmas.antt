@@ -1,5 +1,5 @@
 -- The control file that the replay of a pair's copy leaves is read.
-use Rattle.std.proofs.Common.{◌≡◌, ◌∙◌, ℕ, ◌≤◌, List, ◌++◌, length, drop, Some, Ok, refl, sym, ap, lit<, zero-add}
+use Rattle.std.proofs.Common.{None, ◌≡◌, ◌∙◌, ℕ, ◌≤◌, List, ◌++◌, length, drop, Some, Ok, refl, sym, ap, lit<, zero-add}
 use Rattle.std.proofs.Math.Seq.{drop-length}
 use Rattle.std.proofs.lemmas.List.{append-nil}
 use Rattle.cluster_laws.proofs.EndLemmas.{control_parts}
@@ -40,8 +40,8 @@ copy_again seed blocks few =
     let low = last_low Source seed blocks few in
     control_again (copy_control seed blocks) (control-fits Source place 5 place 2 low (lit< tt) low (lit< tt)) (rewound-holds Source place (copy_control seed blocks) refl)
 
-module _ (other : PathValue) (seed blocks : ℕ) (few : blocks ≤ 4096) (d : Contents) (after : After) (stands : CopyStands other seed blocks d) (passes : start_of d other ≡ Ok (copy_start other seed blocks))
-    (has : HasRelation other blocks d) (ends : after_replay d other ≡ Ok after) where
+module _ (other : PathValue) (seed blocks : ℕ) (few : blocks ≤ 4096) (d : Contents) (after : After) (stands : CopyStands other seed blocks d) (passes : start_of None d other ≡ Ok (copy_start other seed blocks))
+    (has : HasRelation other blocks d) (ends : after_replay None d other ≡ Ok after) where
   abbrev left : Control
   left = left_control other seed blocks few d (copy_start other seed blocks) after passes refl refl has ends
 

@@ -1,5 +1,5 @@
 -- What a pair's log leaves of the files.
-use Rattle.std.proofs.Common.{◌≡◌, ℕ, ◌<◌, ◌≤◌, List, [], ◌∷◌, ◌++◌, map, Ok, ap, arith}
+use Rattle.std.proofs.Common.{None, ◌≡◌, ℕ, ◌<◌, ◌≤◌, List, [], ◌∷◌, ◌++◌, map, Ok, ap, arith}
 use Rattle.std.specs.List.{AllByRecursion}
 use Rattle.cluster_tree.specs.PathValue.{PathValue}
 use Rattle.pair_laws.specs.Life.{side_records}
@@ -28,12 +28,12 @@ use Rattle.pair_laws.proofs.compared.RecordLemmas.{IsKeeper, RecordKeeps, checkp
 module _ (root : PathValue) (blocks : ℕ) where
   -- records one after another
   all-keep : (ns : List NewRecord) (at : Written) → AllNew at ns → AllByRecursion (IsKeeper root blocks) ns → (w v : World) → HasRelation root blocks w.files
-      → records_after root 131072 (log_records at ns) w ≡ Ok v → KeepsFiles root blocks w.files v.files
+      → records_after None root 131072 (log_records at ns) w ≡ Ok v → KeepsFiles root blocks w.files v.files
   unfolding records_after
   all-keep [] at new all w v has made = keeps-same root blocks w.files v.files has (ap (λ (x : World). x.files) (one-world_of w v made))
   all-keep (n ∷ ns) at new all w v has made =
       let rec = new_log_record at n in
-      let two = given-ok (record_after root 131072 rec (split_of rec).parts w) (records_after root 131072 (log_records (appended at n) ns)) v made in
+      let two = given-ok (record_after None root 131072 rec (split_of rec).parts w) (records_after None root 131072 (log_records (appended at n) ns)) v made in
       let keeps : RecordKeeps root blocks rec (split_of rec).parts =
       as-given (RecordKeeps root blocks) at n all.0.whole new.0 (all.0.keeps (place_at (bytes_of at.origin.size) at.end) (end_from at.origin at.before at.end n) at.before) in
       let first = keeps w two.0 has two.1 in
@@ -52,6 +52,6 @@ module _ (root : PathValue) (blocks : ℕ) where
       (checkpoint-keeper root blocks common_checkpoint common-is, then-last seed few (insert_blocks Source seed blocks) _ (blocks-low Source seed blocks blocks (omega arith)) last)
 
 pub log-keeps : (root : PathValue) (seed blocks : ℕ) (w v : World) → blocks ≤ 4096 → HasRelation root blocks w.files
-    → records_after root 131072 (side_records Source seed blocks) w ≡ Ok v → KeepsFiles root blocks w.files v.files
+    → records_after None root 131072 (side_records Source seed blocks) w ≡ Ok v → KeepsFiles root blocks w.files v.files
 log-keeps root seed blocks w v few has made =
     all-keep root blocks (records_of Source seed blocks) (begun (origin_of Source)) (all-new Source seed blocks few) (all-keepers root blocks seed few) w v has made

@@ -55,10 +55,10 @@ no_fault None h = refl
 no_fault (Some e) h = absurd cc
 
 -- where a replay begins, none stands
-pub start-unmarked : (c : Contents) (root : PathValue) (s : Start) → start_of c root ≡ Ok s → AreUnmarked c root
+pub start-unmarked : (c : Contents) (root : PathValue) (s : Start) → start_of None c root ≡ Ok s → AreUnmarked c root
 unfolding start_of
 start-unmarked c root s passes =
-    finished-unmarked c root (no_fault (unfinished c root) (not-refused (option_map fault.Cluster (unfinished c root)) (given (told_by (control_at c root)) (from_control c root)) s passes).0)
+    finished-unmarked c root (no_fault (unfinished c root) (not-refused (option_map fault.Cluster (unfinished c root)) (given (told_by (control_at c root)) (from_control None c root)) s passes).0)
 
 -- ---- the other marks are none of what a replay changes
 

@@ -79,7 +79,7 @@ ref_to block = record { id = 0; name = block_at block; will_init = false; image 
 
 -- a record makes 8192 bytes of 8192
 abbrev pub MakesPages : LogRecord → PartsView → Type 0
-MakesPages rec parts = (p q : List ℕ) → length p ≡ 8192 → (rules_of rec).operation rec parts 0 p ≡ Ok q → length q ≡ 8192
+MakesPages rec parts = (p q : List ℕ) → length p ≡ 8192 → (rules_of None rec).operation rec parts 0 p ≡ Ok q → length q ≡ 8192
 
 module _ (root : PathValue) (blocks block : ℕ) (few : blocks ≤ 4096) (below : block < blocks) (rec : LogRecord) (parts : PartsView) (makes : MakesPages rec parts) where
   abbrev Keeps : BlockWorld → BlockWorld → Type 0
@@ -89,13 +89,13 @@ module _ (root : PathValue) (blocks block : ℕ) (few : blocks ≤ 4096) (below 
   name = block_at block
 
   abbrev redo : List ℕ → Redone
-  redo page = redone rec parts (ref_to block) page
+  redo page = redone None rec parts (ref_to block) page
 
   older-keeps : (bytes : List ℕ) (c d : Contents) → HasRelation root blocks c → length bytes ≡ 8192 → older_put root 131072 rec name redo bytes c ≡ Ok d → KeepsFiles root blocks c d
   older-keeps bytes c d has size made = by_test (nat_lt (lsn bytes) rec.end)
       (λ older.
       let got = given-ok (of_redo rec name (redo bytes)) (λ page. page_put root 131072 name page c) d (sym (ap (λ b. if b then redone_put root 131072 rec name (redo bytes) c else Ok c) older) ∙ made) in
-      let long : length got.0 ≡ 8192 = stamped-long rec.end ((rules_of rec).operation rec parts 0 bytes) got.0 (λ q is. makes bytes q size is) (redo-ok rec name (redo bytes) got.0 got.1) in
+      let long : length got.0 ≡ 8192 = stamped-long rec.end ((rules_of None rec).operation rec parts 0 bytes) got.0 (λ q is. makes bytes q size is) (redo-ok rec name (redo bytes) got.0 got.1) in
       block-keeps root blocks block got.0 c d few below has long (files-ok _ d got.2))
       (λ newer. keeps-same root blocks c d has (same-ok (older_put root 131072 rec name redo bytes c) c d (ap (λ b. if b then redone_put root 131072 rec name (redo bytes) c else Ok c) newer) made))
 
@@ -104,23 +104,23 @@ module _ (root : PathValue) (blocks block : ℕ) (few : blocks ≤ 4096) (below 
       let two = with-files_ok (with_name name w.skipped) (of_files (created root pair_relation Main w.files)) v made in
       subst (Keeps w) two.2 (created-keeps root blocks w.files two.0 has (files-ok _ two.0 two.1))
 
-  changed-keeps : (w v : BlockWorld) → HasRelation root blocks w.files → changed root 131072 rec parts (ref_to block) w ≡ Ok v → Keeps w v
+  changed-keeps : (w v : BlockWorld) → HasRelation root blocks w.files → changed None root 131072 rec parts (ref_to block) w ≡ Ok v → Keeps w v
   changed-keeps w v has made =
-      let two = given-ok (page_there root 131072 name w.files) (λ reading. change_at root 131072 rec parts (ref_to block) w reading.found reading.bytes) v made in
+      let two = given-ok (page_there root 131072 name w.files) (λ reading. change_at None root 131072 rec parts (ref_to block) w reading.found reading.bytes) v made in
       by two.0.found two.0.bytes (read-long root 131072 name w.files zeros two.0 zeros_long (files-ok _ two.0 two.1)) two.2
     where
-      by : (f : Found) (bytes : List ℕ) → length bytes ≡ 8192 → change_at root 131072 rec parts (ref_to block) w f bytes ≡ Ok v → Keeps w v
+      by : (f : Found) (bytes : List ℕ) → length bytes ≡ 8192 → change_at None root 131072 rec parts (ref_to block) w f bytes ≡ Ok v → Keeps w v
       by found.Absent bytes size run = skipped-keeps w v has run
       by found.Zero bytes size run = skipped-keeps w v has run
       by found.Page bytes size run =
           let put = with-files_ok w.skipped (older_put root 131072 rec name redo bytes w.files) v run in
           subst (Keeps w) put.2 (older-keeps bytes w.files put.0 has size put.1)
 
-  pub change-keeps : (placed : Placed) (w v : BlockWorld) → placed.block ≡ ref_to block → act_on rec parts (ref_to block) ≡ Change → HasRelation root blocks w.files
-      → each_after root 131072 rec parts (placed ∷ []) w ≡ Ok v → Keeps w v
+  pub change-keeps : (placed : Placed) (w v : BlockWorld) → placed.block ≡ ref_to block → act_on None rec parts (ref_to block) ≡ Change → HasRelation root blocks w.files
+      → each_after None root 131072 rec parts (placed ∷ []) w ≡ Ok v → Keeps w v
   unfolding each_after block_after
   change-keeps placed w v is act has made =
-      let two = given-ok (by_act root 131072 rec parts placed.block w (act_on rec parts placed.block)) (each_after root 131072 rec parts []) v made in
-      let run : changed root 131072 rec parts (ref_to block) w ≡ Ok v =
-      ap (by_act root 131072 rec parts (ref_to block) w) (sym act) ∙ ap (λ b. by_act root 131072 rec parts b w (act_on rec parts b)) (sym is) ∙ two.1 ∙ two.2 in
+      let two = given-ok (by_act None root 131072 rec parts placed.block w (act_on None rec parts placed.block)) (each_after None root 131072 rec parts []) v made in
+      let run : changed None root 131072 rec parts (ref_to block) w ≡ Ok v =
+      ap (by_act None root 131072 rec parts (ref_to block) w) (sym act) ∙ ap (λ b. by_act None root 131072 rec parts b w (act_on None rec parts b)) (sym is) ∙ two.1 ∙ two.2 in
       changed-keeps w v has run

@@ -1,5 +1,5 @@
 -- What a record of a pair's log leaves of the files, wherever it stands.
-use Rattle.std.proofs.Common.{◌≡◌, ℕ, ◌<◌, ◌≤◌, [], Option, Ok, refl, ap, subst, arith}
+use Rattle.std.proofs.Common.{None, ◌≡◌, ℕ, ◌<◌, ◌≤◌, [], Option, Ok, refl, ap, subst, arith}
 use Rattle.block_refs.specs.Parts.{PartsView}
 use Rattle.block_refs.specs.declared.placed.Placed.{Placed}
 use Rattle.block_replay.specs.Blocks.{blocks_after, each_after}
@@ -34,7 +34,7 @@ use Rattle.pair_laws.proofs.compared.PutLemmas.{MakesPages, change-keeps, ref_to
 
 -- what a record of these parts leaves of the files
 abbrev pub RecordKeeps : PathValue → (blocks : ℕ) → LogRecord → PartsView → Type 0
-RecordKeeps root blocks rec parts = (w v : World) → HasRelation root blocks w.files → record_after root 131072 rec parts w ≡ Ok v → KeepsFiles root blocks w.files v.files
+RecordKeeps root blocks rec parts = (w v : World) → HasRelation root blocks w.files → record_after None root 131072 rec parts w ≡ Ok v → KeepsFiles root blocks w.files v.files
 
 -- and wherever a record stands
 pub record IsKeeper (root : PathValue) (blocks : ℕ) (n : NewRecord) : Type 0 where
@@ -44,15 +44,15 @@ pub record IsKeeper (root : PathValue) (blocks : ℕ) (n : NewRecord) : Type 0 w
 -- ---- a record that does nothing to files but through its blocks
 
 by-blocks : (root : PathValue) (blocks : ℕ) (rec : LogRecord) (parts : PartsView) → ((c : Contents) → files_after root 131072 rec parts c ≡ Ok c)
-    → ((u m : BlockWorld) → HasRelation root blocks u.files → blocks_after root 131072 rec parts u ≡ Ok m → KeepsFiles root blocks u.files m.files) → RecordKeeps root blocks rec parts
+    → ((u m : BlockWorld) → HasRelation root blocks u.files → blocks_after None root 131072 rec parts u ≡ Ok m → KeepsFiles root blocks u.files m.files) → RecordKeeps root blocks rec parts
 by-blocks root blocks rec parts still keeps w v has made =
-    let after = done root 131072 rec parts w v made in
+    let after = done None root 131072 rec parts w v made in
     let same = same-ok (files_after root 131072 rec parts after.mid.files) after.mid.files v.files (still after.mid.files) after.files in
     subst (KeepsFiles root blocks w.files) same (keeps (blocks_of w) after.mid has after.blocks)
 
 -- ---- inserts
 
-insert-act : (seed block start end : ℕ) (before : Option ℕ) → act_on (given start end before (insert_record seed block)) (insert_parts seed block) (ref_to block) ≡ Change
+insert-act : (seed block start end : ℕ) (before : Option ℕ) → act_on None (given start end before (insert_record seed block)) (insert_parts seed block) (ref_to block) ≡ Change
 unfolding operation_of heap_op_of
 insert-act seed block start end before = refl
 
@@ -65,7 +65,7 @@ placed seed block = record { block = ref_to block; image_at = 0; at = 0; size = 
 
 insert-makes : (seed block : ℕ) → block < 4096 → (start end : ℕ) (before : Option ℕ) → MakesPages (given start end before (insert_record seed block)) (insert_parts seed block)
 insert-makes seed block low start end before =
-    ((managers_are (given start end before (insert_record seed block))).mask (given start end before (insert_record seed block)) (insert_parts seed block) (placed seed block)
+    ((managers_are None tt (given start end before (insert_record seed block))).mask (given start end before (insert_record seed block)) (insert_parts seed block) (placed seed block)
     (insert-parts seed block (omega (arith, low))) refl).page
 
 pub insert-keeper : (root : PathValue) (seed blocks block : ℕ) → blocks ≤ 4096 → block < blocks → IsKeeper root blocks (insert_record seed block)
@@ -85,7 +85,7 @@ checkpoint-files : (root : PathValue) (cp : Checkpoint) (start end : ℕ) (befor
 unfolding files_after for_each effect_of checkpoint_record operation_of xlog_op_of
 checkpoint-files root cp start end before c = refl
 
-none-keep : (root : PathValue) (blocks : ℕ) (rec : LogRecord) (parts : PartsView) (u m : BlockWorld) → HasRelation root blocks u.files → each_after root 131072 rec parts [] u ≡ Ok m → KeepsFiles root blocks u.files m.files
+none-keep : (root : PathValue) (blocks : ℕ) (rec : LogRecord) (parts : PartsView) (u m : BlockWorld) → HasRelation root blocks u.files → each_after None root 131072 rec parts [] u ≡ Ok m → KeepsFiles root blocks u.files m.files
 unfolding each_after
 none-keep root blocks rec parts u m has made = keeps-same root blocks u.files m.files has (ap (λ (x : BlockWorld). x.files) (one_world u m made))
 

@@ -7,11 +7,11 @@ replay_block-requires-clause-block g c = known-at c.args.parts.now.blocks c.args
 
 pub returns-in-Some-clause-exact : goal.returns-in-Some-clause-exact
 returns-in-Some-clause-exact g c told =
-    at-some c.args.at.now.root c.args.at.now.per_file c.args.rec.now c.args.parts.now (slice_get c.args.parts.now.blocks c.args.index) c.in-Some.block
+    at-some _ c.args.at.now.root c.args.at.now.per_file c.args.rec.now c.args.parts.now (slice_get c.args.parts.now.blocks c.args.index) c.in-Some.block
     (record { files = g.F.Tree.contents c.args.tree.now; skipped = c.args.skipped.now }) (record { files = g.F.Tree.contents c.replay_block.new.tree; skipped = c.replay_block.new.skipped })
     c.replay_block.result c.in-Some.ensures.value (c.replay_block.ensures.exact told)
 
 pub returns-in-None-clause-exact : goal.returns-in-None-clause-exact
 returns-in-None-clause-exact g c told =
-    at-none c.args.at.now.root c.args.at.now.per_file c.args.rec.now c.args.parts.now (slice_get c.args.parts.now.blocks c.args.index)
+    at-none _ c.args.at.now.root c.args.at.now.per_file c.args.rec.now c.args.parts.now (slice_get c.args.parts.now.blocks c.args.index)
     (record { files = g.F.Tree.contents c.args.tree.now; skipped = c.args.skipped.now }) c.in-None.ensures.value

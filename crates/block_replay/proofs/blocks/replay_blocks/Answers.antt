@@ -1,4 +1,5 @@
 use Rattle.std.proofs.Common.{drop, sym, ◌∙◌, arith}
+use Rattle.rmgr_hooks.specs.Custom.{handed_in}
 use Rattle.std.proofs.lemmas.Result.{err_from_is_err_and}
 use Rattle.file_edits.proofs.OwnLemmas.{came-on, own-on}
 use Rattle.block_replay.specs.Blocks.{each_after}
@@ -7,9 +8,9 @@ use Rattle.block_replay.proofs.blocks.replay_blocks.Goals as goal
 
 pub returns-in_err-replay_at-clause-exact : goal.returns-in_err-replay_at-clause-exact
 returns-in_err-replay_at-clause-exact g c told =
-    handed (each_after c.args.at.now.root c.args.at.now.per_file c.args.rec.now c.args.parts.now (drop c.loop-index.index c.args.parts.now.blocks) (record { files = g.F.Tree.contents c.loop-index.tree; skipped = c.loop-index.skipped })) _ _
+    handed (each_after (handed_in g.M.Manager c.args.custom) c.args.at.now.root c.args.at.now.per_file c.args.rec.now c.args.parts.now (drop c.loop-index.index c.args.parts.now.blocks) (record { files = g.F.Tree.contents c.loop-index.tree; skipped = c.loop-index.skipped })) _ _
     c.from_residual.result _ (c.loop-index.invariant.meant told) (err_from_is_err_and c.from_residual.result c.from_residual.ensures.1)
-    (each-refused c.args.at.now.root c.args.at.now.per_file c.args.rec.now c.args.parts.now c.args.parts.now.blocks c.loop-index.index
+    (each-refused _ c.args.at.now.root c.args.at.now.per_file c.args.rec.now c.args.parts.now c.args.parts.now.blocks c.loop-index.index
     (record { files = g.F.Tree.contents c.loop-index.tree; skipped = c.loop-index.skipped }) _ (c.in_err-replay_at.ensures.exact told))
 
 pub loop-index-preserved : goal.loop-index-preserved
@@ -17,7 +18,7 @@ loop-index-preserved g c = record {
   frame = came-on g.F.Tree _ _ _ c.loop-index.invariant.frame c.replay_at.ensures.frame;
   own = λ told. own-on g.F.Tree.calls _ _ _ _ (c.loop-index.invariant.own told) (c.replay_at.ensures.own told);
   meant = λ told.
-      sym (each-more c.args.at.now.root c.args.at.now.per_file c.args.rec.now c.args.parts.now c.args.parts.now.blocks c.loop-index.index
+      sym (each-more _ c.args.at.now.root c.args.at.now.per_file c.args.rec.now c.args.parts.now c.args.parts.now.blocks c.loop-index.index
       (record { files = g.F.Tree.contents c.loop-index.tree; skipped = c.loop-index.skipped }) (record { files = g.F.Tree.contents c.replay_at.new.tree; skipped = c.replay_at.new.skipped })
       (c.in_ok-replay_at.ensures.exact told))
       ∙ c.loop-index.invariant.meant told;
@@ -26,5 +27,5 @@ loop-index-preserved g c = record {
 pub returns-clause-exact : goal.returns-clause-exact
 returns-clause-exact g c told =
     sym (c.loop-index.invariant.meant told)
-    ∙ each-end c.args.at.now.root c.args.at.now.per_file c.args.rec.now c.args.parts.now c.args.parts.now.blocks c.loop-index.index
+    ∙ each-end _ c.args.at.now.root c.args.at.now.per_file c.args.rec.now c.args.parts.now c.args.parts.now.blocks c.loop-index.index
     (record { files = g.F.Tree.contents c.loop-index.tree; skipped = c.loop-index.skipped }) (omega arith)

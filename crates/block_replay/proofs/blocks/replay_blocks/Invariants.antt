@@ -1,4 +1,5 @@
 use Rattle.std.proofs.Common.{◌≡◌, drop, IsTrue}
+use Rattle.rmgr_hooks.specs.Custom.{handed_in}
 use Rattle.cluster_tree.specs.Frame.{Came}
 use Rattle.file_edits.specs.Own.{OnOwn}
 use Rattle.file_effects.specs.Own.{is_replayed}
@@ -9,5 +10,5 @@ abbrev pub invariant-loop-index : goal.invariant-loop-index
 invariant-loop-index g l = record {
   frame : Came g.F.Tree l.fn.tree l.tree;
   own : IsTrue g.F.Tree.tells → OnOwn g.F.Tree.calls (is_replayed l.at.root) l.fn.tree l.tree;
-  meant : IsTrue g.F.Tree.tells → each_after l.at.root l.at.per_file l.rec l.parts (drop l.index l.parts.blocks) (record { files = g.F.Tree.contents l.tree; skipped = l.skipped }) ≡ each_after l.at.root l.at.per_file l.rec l.parts l.parts.blocks (record { files = g.F.Tree.contents l.fn.tree; skipped = l.fn.skipped });
+  meant : IsTrue g.F.Tree.tells → each_after (handed_in g.M.Manager l.custom) l.at.root l.at.per_file l.rec l.parts (drop l.index l.parts.blocks) (record { files = g.F.Tree.contents l.tree; skipped = l.skipped }) ≡ each_after (handed_in g.M.Manager l.custom) l.at.root l.at.per_file l.rec l.parts l.parts.blocks (record { files = g.F.Tree.contents l.fn.tree; skipped = l.fn.skipped });
 }

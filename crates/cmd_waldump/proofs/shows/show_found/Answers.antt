@@ -12,7 +12,7 @@ pub returns-in-Ok-clause-carries : goal.returns-in-Ok-clause-carries
 unfolding log_answer
 returns-in-Ok-clause-carries g c err_tells err =
     let found = c.args.found in
-    let dump = dump_of (handed_in g.M.Manager.ID g.M.Manager.text c.args.custom) (pages_of found.log (g.F.Tree.contents c.args.tree.now)) (bytes_of found.log.size) found.sel in
+    let dump = dump_of (handed_in g.M.Manager c.args.custom) (pages_of found.log (g.F.Tree.contents c.args.tree.now)) (bytes_of found.log.size) found.sel in
     carries_told (sym (ap told c.in-Ok.is)) (dump_carries g.F.Tree.tells dump c.dump_with.result c.dump_with.ensures.exact (λ t. c.dump_with.ensures.shown t err_tells err)
     c.dump_with.ensures.extends c.dump_with.ensures.later c.dump_with.ensures.sink_fault c.dump_with.ensures.reads.same c.dump_with.ensures.reads.uncalled)
 
@@ -20,6 +20,6 @@ pub returns-in-Err-clause-carries : goal.returns-in-Err-clause-carries
 unfolding log_answer
 returns-in-Err-clause-carries g c err_tells err =
     let found = c.args.found in
-    let dump = dump_of (handed_in g.M.Manager.ID g.M.Manager.text c.args.custom) (pages_of found.log (g.F.Tree.contents c.args.tree.now)) (bytes_of found.log.size) found.sel in
+    let dump = dump_of (handed_in g.M.Manager c.args.custom) (pages_of found.log (g.F.Tree.contents c.args.tree.now)) (bytes_of found.log.size) found.sel in
     carries_told (c.dump_cause.ensures.value ∙ sym (ap told c.in-Err.is)) (dump_carries g.F.Tree.tells dump c.dump_with.result c.dump_with.ensures.exact (λ t. c.dump_with.ensures.shown t err_tells err)
     c.dump_with.ensures.extends c.dump_with.ensures.later c.dump_with.ensures.sink_fault c.dump_with.ensures.reads.same c.dump_with.ensures.reads.uncalled)

@@ -1,4 +1,5 @@
 use Rattle.std.proofs.Common.{◌≡◌, ◌∙◌, IfErr, ap, inl, refl, subst, sym, Err}
+use Rattle.rmgr_hooks.specs.Custom.{handed_in}
 use Rattle.std.proofs.lemmas.Result.{err_from_is_err_and}
 use Rattle.std.specs.Prelude.{is_ok}
 use Rattle.cluster_tree.specs.Frame.{moment_of}
@@ -37,35 +38,35 @@ returns-in_err-room-clause-went g c told =
 pub replay_marked-requires-clause-log : goal.replay_marked-requires-clause-log
 replay_marked-requires-clause-log g c told =
     let before = g.F.Tree.contents c.args.tree.now in
-    let none = mark-unrefused before c.args.root.now c.args.checked (g.met.F.Tree.is_tree told c.args.tree.now) (c.requires.checked told) in
+    let none = mark-unrefused _ before c.args.root.now c.args.checked (g.met.F.Tree.is_tree told c.args.tree.now) (c.requires.checked told) in
     let ran = begun-ran g.F.Tree c.args.root.now c.in_ok-paths.paths.mark _ _ _ c.in_ok-paths.ensures.paths.mark told none c.in-Ok.ensures.carries in
-    let under = under-mark before (g.F.Tree.contents c.begin_mark.new.tree) c.args.root.now c.args.checked (c.requires.checked told) c.requires.folder (ran.runs.after refl) in
+    let under = under-mark _ before (g.F.Tree.contents c.begin_mark.new.tree) c.args.root.now c.args.checked (c.requires.checked told) c.requires.folder (ran.runs.after refl) in
     under.log
 
 pub replay_marked-requires-clause-stand : goal.replay_marked-requires-clause-stand
 replay_marked-requires-clause-stand g c told =
     let before = g.F.Tree.contents c.args.tree.now in
-    let none = mark-unrefused before c.args.root.now c.args.checked (g.met.F.Tree.is_tree told c.args.tree.now) (c.requires.checked told) in
+    let none = mark-unrefused _ before c.args.root.now c.args.checked (g.met.F.Tree.is_tree told c.args.tree.now) (c.requires.checked told) in
     let ran = begun-ran g.F.Tree c.args.root.now c.in_ok-paths.paths.mark _ _ _ c.in_ok-paths.ensures.paths.mark told none c.in-Ok.ensures.carries in
-    let under = under-mark before (g.F.Tree.contents c.begin_mark.new.tree) c.args.root.now c.args.checked (c.requires.checked told) c.requires.folder (ran.runs.after refl) in
+    let under = under-mark _ before (g.F.Tree.contents c.begin_mark.new.tree) c.args.root.now c.args.checked (c.requires.checked told) c.requires.folder (ran.runs.after refl) in
     subst (λ p. Stand (g.F.Tree.contents c.begin_mark.new.tree) p) (sym c.in_ok-world.ensures.root) under.stand
 
 pub returns-in-Ok-clause-exact : goal.returns-in-Ok-clause-exact
 returns-in-Ok-clause-exact g c told =
     let before = g.F.Tree.contents c.args.tree.now in
-    let none = mark-unrefused before c.args.root.now c.args.checked (g.met.F.Tree.is_tree told c.args.tree.now) (c.requires.checked told) in
+    let none = mark-unrefused _ before c.args.root.now c.args.checked (g.met.F.Tree.is_tree told c.args.tree.now) (c.requires.checked told) in
     let ran = begun-ran g.F.Tree c.args.root.now c.in_ok-paths.paths.mark _ _ _ c.in_ok-paths.ensures.paths.mark told none c.in-Ok.ensures.carries in
-    let under = under-mark before (g.F.Tree.contents c.begin_mark.new.tree) c.args.root.now c.args.checked (c.requires.checked told) c.requires.folder (ran.runs.after refl) in
+    let under = under-mark _ before (g.F.Tree.contents c.begin_mark.new.tree) c.args.root.now c.args.checked (c.requires.checked told) c.requires.folder (ran.runs.after refl) in
     let after = g.F.Tree.contents c.begin_mark.new.tree in
     subst (λ m. Answers m (g.F.Tree.contents c.replay_marked.new.tree) c.replay_marked.result)
-    (first-meant c.args.root.now c.in_ok-world.world.files.root (start_in c.args.checked after) (start_in c.args.checked before) before (world_of after c.in_ok-world.world)
+    (first-meant _ c.args.root.now c.in_ok-world.world.files.root (start_in c.args.checked after) (start_in c.args.checked before) before (world_of after c.in_ok-world.world)
     c.in_ok-world.ensures.root under.start (ran.runs.after refl) c.in_ok-world.ensures.control c.in_ok-world.ensures.skipped)
     (c.replay_marked.ensures.exact told)
 
 pub returns-in-Ok-clause-went : goal.returns-in-Ok-clause-went
 returns-in-Ok-clause-went g c told =
     let before = g.F.Tree.contents c.args.tree.now in
-    let none = mark-unrefused before c.args.root.now c.args.checked (g.met.F.Tree.is_tree told c.args.tree.now) (c.requires.checked told) in
+    let none = mark-unrefused _ before c.args.root.now c.args.checked (g.met.F.Tree.is_tree told c.args.tree.now) (c.requires.checked told) in
     let ran = begun-ran g.F.Tree c.args.root.now c.in_ok-paths.paths.mark _ _ _ c.in_ok-paths.ensures.paths.mark told none c.in-Ok.ensures.carries in
     let marked = state_by g.F.Tree.contents g.F.Tree.calls c.begin_mark.new.tree in
     let new = state_by g.F.Tree.contents g.F.Tree.calls c.replay_marked.new.tree in
@@ -74,7 +75,7 @@ returns-in-Ok-clause-went g c told =
 pub returns-in-Err-clause-exact : goal.returns-in-Err-clause-exact
 returns-in-Err-clause-exact g c told =
     let before = g.F.Tree.contents c.args.tree.now in
-    let none = mark-unrefused before c.args.root.now c.args.checked (g.met.F.Tree.is_tree told c.args.tree.now) (c.requires.checked told) in
+    let none = mark-unrefused _ before c.args.root.now c.args.checked (g.met.F.Tree.is_tree told c.args.tree.now) (c.requires.checked told) in
     let ran = begun-ran g.F.Tree c.args.root.now c.in_ok-paths.paths.mark _ _ _ c.in_ok-paths.ensures.paths.mark told none c.in-Err.ensures.carries in
     let mark = c.in_ok-paths.paths.mark in
     inl (subst IsFree (sym c.of_perform.ensures) (free-of c.about.result
@@ -84,14 +85,14 @@ returns-in-Err-clause-exact g c told =
 pub returns-in-Err-clause-went : goal.returns-in-Err-clause-went
 returns-in-Err-clause-went g c told =
     let before = g.F.Tree.contents c.args.tree.now in
-    let none = mark-unrefused before c.args.root.now c.args.checked (g.met.F.Tree.is_tree told c.args.tree.now) (c.requires.checked told) in
+    let none = mark-unrefused _ before c.args.root.now c.args.checked (g.met.F.Tree.is_tree told c.args.tree.now) (c.requires.checked told) in
     let ran = begun-ran g.F.Tree c.args.root.now c.in_ok-paths.paths.mark _ _ _ c.in_ok-paths.ensures.paths.mark told none c.in-Err.ensures.carries in
     Begins ran.runs
 
 pub returns-in-Err-clause-changed : goal.returns-in-Err-clause-changed
 returns-in-Err-clause-changed g c told p h =
     let before = g.F.Tree.contents c.args.tree.now in
-    let none = mark-unrefused before c.args.root.now c.args.checked (g.met.F.Tree.is_tree told c.args.tree.now) (c.requires.checked told) in
+    let none = mark-unrefused _ before c.args.root.now c.args.checked (g.met.F.Tree.is_tree told c.args.tree.now) (c.requires.checked told) in
     let ran = begun-ran g.F.Tree c.args.root.now c.in_ok-paths.paths.mark _ _ _ c.in_ok-paths.ensures.paths.mark told none c.in-Err.ensures.carries in
     let e : c.of_perform.result ≡ fault.Cluster (cluster.Changed p) = cc h in
     ran.agreed (ap Err (about-changed c.in-Err.fault c.in_ok-paths.paths.mark p (sym c.about.ensures ∙ changed-of c.about.result p (sym c.of_perform.ensures ∙ e))))
@@ -103,7 +104,7 @@ returns-in-Ok-clause-stands g c told =
 pub returns-in-Err-clause-stands : goal.returns-in-Err-clause-stands
 returns-in-Err-clause-stands g c told =
     let before = g.F.Tree.contents c.args.tree.now in
-    let none = mark-unrefused before c.args.root.now c.args.checked (g.met.F.Tree.is_tree told c.args.tree.now) (c.requires.checked told) in
+    let none = mark-unrefused _ before c.args.root.now c.args.checked (g.met.F.Tree.is_tree told c.args.tree.now) (c.requires.checked told) in
     let ran = begun-ran g.F.Tree c.args.root.now c.in_ok-paths.paths.mark _ _ _ c.in_ok-paths.ensures.paths.mark told none c.in-Err.ensures.carries in
     let mark = c.in_ok-paths.paths.mark in
     inl (subst IsFree (sym c.of_perform.ensures) (free-of c.about.result
@@ -127,18 +128,18 @@ returns-in-Ok-clause-stops g c told =
     let mark = c.in_ok-paths.paths.mark in
     let is = c.in_ok-paths.ensures.paths.mark in
     let world = c.in_ok-world.world in
-    let none = mark-unrefused before root c.args.checked (g.met.F.Tree.is_tree told c.args.tree.now) (c.requires.checked told) in
+    let none = mark-unrefused _ before root c.args.checked (g.met.F.Tree.is_tree told c.args.tree.now) (c.requires.checked told) in
     let ran = begun-ran g.F.Tree root mark _ _ _ is told none c.in-Ok.ensures.carries in
-    let under = under-mark before after root c.args.checked (c.requires.checked told) c.requires.folder (ran.runs.after refl) in
+    let under = under-mark _ before after root c.args.checked (c.requires.checked told) c.requires.folder (ran.runs.after refl) in
     let stands = subst (λ p. StandsMarked p (moment_of g.F.Tree c.begin_mark.new.tree)) (is ∙ ap mark_of (sym c.in_ok-world.ensures.root)) (c.in-Ok.ensures.marked told (begun-unrefused before root mark is none)) in
-    let other = replayed_into world.files.root (start_in c.args.checked after) (world_of after world) in
+    let other = replayed_into (handed_in g.M.Manager c.args.custom) world.files.root (start_in c.args.checked after) (world_of after world) in
     begun-then g.F.Tree root mark _ c.args.tree.now c.begin_mark.new.tree is (c.in-Ok.ensures.stops told (begun-unrefused before root mark is none)) other c.replay_marked.new.tree c.in-Ok.ensures.frame c.replay_marked.ensures.frame
-    (first-meant root world.files.root (start_in c.args.checked after) (start_in c.args.checked before) before (world_of after world) c.in_ok-world.ensures.root under.start (ran.runs.after refl) c.in_ok-world.ensures.control c.in_ok-world.ensures.skipped)
+    (first-meant _ root world.files.root (start_in c.args.checked after) (start_in c.args.checked before) before (world_of after world) c.in_ok-world.ensures.root under.start (ran.runs.after refl) c.in_ok-world.ensures.control c.in_ok-world.ensures.skipped)
     (subst (λ p. LeavesOnly (IsMarkedOrDone p other) (g.F.Tree.stops c.begin_mark.new.tree) (g.F.Tree.stops c.replay_marked.new.tree)) c.in_ok-world.ensures.root (c.replay_marked.ensures.stops told stands))
 
 pub returns-in-Err-clause-stops : goal.returns-in-Err-clause-stops
 returns-in-Err-clause-stops g c told =
     let before = g.F.Tree.contents c.args.tree.now in
-    let none = mark-unrefused before c.args.root.now c.args.checked (g.met.F.Tree.is_tree told c.args.tree.now) (c.requires.checked told) in
+    let none = mark-unrefused _ before c.args.root.now c.args.checked (g.met.F.Tree.is_tree told c.args.tree.now) (c.requires.checked told) in
     let is = c.in_ok-paths.ensures.paths.mark in
     begun-left g.F.Tree c.args.root.now c.in_ok-paths.paths.mark _ c.args.tree.now c.begin_mark.new.tree is (c.in-Err.ensures.stops told (begun-unrefused before c.args.root.now c.in_ok-paths.paths.mark is none))

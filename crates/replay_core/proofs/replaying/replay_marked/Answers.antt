@@ -1,4 +1,5 @@
 use Rattle.std.proofs.Common.{◌≡◌, Ok, ap, subst, sym}
+use Rattle.rmgr_hooks.specs.Custom.{handed_in}
 use Rattle.std.proofs.lemmas.Result.{err_from_is_err_and}
 use Rattle.std.specs.Prelude.{is_ok}
 use Rattle.cluster_tree.specs.Frame.{moment_of}
@@ -70,10 +71,10 @@ returns-clause-stops g c told marked =
     let v = world_of (g.F.Tree.contents late) c.replay_log.new.world in
     let count = c.in_ok-count.count in
     let all = c.in_ok-count.ensures.all told in
-    let each : records_after root c.args.checked.control.relseg (records_in c.args.checked (g.F.Tree.contents old)) w ≡ Ok v
-    = subst (λ n. records_after root n (records_in c.args.checked (g.F.Tree.contents old)) w ≡ Ok v) c.requires.per_file all.0 in
+    let each : records_after (handed_in g.M.Manager c.args.custom) root c.args.checked.control.relseg (records_in c.args.checked (g.F.Tree.contents old)) w ≡ Ok v
+    = subst (λ n. records_after (handed_in g.M.Manager c.args.custom) root n (records_in c.args.checked (g.F.Tree.contents old)) w ≡ Ok v) c.requires.per_file all.0 in
     let stands = records-stand g.F.Tree root old late c.replay_log.ensures.frame (c.replay_log.ensures.own told) marked in
     let left = c.finish.ensures.stops told (subst (λ p. StandsMarked (mark_of p) (moment_of g.F.Tree late)) (sym same) stands) in
     records-then g.F.Tree root old late c.replay_log.ensures.frame (c.replay_log.ensures.own told) marked _ (closed_or root c.timeline-tli.result count.records count.end.0 v) new c.finish.ensures.frame
-    (replayed-meant root (start_in c.args.checked (g.F.Tree.contents old)) w v c.timeline-tli.result count.records count.end.0 each c.timeline-tli.ensures all.1 all.2)
+    (replayed-meant _ root (start_in c.args.checked (g.F.Tree.contents old)) w v c.timeline-tli.result count.records count.end.0 each c.timeline-tli.ensures all.1 all.2)
     (subst (λ p. LeavesOnly (IsMarkedOrDone p (closed_or p c.timeline-tli.result count.records count.end.0 v)) (g.F.Tree.stops late) (g.F.Tree.stops new)) same left)

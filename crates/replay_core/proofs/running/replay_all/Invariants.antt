@@ -1,4 +1,5 @@
 use Rattle.std.proofs.Common.{◌≡◌, ◌≤◌, ◌-◌, ◌<◌, ◌^◌, IsTrue, None}
+use Rattle.rmgr_hooks.specs.Custom.{handed_in}
 use Rattle.cluster_tree.specs.Frame.{Came}
 use Rattle.control_file.specs.Admission.{IsControl}
 use Rattle.file_edits.specs.Own.{OnOwn}
@@ -19,7 +20,7 @@ invariant-records g l = record {
   frame : Came g.F.Tree l.fn.tree l.tree;
   own : IsTrue g.F.Tree.tells → OnOwn g.F.Tree.calls (is_replayed l.fn.world.files.root) l.fn.tree l.tree;
   knows : IsTrue g.F.Tree.tells → Knows l.cursor (g.F.Tree.contents l.tree);
-  replays : IsTrue g.F.Tree.tells → Replays l.fn.world.files.root l.fn.world.files.per_file (to_come l.fn.cursor (g.F.Tree.contents l.fn.tree)).records (to_come l.cursor (g.F.Tree.contents l.tree)).records (world_of (g.F.Tree.contents l.fn.tree) l.fn.world) (world_of (g.F.Tree.contents l.tree) l.world) l.fn.count l.count;
+  replays : IsTrue g.F.Tree.tells → Replays (handed_in g.M.Manager l.custom) l.fn.world.files.root l.fn.world.files.per_file (to_come l.fn.cursor (g.F.Tree.contents l.fn.tree)).records (to_come l.cursor (g.F.Tree.contents l.tree)).records (world_of (g.F.Tree.contents l.fn.tree) l.fn.world) (world_of (g.F.Tree.contents l.tree) l.world) l.fn.count l.count;
 }
 
 abbrev pub decreases-records : goal.decreases-records

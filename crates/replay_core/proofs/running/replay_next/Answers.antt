@@ -1,4 +1,5 @@
 use Rattle.std.proofs.Common.{◌≡◌, ◌∙◌, ◌⊎◌, Some, Ok, Err, ap, rules, subst, sym}
+use Rattle.rmgr_hooks.specs.Custom.{handed_in}
 use Rattle.cluster_tree.specs.Contents.{Contents}
 use Rattle.wal_records.specs.Cursor.{to_come}
 use Rattle.wal_pages.specs.declared.log_path.LogPath.{LogPath}
@@ -18,8 +19,8 @@ returns-in-End-clause-step g c = λ told.
     let files = c.args.world.now.files in
     let old = (to_come c.args.cursor.now contents).records in
     let ended = end_step c.args.cursor.now c.next_unchanged.new.self _ contents c.in-End.field-0 c.in-End.field-1 c.in-End.is (c.in_ok-next_unchanged.ensures.step told (c.requires.knows told) c.requires.opened) in
-    subst (λ (x : Contents). AreReplayed files.root files.per_file old (world_of contents c.args.world.now) (world_of x c.args.world.now) c.args.count.now c.args.count.now) (sym c.in_ok-next_unchanged.ensures.reads.same)
-    (none_left files.root files.per_file old (world_of contents c.args.world.now) c.args.count.now ended)
+    subst (λ (x : Contents). AreReplayed (handed_in g.M.Manager c.args.custom) files.root files.per_file old (world_of contents c.args.world.now) (world_of x c.args.world.now) c.args.count.now c.args.count.now) (sym c.in_ok-next_unchanged.ensures.reads.same)
+    (none_left _ files.root files.per_file old (world_of contents c.args.world.now) c.args.count.now ended)
 
 pub returns-in-Err-clause-step : goal.returns-in-Err-clause-step
 returns-in-Err-clause-step g c = λ told.
@@ -28,9 +29,9 @@ returns-in-Err-clause-step g c = λ told.
     let rec = c.unwrap-rec.result.now in
     let there : c.next_unchanged.new.self.current ≡ Some rec = search rules in
     let step = record_step c.args.cursor.now c.next_unchanged.new.self _ contents rec c.in-Record.is there (c.in_ok-next_unchanged.ensures.step told (c.requires.knows told) c.requires.opened) in
-    let refused = subst (λ (x : Contents). IsFreeFault c.in-Err.fault ⊎ (record_after files.root files.per_file rec c.judge_again.new.parts (world_of x c.args.world.now) ≡ Err c.in-Err.fault)) c.in_ok-next_unchanged.ensures.reads.same (c.in-Err.ensures.exact told) in
-    subst (BreaksOff files.root files.per_file (to_come c.args.cursor.now contents).records (world_of contents c.args.world.now)) (sym c.of_record.ensures)
-    (one_refused files.root files.per_file rec c.judge_again.new.parts (to_come c.args.cursor.now contents).records (to_come c.next_unchanged.new.self contents).records (world_of contents c.args.world.now) c.in-Err.fault step c.in_ok-judge_again.ensures.parts refused)
+    let refused = subst (λ (x : Contents). IsFreeFault c.in-Err.fault ⊎ (record_after (handed_in g.M.Manager c.args.custom) files.root files.per_file rec c.judge_again.new.parts (world_of x c.args.world.now) ≡ Err c.in-Err.fault)) c.in_ok-next_unchanged.ensures.reads.same (c.in-Err.ensures.exact told) in
+    subst (BreaksOff (handed_in g.M.Manager c.args.custom) files.root files.per_file (to_come c.args.cursor.now contents).records (world_of contents c.args.world.now)) (sym c.of_record.ensures)
+    (one_refused _ files.root files.per_file rec c.judge_again.new.parts (to_come c.args.cursor.now contents).records (to_come c.next_unchanged.new.self contents).records (world_of contents c.args.world.now) c.in-Err.fault step c.in_ok-judge_again.ensures.parts refused)
 
 pub returns-in-Err-clause-knows : goal.returns-in-Err-clause-knows
 returns-in-Err-clause-knows g c = λ told.
@@ -48,14 +49,14 @@ returns-clause-step g c = λ told.
     let new = g.F.Tree.contents c.replay_record.new.tree in
     let there : c.next_unchanged.new.self.current ≡ Some rec = search rules in
     let step = record_step c.args.cursor.now cursor _ contents rec c.in-Record.is there (c.in_ok-next_unchanged.ensures.step told (c.requires.knows told) c.requires.opened) in
-    let left = subst (λ (x : Contents). record_after files.root files.per_file rec c.judge_again.new.parts (world_of x c.args.world.now) ≡ Ok (world_of new c.replay_record.new.world)) c.in_ok-next_unchanged.ensures.reads.same (c.in-Ok.ensures.exact told) in
+    let left = subst (λ (x : Contents). record_after (handed_in g.M.Manager c.args.custom) files.root files.per_file rec c.judge_again.new.parts (world_of x c.args.world.now) ≡ Ok (world_of new c.replay_record.new.world)) c.in_ok-next_unchanged.ensures.reads.same (c.in-Ok.ensures.exact told) in
     let stays : to_come cursor contents ≡ to_come cursor new =
     ap (to_come cursor) (sym c.in_ok-next_unchanged.ensures.reads.same)
     ∙ to_come_stays files.root cursor (g.F.Tree.contents c.next_unchanged.new.tree) new (ap (λ (l : LogPath). l.folder) c.in_ok-next_unchanged.ensures.log ∙ c.requires.folder)
     (elsewhere g.F.Tree files.root c.next_unchanged.new.tree c.replay_record.new.tree c.replay_record.ensures.frame (c.replay_record.ensures.own told)) in
     let old = (to_come c.args.cursor.now contents).records in
-    subst (λ (l : Log). Replays files.root files.per_file old l.records (world_of contents c.args.world.now) (world_of new c.replay_record.new.world) c.args.count.now c.count_on.result) stays
-    (one_more files.root files.per_file rec c.judge_again.new.parts old (to_come cursor contents).records (world_of contents c.args.world.now) (world_of new c.replay_record.new.world) c.args.count.now c.count_on.result
+    subst (λ (l : Log). Replays (handed_in g.M.Manager c.args.custom) files.root files.per_file old l.records (world_of contents c.args.world.now) (world_of new c.replay_record.new.world) c.args.count.now c.count_on.result) stays
+    (one_more _ files.root files.per_file rec c.judge_again.new.parts old (to_come cursor contents).records (world_of contents c.args.world.now) (world_of new c.replay_record.new.world) c.args.count.now c.count_on.result
     step (c.requires.taken told) c.in_ok-judge_again.ensures.parts left c.count_on.ensures)
 
 pub returns-clause-knows : goal.returns-clause-knows

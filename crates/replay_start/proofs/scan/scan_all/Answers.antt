@@ -11,16 +11,16 @@ records-preserved g c = record {
   reads = reads_on g.F.Tree _ _ _ c.records.invariant.reads c.in-Ok-More.ensures.reads;
   knows = c.in-Ok-More.ensures.knows;
   scans = λ told.
-      more_in c.args.label (to_come c.args.cursor.now (g.F.Tree.contents c.args.tree.now)).records c.records.cursor c.scan_next.new.cursor (g.F.Tree.contents c.args.tree.now) (g.F.Tree.contents c.records.tree)
+      more_in _ c.args.label (to_come c.args.cursor.now (g.F.Tree.contents c.args.tree.now)).records c.records.cursor c.scan_next.new.cursor (g.F.Tree.contents c.args.tree.now) (g.F.Tree.contents c.records.tree)
       c.args.seen.now c.records.seen c.scan_next.new.seen c.in-Ok-More.field-0 c.records.invariant.reads.same c.in-Ok-More.field-0-is (c.records.invariant.scans told) (c.in-Ok-More.ensures.step told);
 }
 
 pub returns-in-Ok-Done-clause-all : goal.returns-in-Ok-Done-clause-all
 returns-in-Ok-Done-clause-all g c = λ told.
-    last_in c.args.label (to_come c.args.cursor.now (g.F.Tree.contents c.args.tree.now)).records c.records.cursor c.scan_next.new.cursor (g.F.Tree.contents c.args.tree.now) (g.F.Tree.contents c.records.tree)
+    last_in _ c.args.label (to_come c.args.cursor.now (g.F.Tree.contents c.args.tree.now)).records c.records.cursor c.scan_next.new.cursor (g.F.Tree.contents c.args.tree.now) (g.F.Tree.contents c.records.tree)
     c.args.seen.now c.records.seen c.scan_next.new.seen c.in-Ok-Done.field-0 c.records.invariant.reads.same c.in-Ok-Done.field-0-is (c.records.invariant.scans told) (c.in-Ok-Done.ensures.step told)
 
 pub returns-in-Err-clause-all : goal.returns-in-Err-clause-all
 returns-in-Err-clause-all g c = λ told.
-    refused_in c.args.label (to_come c.args.cursor.now (g.F.Tree.contents c.args.tree.now)).records c.records.cursor c.scan_next.new.cursor (g.F.Tree.contents c.args.tree.now) (g.F.Tree.contents c.records.tree)
+    refused_in _ c.args.label (to_come c.args.cursor.now (g.F.Tree.contents c.args.tree.now)).records c.records.cursor c.scan_next.new.cursor (g.F.Tree.contents c.args.tree.now) (g.F.Tree.contents c.records.tree)
     c.args.seen.now c.records.seen c.scan_next.new.seen c.in-Err.e c.records.invariant.reads.same (c.records.invariant.scans told) (c.in-Err.ensures.step told)

@@ -1,4 +1,5 @@
 use Rattle.std.proofs.Common.{FitsSigned, Ok, rules, w64}
+use Rattle.rmgr_hooks.specs.Custom.{handed_in}
 use Rattle.std.proofs.lemmas.Int.{to_z-of_z}
 use Rattle.acts.specs.Acts.{sunk}
 use Rattle.cluster_tree.specs.Frame.{moment_of}
@@ -22,7 +23,7 @@ returns-in-Rewind-clause-reads g c none = c.rewind.ensures.reads (dried_rewind c
 pub returns-in-Rewind-clause-leaves : goal.returns-in-Rewind-clause-leaves
 returns-in-Rewind-clause-leaves g c t =
     let fits : FitsSigned w64 c.args.now = search rules in
-    rewound_at c.rewind.result g.O.Sink.tells (g.F.Tree.contents c.args.tree.now) (g.F.Tree.contents c.rewind.new.tree) (g.O.Sink.written c.args.out.now) (g.O.Sink.written c.args.out.now) c.in-Rewind.is (to_z-of_z w64 c.args.now fits) (c.rewind.ensures.rewound t)
+    rewound_at (handed_in g.M.Manager c.args.custom) c.rewind.result g.O.Sink.tells (g.F.Tree.contents c.args.tree.now) (g.F.Tree.contents c.rewind.new.tree) (g.O.Sink.written c.args.out.now) (g.O.Sink.written c.args.out.now) c.in-Rewind.is (to_z-of_z w64 c.args.now fits) (c.rewind.ensures.rewound t)
 
 pub returns-in-Controldata-clause-carries : goal.returns-in-Controldata-clause-carries
 returns-in-Controldata-clause-carries g c =
@@ -77,12 +78,12 @@ returns-in-Walreplay-clause-reads g c none = absurd (none (replay_may c.in-Walre
 
 pub returns-in-Walreplay-clause-leaves : goal.returns-in-Walreplay-clause-leaves
 returns-in-Walreplay-clause-leaves g c t =
-    replayed_at c.walreplay.result _ g.O.Sink.tells (g.F.Tree.contents c.args.tree.now) (g.F.Tree.contents c.walreplay.new.tree)
+    replayed_at (handed_in g.M.Manager c.args.custom) c.walreplay.result _ g.O.Sink.tells (g.F.Tree.contents c.args.tree.now) (g.F.Tree.contents c.walreplay.new.tree)
     (g.O.Sink.written c.args.out.now) (g.O.Sink.written c.walreplay.new.out) c.in-Walreplay.is (c.walreplay.ensures.replayed t)
 
 pub returns-in-Walreplay-clause-stays : goal.returns-in-Walreplay-clause-stays
 returns-in-Walreplay-clause-stays g c t =
-    stays_at (g.F.Tree.contents c.args.tree.now) (g.F.Tree.contents c.walreplay.new.tree) c.in-Walreplay.is (c.walreplay.ensures.stays t)
+    stays_at (handed_in g.M.Manager c.args.custom) (g.F.Tree.contents c.args.tree.now) (g.F.Tree.contents c.walreplay.new.tree) c.in-Walreplay.is (c.walreplay.ensures.stays t)
 
 pub returns-in-Walcompare-clause-carries : goal.returns-in-Walcompare-clause-carries
 returns-in-Walcompare-clause-carries g c =
@@ -94,33 +95,33 @@ returns-in-Walcompare-clause-blames g c = c.walcompare.ensures.blames (g.E.Sink.
 
 pub returns-in-Walcompare-clause-leaves : goal.returns-in-Walcompare-clause-leaves
 returns-in-Walcompare-clause-leaves g c t =
-    same_at c.walcompare.result _ g.O.Sink.tells (g.F.Tree.contents c.args.tree.now) (g.F.Tree.contents c.walcompare.new.tree)
+    same_at (handed_in g.M.Manager c.args.custom) c.walcompare.result _ g.O.Sink.tells (g.F.Tree.contents c.args.tree.now) (g.F.Tree.contents c.walcompare.new.tree)
     (g.O.Sink.written c.args.out.now) (g.O.Sink.written c.walcompare.new.out) c.in-Walcompare.is (c.walcompare.ensures.same t)
 
 pub returns-in-Rewind-clause-stops : goal.returns-in-Rewind-clause-stops
 returns-in-Rewind-clause-stops g c t =
     let fits : FitsSigned w64 c.args.now = search rules in
-    left_of_rewind (moment_of g.F.Tree c.args.tree.now) (g.F.Tree.stops c.args.tree.now) (g.F.Tree.stops c.rewind.new.tree) c.in-Rewind.is (to_z-of_z w64 c.args.now fits) (c.rewind.ensures.stops t)
+    left_of_rewind (handed_in g.M.Manager c.args.custom) (moment_of g.F.Tree c.args.tree.now) (g.F.Tree.stops c.args.tree.now) (g.F.Tree.stops c.rewind.new.tree) c.in-Rewind.is (to_z-of_z w64 c.args.now fits) (c.rewind.ensures.stops t)
 
 pub returns-in-Controldata-clause-stops : goal.returns-in-Controldata-clause-stops
-returns-in-Controldata-clause-stops g c t = read_left g.F.Tree (Ok c.args.command.now) c.args.now c.args.tree.now c.controldata.new.tree c.controldata.ensures.reads
+returns-in-Controldata-clause-stops g c t = read_left (handed_in g.M.Manager c.args.custom) g.F.Tree (Ok c.args.command.now) c.args.now c.args.tree.now c.controldata.new.tree c.controldata.ensures.reads
 
 pub returns-in-Waldump-clause-stops : goal.returns-in-Waldump-clause-stops
-returns-in-Waldump-clause-stops g c t = read_left g.F.Tree (Ok c.args.command.now) c.args.now c.args.tree.now c.waldump.new.tree c.waldump.ensures.reads
+returns-in-Waldump-clause-stops g c t = read_left (handed_in g.M.Manager c.args.custom) g.F.Tree (Ok c.args.command.now) c.args.now c.args.tree.now c.waldump.new.tree c.waldump.ensures.reads
 
 pub returns-in-Resetwal-clause-stops : goal.returns-in-Resetwal-clause-stops
 returns-in-Resetwal-clause-stops g c t =
     let fits : FitsSigned w64 c.args.now = search rules in
-    left_of_reset (moment_of g.F.Tree c.args.tree.now) (g.F.Tree.stops c.args.tree.now) (g.F.Tree.stops c.resetwal.new.tree) c.in-Resetwal.is (to_z-of_z w64 c.args.now fits) (c.resetwal.ensures.stops t)
+    left_of_reset (handed_in g.M.Manager c.args.custom) (moment_of g.F.Tree c.args.tree.now) (g.F.Tree.stops c.args.tree.now) (g.F.Tree.stops c.resetwal.new.tree) c.in-Resetwal.is (to_z-of_z w64 c.args.now fits) (c.resetwal.ensures.stops t)
 
 pub returns-in-Archivecleanup-clause-stops : goal.returns-in-Archivecleanup-clause-stops
-returns-in-Archivecleanup-clause-stops g c t = left_of_cleanup c.args.now (moment_of g.F.Tree c.args.tree.now) (g.F.Tree.stops c.args.tree.now) (g.F.Tree.stops c.archivecleanup.new.tree) c.in-Archivecleanup.is (c.archivecleanup.ensures.stops t)
+returns-in-Archivecleanup-clause-stops g c t = left_of_cleanup (handed_in g.M.Manager c.args.custom) c.args.now (moment_of g.F.Tree c.args.tree.now) (g.F.Tree.stops c.args.tree.now) (g.F.Tree.stops c.archivecleanup.new.tree) c.in-Archivecleanup.is (c.archivecleanup.ensures.stops t)
 
 pub returns-in-Walreplay-clause-stops : goal.returns-in-Walreplay-clause-stops
-returns-in-Walreplay-clause-stops g c t = left_of_replay c.args.now (moment_of g.F.Tree c.args.tree.now) (g.F.Tree.stops c.args.tree.now) (g.F.Tree.stops c.walreplay.new.tree) c.in-Walreplay.is (c.walreplay.ensures.stops t)
+returns-in-Walreplay-clause-stops g c t = left_of_replay (handed_in g.M.Manager c.args.custom) c.args.now (moment_of g.F.Tree c.args.tree.now) (g.F.Tree.stops c.args.tree.now) (g.F.Tree.stops c.walreplay.new.tree) c.in-Walreplay.is (c.walreplay.ensures.stops t)
 
 pub returns-in-Walcompare-clause-stops : goal.returns-in-Walcompare-clause-stops
-returns-in-Walcompare-clause-stops g c t = read_left g.F.Tree (Ok c.args.command.now) c.args.now c.args.tree.now c.walcompare.new.tree c.walcompare.ensures.reads
+returns-in-Walcompare-clause-stops g c t = read_left (handed_in g.M.Manager c.args.custom) g.F.Tree (Ok c.args.command.now) c.args.now c.args.tree.now c.walcompare.new.tree c.walcompare.ensures.reads
 
 pub returns-in-Rewind-clause-durable : goal.returns-in-Rewind-clause-durable
 returns-in-Rewind-clause-durable g c t =
@@ -146,15 +147,15 @@ returns-in-Pair-clause-reads g c none = absurd (none (pair_may c.in-Pair.is))
 
 pub returns-in-Pair-clause-leaves : goal.returns-in-Pair-clause-leaves
 returns-in-Pair-clause-leaves g c t =
-    paired_at c.pair.result _ g.O.Sink.tells (g.F.Tree.contents c.args.tree.now) (g.F.Tree.contents c.pair.new.tree)
+    paired_at (handed_in g.M.Manager c.args.custom) c.pair.result _ g.O.Sink.tells (g.F.Tree.contents c.args.tree.now) (g.F.Tree.contents c.pair.new.tree)
     (g.O.Sink.written c.args.out.now) (g.O.Sink.written c.pair.new.out) c.in-Pair.is (c.pair.ensures.leaves t)
 
 pub returns-in-Pair-clause-stays : goal.returns-in-Pair-clause-stays
 returns-in-Pair-clause-stays g c t =
-    beside_at (g.F.Tree.contents c.args.tree.now) (g.F.Tree.contents c.pair.new.tree) (cause_of c.pair.result) c.in-Pair.is (c.pair.ensures.beside t)
+    beside_at (handed_in g.M.Manager c.args.custom) (g.F.Tree.contents c.args.tree.now) (g.F.Tree.contents c.pair.new.tree) (cause_of c.pair.result) c.in-Pair.is (c.pair.ensures.beside t)
 
 pub returns-in-Pair-clause-stops : goal.returns-in-Pair-clause-stops
-returns-in-Pair-clause-stops g c t = left_of_pair c.args.now (moment_of g.F.Tree c.args.tree.now) (g.F.Tree.stops c.args.tree.now) (g.F.Tree.stops c.pair.new.tree) c.in-Pair.is (c.pair.ensures.stops t)
+returns-in-Pair-clause-stops g c t = left_of_pair (handed_in g.M.Manager c.args.custom) c.args.now (moment_of g.F.Tree c.args.tree.now) (g.F.Tree.stops c.args.tree.now) (g.F.Tree.stops c.pair.new.tree) c.in-Pair.is (c.pair.ensures.stops t)
 
 pub returns-in-Resume-clause-carries : goal.returns-in-Resume-clause-carries
 returns-in-Resume-clause-carries g c =
@@ -172,12 +173,12 @@ returns-in-Resume-clause-blames g c = c.resume.ensures.blames (g.O.Sink.failed_w
 pub returns-in-Resume-clause-leaves : goal.returns-in-Resume-clause-leaves
 returns-in-Resume-clause-leaves g c t =
     let fits : FitsSigned w64 c.args.now = search rules in
-    resumed_at c.in-Resume.is (to_z-of_z w64 c.args.now fits) c.resume.result g.O.Sink.tells (g.F.Tree.contents c.args.tree.now) (g.F.Tree.contents c.resume.new.tree) (g.O.Sink.written c.args.out.now) (g.O.Sink.written c.args.out.now) (c.resume.ensures.resumed t)
+    resumed_at c.in-Resume.is (to_z-of_z w64 c.args.now fits) (handed_in g.M.Manager c.args.custom) c.resume.result g.O.Sink.tells (g.F.Tree.contents c.args.tree.now) (g.F.Tree.contents c.resume.new.tree) (g.O.Sink.written c.args.out.now) (g.O.Sink.written c.args.out.now) (c.resume.ensures.resumed t)
 
 pub returns-in-Resume-clause-stops : goal.returns-in-Resume-clause-stops
 returns-in-Resume-clause-stops g c t =
     let fits : FitsSigned w64 c.args.now = search rules in
-    left_of_resume c.in-Resume.is (to_z-of_z w64 c.args.now fits) (moment_of g.F.Tree c.args.tree.now) (g.F.Tree.stops c.args.tree.now) (g.F.Tree.stops c.resume.new.tree) (c.resume.ensures.stops t)
+    left_of_resume c.in-Resume.is (to_z-of_z w64 c.args.now fits) (handed_in g.M.Manager c.args.custom) (moment_of g.F.Tree c.args.tree.now) (g.F.Tree.stops c.args.tree.now) (g.F.Tree.stops c.resume.new.tree) (c.resume.ensures.stops t)
 
 pub returns-in-Resume-clause-durable : goal.returns-in-Resume-clause-durable
 returns-in-Resume-clause-durable g c t =

@@ -1,4 +1,5 @@
 use Rattle.std.proofs.Common.{◌∙◌, FitsSigned, Ok, map, rules, string_bytes, subst, sym, w64}
+use Rattle.rmgr_hooks.specs.Custom.{handed_in}
 use Rattle.std.proofs.lemmas.Int.{to_z-of_z}
 use Rattle.cluster_tree.specs.Frame.{moment_of}
 use Rattle.tool_words.specs.Command.{command_of}
@@ -22,23 +23,23 @@ pub returns-in-Err-clause-carries : goal.returns-in-Err-clause-carries
 returns-in-Err-clause-carries g c = words_refused _ g.F.Tree.tells (g.F.Tree.contents c.args.tree.now) c.args.now (command_of (map string_bytes c.args.words.now)) c.in-Err.fault c.words_cause.result c.words_cause.ensures c.in-Err.ensures.answer
 
 pub returns-in-Err-OutOfMemory-clause-stays : goal.returns-in-Err-OutOfMemory-clause-stays
-returns-in-Err-OutOfMemory-clause-stays g c t = stays_unmade (command_of (map string_bytes c.args.words.now)) (g.F.Tree.contents c.args.tree.now)
+returns-in-Err-OutOfMemory-clause-stays g c t = stays_unmade (handed_in g.M.Manager c.args.custom) (command_of (map string_bytes c.args.words.now)) (g.F.Tree.contents c.args.tree.now)
 
 pub returns-in-Err-clause-stays : goal.returns-in-Err-clause-stays
 returns-in-Err-clause-stays g c t =
-    stays_refused c.in-Err.fault (command_of (map string_bytes c.args.words.now)) (g.F.Tree.contents c.args.tree.now) c.words_cause.ensures c.in-Err.ensures.answer
+    stays_refused (handed_in g.M.Manager c.args.custom) c.in-Err.fault (command_of (map string_bytes c.args.words.now)) (g.F.Tree.contents c.args.tree.now) c.words_cause.ensures c.in-Err.ensures.answer
 
 pub returns-in-Ok-clause-stops : goal.returns-in-Ok-clause-stops
 returns-in-Ok-clause-stops g c t =
     let fits : FitsSigned w64 c.args.now = search rules in
-    left_of_command (command_of (map string_bytes c.args.words.now)) c.args.now (moment_of g.F.Tree c.args.tree.now) (g.F.Tree.stops c.args.tree.now) (g.F.Tree.stops c.carry_out.new.tree) c.in-Ok.ensures.answer
-    (left_at (Ok c.in-Ok.command) (moment_of g.F.Tree c.args.tree.now) (g.F.Tree.stops c.args.tree.now) (g.F.Tree.stops c.carry_out.new.tree) (to_z-of_z w64 c.args.now fits) (c.carry_out.ensures.stops t))
+    left_of_command (handed_in g.M.Manager c.args.custom) (command_of (map string_bytes c.args.words.now)) c.args.now (moment_of g.F.Tree c.args.tree.now) (g.F.Tree.stops c.args.tree.now) (g.F.Tree.stops c.carry_out.new.tree) c.in-Ok.ensures.answer
+    (left_at (handed_in g.M.Manager c.args.custom) (Ok c.in-Ok.command) (moment_of g.F.Tree c.args.tree.now) (g.F.Tree.stops c.args.tree.now) (g.F.Tree.stops c.carry_out.new.tree) (to_z-of_z w64 c.args.now fits) (c.carry_out.ensures.stops t))
 
 pub returns-in-Err-OutOfMemory-clause-stops : goal.returns-in-Err-OutOfMemory-clause-stops
-returns-in-Err-OutOfMemory-clause-stops g c t = still_left (command_of (map string_bytes c.args.words.now)) c.args.now (moment_of g.F.Tree c.args.tree.now)
+returns-in-Err-OutOfMemory-clause-stops g c t = still_left (handed_in g.M.Manager c.args.custom) (command_of (map string_bytes c.args.words.now)) c.args.now (moment_of g.F.Tree c.args.tree.now)
 
 pub returns-in-Err-clause-stops : goal.returns-in-Err-clause-stops
-returns-in-Err-clause-stops g c t = still_left (command_of (map string_bytes c.args.words.now)) c.args.now (moment_of g.F.Tree c.args.tree.now)
+returns-in-Err-clause-stops g c t = still_left (handed_in g.M.Manager c.args.custom) (command_of (map string_bytes c.args.words.now)) c.args.now (moment_of g.F.Tree c.args.tree.now)
 
 pub returns-in-Ok-clause-durable : goal.returns-in-Ok-clause-durable
 returns-in-Ok-clause-durable g c t =

@@ -1,4 +1,5 @@
 use Rattle.std.proofs.Common.{FitsSigned, map, refl, rules, string_bytes, subst, w64}
+use Rattle.rmgr_hooks.specs.Custom.{handed_in}
 use Rattle.std.proofs.lemmas.Int.{to_z-of_z}
 use Rattle.acts.specs.Acts.{seen, sunk}
 use Rattle.cluster_tree.specs.Frame.{moment_of}
@@ -6,7 +7,7 @@ use Rattle.run_acts.proofs.UnseenSteps.{unseen_grow, unseen_told}
 use Rattle.tool_words.specs.Command.{command_of}
 use Rattle.cause_lines.specs.Lines.{line_of}
 use Rattle.wal_tools.specs.Runs.{Says}
-use Rattle.wal_tools.proofs.ConvergeLemmas.{converges_left}
+use Rattle.wal_tools.proofs.ConvergeLemmas.{converges_left, handed-sound}
 use Rattle.wal_tools.proofs.RunLemmas.{at_time, exact_told, leaves_done, stays_told}
 use Rattle.wal_tools.proofs.ResumableLemmas.{resumable_at}
 use Rattle.wal_tools.proofs.StopLemmas.{durable_done, left_at}
@@ -40,24 +41,26 @@ returns-clause-runs g c =
 pub returns-clause-leaves : goal.returns-clause-leaves
 returns-clause-leaves g c t done =
     let fits : FitsSigned w64 c.args.now = search rules in
-    leaves_done c.answer-outcome.result (command_of (map string_bytes c.args.words.now)) g.O.Sink.tells (g.F.Tree.contents c.args.tree.now) (g.F.Tree.contents c.answer-outcome.new.tree)
+    leaves_done (handed_in g.M.Manager c.args.custom) c.answer-outcome.result (command_of (map string_bytes c.args.words.now)) g.O.Sink.tells (g.F.Tree.contents c.args.tree.now) (g.F.Tree.contents c.answer-outcome.new.tree)
     (g.O.Sink.written c.args.out.now) (g.O.Sink.written c.answer-outcome.new.out) c.answer-outcome.ensures.undone c.cause_of.ensures c.finish.ensures.cause done
     (to_z-of_z w64 c.args.now fits) (c.answer-outcome.ensures.leaves t)
 
 pub returns-clause-converges : goal.returns-clause-converges
 returns-clause-converges g c t done =
-    converges_left (command_of (map string_bytes c.args.words.now)) c.args.now g.O.Sink.tells (g.F.Tree.contents c.args.tree.now) (g.F.Tree.contents c.answer-outcome.new.tree)
+    converges_left (handed_in g.M.Manager c.args.custom)
+    (handed-sound g.M.Manager c.args.custom (record { respects = g.met.M.Manager.respects; makes_anew = g.met.M.Manager.makes_anew }))
+    (command_of (map string_bytes c.args.words.now)) c.args.now g.O.Sink.tells (g.F.Tree.contents c.args.tree.now) (g.F.Tree.contents c.answer-outcome.new.tree)
     (g.O.Sink.written c.args.out.now) (g.O.Sink.written c.answer-outcome.new.out) (returns-clause-leaves g c t done)
 
 pub returns-clause-stays : goal.returns-clause-stays
 returns-clause-stays g c t =
-    stays_told (command_of (map string_bytes c.args.words.now)) (g.F.Tree.contents c.args.tree.now) (g.F.Tree.contents c.answer-outcome.new.tree)
+    stays_told (handed_in g.M.Manager c.args.custom) (command_of (map string_bytes c.args.words.now)) (g.F.Tree.contents c.args.tree.now) (g.F.Tree.contents c.answer-outcome.new.tree)
     c.cause_of.ensures c.finish.ensures.cause (c.answer-outcome.ensures.stays t)
 
 pub returns-clause-stops : goal.returns-clause-stops
 returns-clause-stops g c t =
     let fits : FitsSigned w64 c.args.now = search rules in
-    left_at (command_of (map string_bytes c.args.words.now)) (moment_of g.F.Tree c.args.tree.now) (g.F.Tree.stops c.args.tree.now) (g.F.Tree.stops c.answer-outcome.new.tree) (to_z-of_z w64 c.args.now fits) (c.answer-outcome.ensures.stops t)
+    left_at (handed_in g.M.Manager c.args.custom) (command_of (map string_bytes c.args.words.now)) (moment_of g.F.Tree c.args.tree.now) (g.F.Tree.stops c.args.tree.now) (g.F.Tree.stops c.answer-outcome.new.tree) (to_z-of_z w64 c.args.now fits) (c.answer-outcome.ensures.stops t)
 
 pub returns-clause-durable : goal.returns-clause-durable
 returns-clause-durable g c t done =

@@ -20,7 +20,7 @@ returns-in-Some-clause-shown g c = λ told err_tells err.
     let later = g.F.Tree.contents c.place_from.new.tree in
     let pages = pages_of c.args.log in
     let size = bytes_of c.args.log.size in
-    let custom = handed_in g.M.Manager.ID g.M.Manager.text c.args.custom in
+    let custom = handed_in g.M.Manager c.args.custom in
     let whole = from_first custom c.args.sel.now c.args.log contents later c.in_ok-place.field-0 (Some c.in-Some.place) c.in_ok-place.ensures.reads.same (c.in_ok-place.ensures.place told) c.in-Some.is in
     put_after_reads (dump_of custom (pages contents) size c.args.sel.now) (dump_from custom (pages later) size c.args.sel.now (Some c.in-Some.place)) err_tells err whole
     (c.dump_at.ensures.reads.same ∙ c.in_ok-place.ensures.reads.same) (c.dump_at.ensures.reads.uncalled ∙ c.in_ok-place.ensures.reads.uncalled) (c.dump_at.ensures.shown told)
@@ -31,6 +31,6 @@ returns-in-None-clause-shown g c = λ told err_tells err.
     let contents = g.F.Tree.contents c.args.tree.now in
     let pages = pages_of c.args.log in
     let size = bytes_of c.args.log.size in
-    let custom = handed_in g.M.Manager.ID g.M.Manager.text c.args.custom in
+    let custom = handed_in g.M.Manager c.args.custom in
     let whole = from_first custom c.args.sel.now c.args.log contents contents c.in_ok-place.field-0 None refl (c.in_ok-place.ensures.place told) c.in-None.is in
     refused_before (dump_of custom (pages contents) size c.args.sel.now) (dump_from custom (pages contents) size c.args.sel.now None) whole refl c.in_ok-place.ensures.reads.same c.in_ok-place.ensures.reads.uncalled

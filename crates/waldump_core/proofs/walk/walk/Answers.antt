@@ -22,7 +22,7 @@ records-init g c = record {
   knows = c.requires.knows;
   answer = λ told. search rules;
   gathers = λ told.
-      let dump : Progress → Dump = λ p. left (handed_in g.M.Manager.ID g.M.Manager.text c.args.asked.now.custom) c.args.asked.now.sel p c.args.cursor.now (g.F.Tree.contents c.args.tree.now) in
+      let dump : Progress → Dump = λ p. left (handed_in g.M.Manager c.args.asked.now.custom) c.args.asked.now.sel p c.args.cursor.now (g.F.Tree.contents c.args.tree.now) in
       gathers_none _ _ _ c.requires.none (leads_as (ap (λ p. prints (dump p).lines) (sym c.new-progress.ensures)) leads_start);
   extends = λ shown. search (rules, walk_steps);
   quiet = λ quiet. (refl, c.requires.none);

@@ -15,7 +15,7 @@ invariant-records g l =
     let contents = g.F.Tree.contents l.fn.tree in
     let calls = g.F.Tree.calls l.fn.tree in
     let sel = l.asked.sel in
-    let custom = handed_in g.M.Manager.ID g.M.Manager.text l.asked.custom in
+    let custom = handed_in g.M.Manager l.asked.custom in
     record {
       opened : l.cursor.ended ≡ None;
       log : l.cursor.log ≡ l.fn.cursor.log;

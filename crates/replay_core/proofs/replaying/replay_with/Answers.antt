@@ -1,4 +1,5 @@
 use Rattle.std.proofs.Common.{◌∙◌, ap, sym}
+use Rattle.rmgr_hooks.specs.Custom.{handed_in}
 use Rattle.std.proofs.lemmas.Result.{err_from_is_err_and}
 use Rattle.cluster_tree.specs.Run.{state_by}
 use Rattle.replay_core.specs.Replayed.{after_replay}
@@ -8,7 +9,7 @@ use Rattle.replay_core.proofs.JoinLemmas.{after-of, done-of, refused-of, went-no
 use Rattle.replay_core.proofs.StartedLemmas.{checked-by}
 use Rattle.replay_core.proofs.StopLemmas.{checked-left, reads-moment, refused-left}
 use Rattle.replay_core.proofs.WithinLemmas.{then_within, went-log, went-within}
-use Rattle.replay_core.proofs.replaying.replay.Goals as goal
+use Rattle.replay_core.proofs.replaying.replay_with.Goals as goal
 
 pub returns-in_err-checked-clause-went : goal.returns-in_err-checked-clause-went
 returns-in_err-checked-clause-went g c told =
@@ -19,24 +20,24 @@ pub replay_checked-requires-clause-checked : goal.replay_checked-requires-clause
 replay_checked-requires-clause-checked g c told =
     let before = g.F.Tree.contents c.args.tree.now in
     let after = g.F.Tree.contents c.check.new.tree in
-    let checked = checked-by before after c.args.root.now c.in_ok-checked.checked c.check.ensures.reads.same (c.in_ok-checked.ensures.exact told) (c.in_ok-checked.ensures.knows told) in
+    let checked = checked-by _ before after c.args.root.now c.in_ok-checked.checked c.check.ensures.reads.same (c.in_ok-checked.ensures.exact told) (c.in_ok-checked.ensures.knows told) in
     checked
 
 pub returns-clause-done : goal.returns-clause-done
 returns-clause-done g c told =
     let before = g.F.Tree.contents c.args.tree.now in
     let after = g.F.Tree.contents c.check.new.tree in
-    let checked = checked-by before after c.args.root.now c.in_ok-checked.checked c.check.ensures.reads.same (c.in_ok-checked.ensures.exact told) (c.in_ok-checked.ensures.knows told) in
-    let meant = sym (after-of after c.args.root.now (start_in c.in_ok-checked.checked after) checked.start) ∙ ap (λ x. after_replay x c.args.root.now) c.check.ensures.reads.same in
-    done-of (after_replay before c.args.root.now) _ (g.F.Tree.contents c.replay_checked.new.tree) c.replay_checked.result meant (c.replay_checked.ensures.exact told)
+    let checked = checked-by _ before after c.args.root.now c.in_ok-checked.checked c.check.ensures.reads.same (c.in_ok-checked.ensures.exact told) (c.in_ok-checked.ensures.knows told) in
+    let meant = sym (after-of _ after c.args.root.now (start_in c.in_ok-checked.checked after) checked.start) ∙ ap (λ x. after_replay (handed_in g.M.Manager c.args.custom) x c.args.root.now) c.check.ensures.reads.same in
+    done-of (after_replay (handed_in g.M.Manager c.args.custom) before c.args.root.now) _ (g.F.Tree.contents c.replay_checked.new.tree) c.replay_checked.result meant (c.replay_checked.ensures.exact told)
 
 pub returns-clause-refused : goal.returns-clause-refused
 returns-clause-refused g c told =
     let before = g.F.Tree.contents c.args.tree.now in
     let after = g.F.Tree.contents c.check.new.tree in
-    let checked = checked-by before after c.args.root.now c.in_ok-checked.checked c.check.ensures.reads.same (c.in_ok-checked.ensures.exact told) (c.in_ok-checked.ensures.knows told) in
-    let meant = sym (after-of after c.args.root.now (start_in c.in_ok-checked.checked after) checked.start) ∙ ap (λ x. after_replay x c.args.root.now) c.check.ensures.reads.same in
-    refused-of (after_replay before c.args.root.now) _ (g.F.Tree.contents c.replay_checked.new.tree) c.replay_checked.result meant (c.replay_checked.ensures.exact told)
+    let checked = checked-by _ before after c.args.root.now c.in_ok-checked.checked c.check.ensures.reads.same (c.in_ok-checked.ensures.exact told) (c.in_ok-checked.ensures.knows told) in
+    let meant = sym (after-of _ after c.args.root.now (start_in c.in_ok-checked.checked after) checked.start) ∙ ap (λ x. after_replay (handed_in g.M.Manager c.args.custom) x c.args.root.now) c.check.ensures.reads.same in
+    refused-of (after_replay (handed_in g.M.Manager c.args.custom) before c.args.root.now) _ (g.F.Tree.contents c.replay_checked.new.tree) c.replay_checked.result meant (c.replay_checked.ensures.exact told)
 
 pub returns-in_err-checked-clause-within : goal.returns-in_err-checked-clause-within
 returns-in_err-checked-clause-within g c told =
@@ -67,12 +68,12 @@ pub returns-in_err-checked-clause-checked : goal.returns-in_err-checked-clause-c
 returns-in_err-checked-clause-checked g c told e is = reads-moment g.F.Tree c.args.tree.now c.check.new.tree c.check.ensures.reads
 
 pub returns-in_err-checked-clause-stops : goal.returns-in_err-checked-clause-stops
-returns-in_err-checked-clause-stops g c told = refused-left g.F.Tree c.args.root.now (after_replay (g.F.Tree.contents c.args.tree.now) c.args.root.now) c.args.tree.now c.check.new.tree c.check.ensures.reads
+returns-in_err-checked-clause-stops g c told = refused-left g.F.Tree c.args.root.now (after_replay (handed_in g.M.Manager c.args.custom) (g.F.Tree.contents c.args.tree.now) c.args.root.now) c.args.tree.now c.check.new.tree c.check.ensures.reads
 
 pub returns-clause-stops : goal.returns-clause-stops
 returns-clause-stops g c told =
     let before = g.F.Tree.contents c.args.tree.now in
     let after = g.F.Tree.contents c.check.new.tree in
-    let checked = checked-by before after c.args.root.now c.in_ok-checked.checked c.check.ensures.reads.same (c.in_ok-checked.ensures.exact told) (c.in_ok-checked.ensures.knows told) in
-    let meant = sym (after-of after c.args.root.now (start_in c.in_ok-checked.checked after) checked.start) ∙ ap (λ x. after_replay x c.args.root.now) c.check.ensures.reads.same in
-    checked-left g.F.Tree c.args.root.now (after_replay before c.args.root.now) _ c.args.tree.now c.check.new.tree c.replay_checked.new.tree c.check.ensures.reads meant (c.replay_checked.ensures.stops told)
+    let checked = checked-by _ before after c.args.root.now c.in_ok-checked.checked c.check.ensures.reads.same (c.in_ok-checked.ensures.exact told) (c.in_ok-checked.ensures.knows told) in
+    let meant = sym (after-of _ after c.args.root.now (start_in c.in_ok-checked.checked after) checked.start) ∙ ap (λ x. after_replay (handed_in g.M.Manager c.args.custom) x c.args.root.now) c.check.ensures.reads.same in
+    checked-left g.F.Tree c.args.root.now (after_replay (handed_in g.M.Manager c.args.custom) before c.args.root.now) _ c.args.tree.now c.check.new.tree c.replay_checked.new.tree c.check.ensures.reads meant (c.replay_checked.ensures.stops told)
