@@ -16,6 +16,7 @@ ghost use Rattle.rmgr_hooks.specs.Custom.{handed_in};
 
 use crate::faults::RecordFault;
 use crate::pages::{clear, make_image, put_page, redo_page, stamp_image};
+use crate::redo::Redo;
 use block_refs::{BlockRef, Parts};
 use cluster_tree::{FileFault, Tree};
 use page_layout::Page;
@@ -62,18 +63,17 @@ fn put_redone<F: Tree, M: Manager>(
     alloc: Global,
     tree: &mut F,
     at: &Files,
-    rec: &Record,
-    parts: &Parts,
+    redo: &Redo<M>,
     block: &BlockRef,
     page: &mut Page,
-    custom: Option<&M>,
 ) -> Result<(), RecordFault>
     requires fit { AreFit at.now }
-    requires parts { ArePartsOf rec.now parts.now }
+    requires parts { ArePartsOf redo.now.rec.now redo.now.parts.now }
     requires block { block.now.name.block ≢ 0xFFFFFFFF }
     ensures exact { IsTrue F.tells → MeetsInto IsFreeFault
-        (redone_put at.now.root at.now.per_file rec.now block.now.name
-        (redone (handed_in M.Manager custom.entry) rec.now parts.now block.now page.old)
+        (redone_put at.now.root at.now.per_file redo.now.rec.now block.now.name
+        (redone (handed_in M.Manager redo.now.custom) redo.now.rec.now redo.now.parts.now
+        block.now page.old)
         (F.contents tree.old))
         (F.contents tree.new) result }
     ensures frame { Came F.Tree tree.old tree.new }
@@ -85,7 +85,7 @@ fn put_redone<F: Tree, M: Manager>(
     ensures changed { IsTrue F.tells → (p : PathValue) →
         result ≢ Err (RecordFault.File (FileFault.Changed p)) }
 {
-    redo_page(rec, parts, block, page, custom)?;
+    redo_page(redo, block, page)?;
     put_page(alloc, tree, at, block.name, page)
 }
 
@@ -94,18 +94,17 @@ pub(crate) fn put_made<F: Tree, M: Manager>(
     alloc: Global,
     tree: &mut F,
     at: &Files,
-    rec: &Record,
-    parts: &Parts,
+    redo: &Redo<M>,
     block: &BlockRef,
     page: &mut Page,
-    custom: Option<&M>,
 ) -> Result<(), RecordFault>
     requires fit { AreFit at.now }
-    requires parts { ArePartsOf rec.now parts.now }
+    requires parts { ArePartsOf redo.now.rec.now redo.now.parts.now }
     requires block { block.now.name.block ≢ 0xFFFFFFFF }
     ensures exact { IsTrue F.tells → MeetsInto IsFreeFault
-        (redone_put at.now.root at.now.per_file rec.now block.now.name
-        (redone (handed_in M.Manager custom.entry) rec.now parts.now block.now zeros)
+        (redone_put at.now.root at.now.per_file redo.now.rec.now block.now.name
+        (redone (handed_in M.Manager redo.now.custom) redo.now.rec.now redo.now.parts.now
+        block.now zeros)
         (F.contents tree.old))
         (F.contents tree.new) result }
     ensures frame { Came F.Tree tree.old tree.new }
@@ -118,7 +117,7 @@ pub(crate) fn put_made<F: Tree, M: Manager>(
         result ≢ Err (RecordFault.File (FileFault.Changed p)) }
 {
     clear(page);
-    put_redone(alloc, tree, at, rec, parts, block, page, custom)
+    put_redone(alloc, tree, at, redo, block, page)
 }
 
 /// Redoes a record on the page of a reference, if its LSN is below the record's end.
@@ -126,18 +125,17 @@ pub(crate) fn put_changed<F: Tree, M: Manager>(
     alloc: Global,
     tree: &mut F,
     at: &Files,
-    rec: &Record,
-    parts: &Parts,
+    redo: &Redo<M>,
     block: &BlockRef,
     page: &mut Page,
-    custom: Option<&M>,
 ) -> Result<(), RecordFault>
     requires fit { AreFit at.now }
-    requires parts { ArePartsOf rec.now parts.now }
+    requires parts { ArePartsOf redo.now.rec.now redo.now.parts.now }
     requires block { block.now.name.block ≢ 0xFFFFFFFF }
     ensures exact { IsTrue F.tells → MeetsInto IsFreeFault
-        (older_put at.now.root at.now.per_file rec.now block.now.name
-        (redone (handed_in M.Manager custom.entry) rec.now parts.now block.now) page.old
+        (older_put at.now.root at.now.per_file redo.now.rec.now block.now.name
+        (redone (handed_in M.Manager redo.now.custom) redo.now.rec.now redo.now.parts.now
+        block.now) page.old
         (F.contents tree.old))
         (F.contents tree.new) result }
     ensures frame { Came F.Tree tree.old tree.new }
@@ -149,8 +147,8 @@ pub(crate) fn put_changed<F: Tree, M: Manager>(
     ensures changed { IsTrue F.tells → (p : PathValue) →
         result ≢ Err (RecordFault.File (FileFault.Changed p)) }
 {
-    if page.lsn() >= rec.end() {
+    if page.lsn() >= redo.rec.end() {
         return Ok(());
     }
-    put_redone(alloc, tree, at, rec, parts, block, page, custom)
+    put_redone(alloc, tree, at, redo, block, page)
 }

@@ -18,6 +18,7 @@ ghost use Rattle.rmgr_hooks.specs.Custom.{handed_in};
 use crate::acts::{put_image, put_made};
 use crate::changes::{change, set_map_bits};
 use crate::faults::RecordFault;
+use crate::redo::Redo;
 use crate::skipped::Skipped;
 use block_refs::{BlockRef, Parts};
 use cluster_tree::{FileFault, Tree};
@@ -34,20 +35,20 @@ fn replay_block<F: Tree, M: Manager>(
     tree: &mut F,
     at: &Files,
     skipped: &mut Skipped,
-    rec: &Record,
-    parts: &Parts,
+    redo: &Redo<M>,
     block: &BlockRef,
     page: &mut Page,
-    custom: Option<&M>,
 ) -> Result<(), RecordFault>
     requires fit { AreFit at.now }
-    requires parts { ArePartsOf rec.now parts.now }
+    requires parts { ArePartsOf redo.now.rec.now redo.now.parts.now }
     requires block { block.now.name.block ≢ 0xFFFFFFFF }
     ensures exact { IsTrue F.tells → MeetsInto IsFreeFault
-        (by_act (handed_in M.Manager custom.entry) at.now.root at.now.per_file rec.now parts.now
+        (by_act (handed_in M.Manager redo.now.custom) at.now.root at.now.per_file
+        redo.now.rec.now redo.now.parts.now
         block.now
         (record { files = F.contents tree.old; skipped = skipped.old })
-        (act_on (handed_in M.Manager custom.entry) rec.now parts.now block.now))
+        (act_on (handed_in M.Manager redo.now.custom) redo.now.rec.now redo.now.parts.now
+        block.now))
         (record { files = F.contents tree.new; skipped = skipped.new }) result }
     ensures frame { Came F.Tree tree.old tree.new }
     ensures own { IsTrue F.tells → OnOwn F.calls (is_replayed at.now.root) tree.old tree.new }
@@ -58,12 +59,12 @@ fn replay_block<F: Tree, M: Manager>(
     ensures changed { IsTrue F.tells → (p : PathValue) →
         result ≢ Err (RecordFault.File (FileFault.Changed p)) }
 {
-    match act_on(rec, parts, block, custom) {
+    match act_on(redo.rec, redo.parts, block, redo.custom) {
         Act::Nothing | Act::Gone => Ok(()),
-        Act::Image => put_image(alloc, tree, at, rec, parts, block, page),
-        Act::Make => put_made(alloc, tree, at, rec, parts, block, page, custom),
-        Act::Change => change(alloc, tree, at, skipped, rec, parts, block, page, custom),
-        Act::MapPage => set_map_bits(alloc, tree, at, rec, parts, block.name, page),
+        Act::Image => put_image(alloc, tree, at, redo.rec, redo.parts, block, page),
+        Act::Make => put_made(alloc, tree, at, redo, block, page),
+        Act::Change => change(alloc, tree, at, skipped, redo, block, page),
+        Act::MapPage => set_map_bits(alloc, tree, at, redo.rec, redo.parts, block.name, page),
     }
 }
 
@@ -73,18 +74,17 @@ fn replay_at<F: Tree, M: Manager>(
     tree: &mut F,
     at: &Files,
     skipped: &mut Skipped,
-    rec: &Record,
-    parts: &Parts,
+    redo: &Redo<M>,
     index: usize,
     page: &mut Page,
-    custom: Option<&M>,
 ) -> Result<(), RecordFault>
     requires fit { AreFit at.now }
-    requires parts { ArePartsOf rec.now parts.now }
-    requires known { are_known parts.now.blocks ≡ true }
+    requires parts { ArePartsOf redo.now.rec.now redo.now.parts.now }
+    requires known { are_known redo.now.parts.now.blocks ≡ true }
     ensures exact { IsTrue F.tells → MeetsInto IsFreeFault
-        (placed_after (handed_in M.Manager custom.entry) at.now.root at.now.per_file rec.now parts.now
-        (slice_get parts.now.blocks index)
+        (placed_after (handed_in M.Manager redo.now.custom) at.now.root at.now.per_file
+        redo.now.rec.now redo.now.parts.now
+        (slice_get redo.now.parts.now.blocks index)
         (record { files = F.contents tree.old; skipped = skipped.old }))
         (record { files = F.contents tree.new; skipped = skipped.new }) result }
     ensures frame { Came F.Tree tree.old tree.new }
@@ -96,8 +96,8 @@ fn replay_at<F: Tree, M: Manager>(
     ensures changed { IsTrue F.tells → (p : PathValue) →
         result ≢ Err (RecordFault.File (FileFault.Changed p)) }
 {
-    match parts.get(index) {
-        Some(block) => replay_block(alloc, tree, at, skipped, rec, parts, &block, page, custom),
+    match redo.parts.get(index) {
+        Some(block) => replay_block(alloc, tree, at, skipped, redo, &block, page),
         None => Ok(()),
     }
 }
@@ -125,7 +125,8 @@ pub fn replay_blocks<F: Tree, M: Manager>(
     requires parts { ArePartsOf rec.now parts.now }
     requires known { are_known parts.now.blocks ≡ true }
     ensures exact { IsTrue F.tells → MeetsInto IsFreeFault
-        (blocks_after (handed_in M.Manager custom.entry) at.now.root at.now.per_file rec.now parts.now
+        (blocks_after (handed_in M.Manager custom.entry) at.now.root at.now.per_file rec.now
+        parts.now
         (record { files = F.contents tree.old; skipped = skipped.old }))
         (record { files = F.contents tree.new; skipped = skipped.new }) result }
     ensures frame { Came F.Tree tree.old tree.new }
@@ -137,8 +138,9 @@ pub fn replay_blocks<F: Tree, M: Manager>(
     ensures changed { IsTrue F.tells → (p : PathValue) →
         result ≢ Err (RecordFault.File (FileFault.Changed p)) }
 {
+    let redo = Redo { rec, parts, custom };
     for index in 0..parts.count() {
-        replay_at(alloc, tree, at, skipped, rec, parts, index, page, custom)?;
+        replay_at(alloc, tree, at, skipped, &redo, index, page)?;
     }
     Ok(())
 }

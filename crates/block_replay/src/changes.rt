@@ -18,6 +18,7 @@ ghost use Rattle.rmgr_hooks.specs.Custom.{handed_in};
 use crate::acts::put_changed;
 use crate::faults::RecordFault;
 use crate::pages::{put_page, read_page, redo_map_page};
+use crate::redo::Redo;
 use crate::skipped::Skipped;
 use block_refs::{BlockName, BlockRef, Parts};
 use cluster_tree::{FileFault, Tree};
@@ -152,18 +153,17 @@ fn change_found<F: Tree, M: Manager>(
     tree: &mut F,
     at: &Files,
     skipped: &mut Skipped,
-    rec: &Record,
-    parts: &Parts,
+    redo: &Redo<M>,
     block: &BlockRef,
     found: Found,
     page: &mut Page,
-    custom: Option<&M>,
 ) -> Result<(), RecordFault>
     requires fit { AreFit at.now }
-    requires parts { ArePartsOf rec.now parts.now }
+    requires parts { ArePartsOf redo.now.rec.now redo.now.parts.now }
     requires block { block.now.name.block ≢ 0xFFFFFFFF }
     ensures exact { IsTrue F.tells → MeetsInto IsFreeFault
-        (change_at (handed_in M.Manager custom.entry) at.now.root at.now.per_file rec.now parts.now
+        (change_at (handed_in M.Manager redo.now.custom) at.now.root at.now.per_file
+        redo.now.rec.now redo.now.parts.now
         block.now
         (record { files = F.contents tree.old; skipped = skipped.old })
         found page.old)
@@ -178,7 +178,7 @@ fn change_found<F: Tree, M: Manager>(
         result ≢ Err (RecordFault.File (FileFault.Changed p)) }
 {
     match found {
-        Found::Page => put_changed(alloc, tree, at, rec, parts, block, page, custom),
+        Found::Page => put_changed(alloc, tree, at, redo, block, page),
         Found::Absent | Found::Zero => skip(alloc, tree, at, skipped, block.name),
     }
 }
@@ -189,17 +189,16 @@ pub(crate) fn change<F: Tree, M: Manager>(
     tree: &mut F,
     at: &Files,
     skipped: &mut Skipped,
-    rec: &Record,
-    parts: &Parts,
+    redo: &Redo<M>,
     block: &BlockRef,
     page: &mut Page,
-    custom: Option<&M>,
 ) -> Result<(), RecordFault>
     requires fit { AreFit at.now }
-    requires parts { ArePartsOf rec.now parts.now }
+    requires parts { ArePartsOf redo.now.rec.now redo.now.parts.now }
     requires block { block.now.name.block ≢ 0xFFFFFFFF }
     ensures exact { IsTrue F.tells → MeetsInto IsFreeFault
-        (changed (handed_in M.Manager custom.entry) at.now.root at.now.per_file rec.now parts.now
+        (changed (handed_in M.Manager redo.now.custom) at.now.root at.now.per_file
+        redo.now.rec.now redo.now.parts.now
         block.now
         (record { files = F.contents tree.old; skipped = skipped.old }))
         (record { files = F.contents tree.new; skipped = skipped.new }) result }
@@ -213,7 +212,5 @@ pub(crate) fn change<F: Tree, M: Manager>(
         result ≢ Err (RecordFault.File (FileFault.Changed p)) }
 {
     let found = read_page(alloc, tree, at, block.name, page)?;
-    change_found(
-        alloc, tree, at, skipped, rec, parts, block, found, page, custom,
-    )
+    change_found(alloc, tree, at, skipped, redo, block, found, page)
 }

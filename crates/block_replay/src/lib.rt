@@ -6,6 +6,7 @@ mod blocks;
 mod changes;
 mod faults;
 mod pages;
+mod redo;
 mod skipped;
 
 pub use blocks::replay_blocks;

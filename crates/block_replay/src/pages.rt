@@ -18,10 +18,10 @@ ghost use Rattle.block_replay.specs.Pages.{image_at, image_left, page_put};
 ghost use Rattle.rmgr_hooks.specs.Custom.{handed_in};
 
 use crate::faults::RecordFault;
+use crate::redo::Redo;
 use block_refs::{BlockName, BlockRef, Parts, image_page};
 use cluster_tree::{FileFault, Tree};
 use page_layout::Page;
-use record_effects::redo;
 use rmgr_hooks::Manager;
 use std::alloc::Global;
 use storage_pages::redo_map;
@@ -119,20 +119,18 @@ pub(crate) fn stamp_image(rec: &Record, page: &mut Page)
 
 /// Redoes a record on the page of a reference.
 pub(crate) fn redo_page<M: Manager>(
-    rec: &Record,
-    parts: &Parts,
+    redo: &Redo<M>,
     block: &BlockRef,
     page: &mut Page,
-    custom: Option<&M>,
 ) -> Result<(), RecordFault>
-    requires parts { ArePartsOf rec.now parts.now }
-    ensures exact { Leaves (of_redo rec.now block.now.name
-        (redone (handed_in M.Manager custom.entry) rec.now parts.now block.now
+    requires parts { ArePartsOf redo.now.rec.now redo.now.parts.now }
+    ensures exact { Leaves (of_redo redo.now.rec.now block.now.name
+        (redone (handed_in M.Manager redo.now.custom) redo.now.rec.now redo.now.parts.now block.now
         page.old)) page.new result }
 {
-    match redo(rec, parts, block.id, page, custom) {
+    match record_effects::redo(redo.rec, redo.parts, block.id, page, redo.custom) {
         Ok(()) => Ok(()),
-        Err(why) => Err(RecordFault::RedoFailed(rec.start(), block.name, why)),
+        Err(why) => Err(RecordFault::RedoFailed(redo.rec.start(), block.name, why)),
     }
 }
 
