@@ -48,7 +48,7 @@ front-below : (roots : List PathValue) (xs ys : List ChangeCall) → AreBelow ro
 front-below roots [] ys all = tt
 front-below roots (x ∷ xs) ys all = (all.0, front-below roots xs ys all.1)
 
-at-path : (path : PathValue) (change : Change) → is_on path change ≡ true → changed_path (call_of change) ≡ Some path
+pub at-path : (path : PathValue) (change : Change) → is_on path change ≡ true → changed_path (call_of change) ≡ Some path
 at-path path (Writes own at bytes) is = ap Some (sym (path_eq-same path own is))
 at-path path (Cuts own size) is = ap Some (sym (path_eq-same path own is))
 at-path path (MakesFile own) is = ap Some (sym (path_eq-same path own is))

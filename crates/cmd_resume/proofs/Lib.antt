@@ -3,7 +3,9 @@ pub mod TriedLemmas
 pub mod RestLemmas
 pub mod CarryLemmas
 pub mod MakeLemmas
+pub mod CallLemmas
 pub mod FoundLemmas
 pub mod ShutLemmas
 pub mod ResumeLemmas
 pub mod LookLemmas
+pub mod FoundCallLemmas

@@ -1,3 +1,4 @@
 pub mod Changes
+pub mod Calls
 pub mod Resume
 pub mod Rests

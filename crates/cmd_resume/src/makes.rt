@@ -6,11 +6,13 @@ ghost use Rattle.cluster_tree.specs.Frame.{Came, moment_of};
 ghost use Rattle.cluster_tree.specs.PathValue.{PathValue};
 ghost use Rattle.cluster_tree.specs.Stops.{LeavesOnly};
 ghost use Rattle.marked_runs.specs.Moments.{IsMarked, IsSafe, StandsSynced};
+ghost use Rattle.resumed_laws.specs.Resumed.{resumed_changes};
 ghost use Rattle.resumed_writes.specs.Again.{AreReadable, IsOnWayOrFinished, IsResumable, resumed_end};
 ghost use Rattle.resume_core.specs.Stored.{IsStoredBetween};
 ghost use Rattle.acts.specs.Acts.{Sunk, seen, sunk};
 ghost use Rattle.run_acts.specs.Causes.{cause_of, is_of_files};
 ghost use Rattle.run_acts.specs.Unseen.{CarriesUnseen};
+ghost use Rattle.cmd_resume.specs.Calls.{MakesTried};
 ghost use Rattle.cmd_resume.specs.Rests.{IsBehind, IsRest, again_rest};
 ghost use Rattle.cmd_resume.specs.Resume.{behind_line};
 
@@ -42,6 +44,9 @@ fn make<F: Tree, E: Sink>(
         (sunk (E.written err.new) (E.failed_writes err.new))) }
     ensures resumed { IsTrue F.tells →
         OnOk result (F.contents tree.new ≡ resumed_end (F.contents tree.old) stored.plan) }
+    ensures tries { IsTrue F.tells → MakesTried (F.contents tree.old)
+        (resumed_changes (F.contents tree.old) stored.plan) (F.calls tree.old)
+        (F.calls tree.new) (cause_of result) }
     ensures stops { IsTrue F.tells → LeavesOnly
         (IsSafe stored.plan.mark (moment_of F.Tree tree.old)
         (resumed_end (F.contents tree.old) stored.plan)) (F.stops tree.old) (F.stops tree.new) }
@@ -98,6 +103,9 @@ pub(crate) fn make_told<F: Tree, E: Sink>(
         (sunk (E.written err.new) (E.failed_writes err.new))) }
     ensures resumed { IsTrue F.tells →
         OnOk result (F.contents tree.new ≡ resumed_end (F.contents tree.old) stored.plan) }
+    ensures tries { IsTrue F.tells → MakesTried (F.contents tree.old)
+        (resumed_changes (F.contents tree.old) stored.plan) (F.calls tree.old)
+        (F.calls tree.new) (cause_of result) }
     ensures stops { IsTrue F.tells → LeavesOnly
         (IsSafe stored.plan.mark (moment_of F.Tree tree.old)
         (resumed_end (F.contents tree.old) stored.plan)) (F.stops tree.old) (F.stops tree.new) }

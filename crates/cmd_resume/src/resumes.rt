@@ -7,6 +7,7 @@ ghost use Rattle.cluster_tree.specs.PathValue.{PathValue};
 ghost use Rattle.cluster_tree.specs.Stops.{LeavesOnly};
 ghost use Rattle.marked_runs.specs.Moments.{IsMarked, StandsSynced};
 ghost use Rattle.plan_text.specs.Text.{said_by};
+ghost use Rattle.resumed_laws.specs.Resumed.{resumed_changes};
 ghost use Rattle.resumed_writes.specs.Again.{AreReadable, IsOnWayOrFinished, IsResumable, resumed_end};
 ghost use Rattle.rewind_core.specs.Over.{without_own};
 ghost use Rattle.rewind_core.specs.Planned.{Needing};
@@ -19,6 +20,7 @@ ghost use Rattle.run_acts.specs.Answers.{Blames};
 ghost use Rattle.run_acts.specs.Causes.{cause_of, is_deep, is_of_files};
 ghost use Rattle.run_acts.specs.Unseen.{CarriesUnseen};
 ghost use Rattle.cmd_rewind.specs.Rewind.{IsLeftToResume, diverged, rewinding};
+ghost use Rattle.cmd_resume.specs.Calls.{MakesAgain, MakesTried};
 ghost use Rattle.cmd_resume.specs.Rests.{IsLeftAgain, again_answer};
 ghost use Rattle.cmd_resume.specs.Resume.{IsLeftByResume, IsResume, IsResumedDurably, LeavesResumed, resume_answer};
 
@@ -63,6 +65,9 @@ fn resume_stored<F: Tree, E: Sink>(
         (sunk (E.written err.new) (E.failed_writes err.new))) }
     ensures resumed { IsTrue F.tells → words.now.dry_run ≡ false →
         OnOk result (F.contents tree.new ≡ resumed_end (F.contents tree.old) stored.plan) }
+    ensures tries { IsTrue F.tells → words.now.dry_run ≡ false →
+        MakesTried (F.contents tree.old) (resumed_changes (F.contents tree.old) stored.plan)
+        (F.calls tree.old) (F.calls tree.new) (cause_of result) }
     ensures stops { IsTrue F.tells → LeavesOnly
         (IsLeftAgain words.now stored.plan (moment_of F.Tree tree.old)) (F.stops tree.old)
         (F.stops tree.new) }
@@ -135,6 +140,10 @@ pub fn resume<F: Tree, E: Sink>(
     // a resume that is done leaves what its changes make, and a rewind the rewound tree
     ensures resumed { IsTrue F.tells → OnOk result
         (LeavesResumed words.now now (F.contents tree.old) (F.contents tree.new)) }
+    // and the calls are the first of these changes; where what stands differs, just those before the
+    // first change that it refuses
+    ensures tries { IsTrue F.tells → MakesAgain words.now (F.contents tree.old)
+        (F.calls tree.old) (F.calls tree.new) (cause_of result) }
     // a stop at any moment leaves it untouched, marked or made; once it is done, what stands
     ensures stops { IsTrue F.tells → LeavesOnly
         (IsLeftByResume words.now now (moment_of F.Tree tree.old)) (F.stops tree.old)

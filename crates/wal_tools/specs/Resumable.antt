@@ -1,4 +1,4 @@
--- What a stop of a rewind, or of its resume, leaves for the next resume: PostgreSQL 16 manual, reference page of pg_rewind. Own: "A rewind that is resumed".
+-- What a stop of a rewind, or of its resume, leaves for the next resume, and the calls of a resume: PostgreSQL 16 manual, reference page of pg_rewind. Own: "A rewind that is resumed".
 use Rattle.std.specs.Prelude.{◌≡◌, ℤ, None, Result, Ok}
 use Rattle.cluster_tree.specs.Contents.{Contents}
 use Rattle.cluster_tree.specs.Frame.{moment_of}
@@ -15,6 +15,8 @@ use Rattle.rewind_core.specs.declared.outcome.Plan.{Plan}
 use Rattle.resume_core.specs.Stored.{stored_of}
 use Rattle.stored_laws.specs.Laws.{IsStopped, IsStoppedAgain}
 use Rattle.cmd_rewind.specs.Rewind.{IsLeftToResume}
+use Rattle.cmd_resume.specs.Calls.{MakesAgain}
+use Rattle.run_acts.specs.declared.cause.Cause.{Cause}
 
 -- a rewind that begins on synced contents leaves these at any stop, or what a plan of just what is needed left, which a resume completes where its mark reads
 -- as complete
@@ -32,3 +34,9 @@ abbrev pub LeavesStopped : {F : Type 0} → Ghosts F → Result Command CommandF
 LeavesStopped tree asked old new = (words : RewindWords) → asked ≡ Ok (command.Resume words) → (c : Contents) (before : ℤ) (n : Needing) (plan : Plan) →
     IsStopped c words.target words.source before n plan (tree.contents old) → StandsSynced (tree.contents old) (moment_of tree old) →
     LeavesOnly (IsStoppedAgain c words.target words.source before n plan) (tree.stops old) (tree.stops new)
+
+-- the calls of a resume over the plan in its mark are the first of the changes that the plan says; where what stands differs, just those before the
+-- first change that it refuses
+abbrev pub MakesResumed : {F : Type 0} → Ghosts F → Result Command CommandFault → F → F → (ended : Cause) → Type 0
+MakesResumed tree asked old new ended =
+    (words : RewindWords) → asked ≡ Ok (command.Resume words) → MakesAgain words (tree.contents old) (tree.calls old) (tree.calls new) ended

@@ -14,7 +14,7 @@ ghost use Rattle.wal_tools.specs.Answers.{IsAnswer, answered};
 ghost use Rattle.wal_tools.specs.Converges.{ConvergesAsked};
 ghost use Rattle.wal_tools.specs.Leaves.{LeavesAsked, StaysAsked};
 ghost use Rattle.wal_tools.specs.Runs.{Runs};
-ghost use Rattle.wal_tools.specs.Resumable.{LeavesFresh, LeavesStopped, LeavesToResume};
+ghost use Rattle.wal_tools.specs.Resumable.{LeavesFresh, LeavesStopped, LeavesToResume, MakesResumed};
 ghost use Rattle.wal_tools.specs.Stopped.{IsDurableAsked, IsLeftAsked};
 ghost use Rattle.wal_tools.specs.Words.{AreFaulty, IsSeen, MayChange, NeedsNoTree, Walks, refused_by_words};
 
@@ -77,6 +77,8 @@ pub fn run<F: Tree, O: Sink, E: Sink>(
         (command_of (map string_bytes words.now)) now tree.old tree.new }
     ensures again { IsTrue F.tells → LeavesStopped F.Tree
         (command_of (map string_bytes words.now)) tree.old tree.new }
+    ensures tries { IsTrue F.tells → MakesResumed F.Tree
+        (command_of (map string_bytes words.now)) tree.old tree.new result.cause }
     ensures durable { IsTrue F.tells → result.cause ≡ Cause.Done → IsDurableAsked
         (command_of (map string_bytes words.now)) now (F.contents tree.old)
         (moment_of F.Tree tree.new) }

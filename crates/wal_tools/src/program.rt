@@ -15,7 +15,7 @@ ghost use Rattle.wal_tools.specs.Answers.{IsAnswer, answered};
 ghost use Rattle.wal_tools.specs.Converges.{ConvergesAsked};
 ghost use Rattle.wal_tools.specs.Leaves.{LeavesAsked, StaysAsked};
 ghost use Rattle.wal_tools.specs.Runs.{Runs};
-ghost use Rattle.wal_tools.specs.Resumable.{LeavesFresh, LeavesStopped, LeavesToResume};
+ghost use Rattle.wal_tools.specs.Resumable.{LeavesFresh, LeavesStopped, LeavesToResume, MakesResumed};
 ghost use Rattle.wal_tools.specs.Stopped.{IsDurableAsked, IsLeftAsked};
 ghost use Rattle.wal_tools.specs.Words.{AreFaulty, IsSeen, MayChange, NeedsNoTree, Walks, refused_by_words};
 
@@ -84,6 +84,8 @@ fn answer<F: Tree, O: Sink, E: Sink, M: Manager>(
         (command_of (map string_bytes words.now)) now tree.old tree.new }
     ensures again { IsTrue F.tells → LeavesStopped F.Tree
         (command_of (map string_bytes words.now)) tree.old tree.new }
+    ensures tries { IsTrue F.tells → MakesResumed F.Tree
+        (command_of (map string_bytes words.now)) tree.old tree.new (cause_of result) }
     ensures durable { IsTrue F.tells → OnOk result (IsDurableAsked
         (command_of (map string_bytes words.now)) now (F.contents tree.old)
         (moment_of F.Tree tree.new)) }
@@ -182,6 +184,10 @@ pub fn run_with<F: Tree, O: Sink, E: Sink, M: Manager>(
     // or the rewound tree
     ensures again { IsTrue F.tells → LeavesStopped F.Tree
         (command_of (map string_bytes words.now)) tree.old tree.new }
+    // the calls of a resume are the first of the changes that its mark's plan says; where what stands
+    // differs, just those before the first change that it refuses
+    ensures tries { IsTrue F.tells → MakesResumed F.Tree
+        (command_of (map string_bytes words.now)) tree.old tree.new result.cause }
     // and once it is done, what stands
     ensures durable { IsTrue F.tells → result.cause ≡ Cause.Done → IsDurableAsked
         (command_of (map string_bytes words.now)) now (F.contents tree.old)

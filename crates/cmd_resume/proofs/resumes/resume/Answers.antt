@@ -3,8 +3,10 @@ use Rattle.std.proofs.lemmas.Int.{to_z-of_z}
 use Rattle.cluster_tree.specs.Contents.{Contents}
 use Rattle.cluster_tree.specs.Frame.{moment_of}
 use Rattle.plan_text.specs.Text.{said_by}
+use Rattle.run_acts.specs.Causes.{cause_of}
 use Rattle.run_acts.proofs.AnswerSteps.{carries_look}
 use Rattle.run_acts.proofs.UnseenSteps.{unseen_still}
+use Rattle.cmd_resume.proofs.FoundCallLemmas.{fresh-tried, refused-tried, stored-tried}
 use Rattle.cmd_resume.proofs.LookLemmas.{looks-only, refused-passes, resume-form, resume-looks}
 use Rattle.cmd_resume.proofs.ResumeLemmas.{again-left, asked-readable, blames-on, exact_as, fresh-durable, fresh-leaves, fresh-left, fresh-meant, fresh-resumable, looks-left, made_as, stored-durable, stored-leaves, stored-left, stored-meant, stopped-looks, unseen_as}
 use Rattle.stored_laws.proofs.StoredLemmas.{stopped-stored}
@@ -116,3 +118,20 @@ pub returns-in-Ok-Some-clause-again : goal.returns-in-Ok-Some-clause-again
 returns-in-Ok-Some-clause-again g c t first before n plan stop stands =
     again-left g.F.Tree c.args.words.now c.args.now c.args.tree.now c.stored_rewind.new.tree c.stored_rewind.ensures.reads c.resume_stored.new.tree first before n plan c.in-Ok-Some.stored stop stands
     (made_as c.args.words.now.target c.args.words.now.source c.in-Ok-Some.field-0-is c.in-Ok-Some.ensures.made).placed (exact_as c.in-Ok-Some.field-0-is (c.in-Ok-Some.ensures.exact t)) (c.resume_stored.ensures.again t)
+
+pub returns-in-Ok-None-clause-tries : goal.returns-in-Ok-None-clause-tries
+returns-in-Ok-None-clause-tries g c t =
+    fresh-tried c.args.words.now (g.F.Tree.contents c.args.tree.now) (g.F.Tree.calls c.args.tree.now) (g.F.Tree.calls c.rewind.new.tree) (cause_of c.rewind.result)
+    (exact_as c.in-Ok-None.field-0-is (c.in-Ok-None.ensures.exact t))
+
+pub returns-in-Ok-Some-clause-tries : goal.returns-in-Ok-Some-clause-tries
+returns-in-Ok-Some-clause-tries g c t =
+    stored-tried c.args.words.now (g.F.Tree.contents c.args.tree.now) (g.F.Tree.contents c.stored_rewind.new.tree) (g.F.Tree.calls c.args.tree.now) (g.F.Tree.calls c.stored_rewind.new.tree)
+    (g.F.Tree.calls c.resume_stored.new.tree) (cause_of c.resume_stored.result) c.in-Ok-Some.stored c.stored_rewind.ensures.reads.same c.stored_rewind.ensures.reads.uncalled
+    (made_as c.args.words.now.target c.args.words.now.source c.in-Ok-Some.field-0-is c.in-Ok-Some.ensures.made).placed (exact_as c.in-Ok-Some.field-0-is (c.in-Ok-Some.ensures.exact t))
+    (c.resume_stored.ensures.tries t)
+
+pub returns-in-Err-clause-tries : goal.returns-in-Err-clause-tries
+returns-in-Err-clause-tries g c t =
+    refused-tried c.args.words.now (g.F.Tree.contents c.args.tree.now) (g.F.Tree.calls c.args.tree.now) (g.F.Tree.calls c.stored_rewind.new.tree) c.in-Err.fault c.resume_cause.result
+    c.stored_rewind.ensures.reads.uncalled (c.in-Err.ensures.exact t) c.resume_cause.ensures.value

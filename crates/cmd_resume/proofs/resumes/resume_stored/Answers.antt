@@ -1,10 +1,14 @@
 use Rattle.std.proofs.Common.{inl, inr, refl, subst, sym, ◌∙◌}
 use Rattle.cluster_tree.specs.Frame.{moment_of}
+use Rattle.resumed_laws.specs.Resumed.{resumed_changes}
+use Rattle.run_acts.specs.declared.cause.Cause.TheVariants as cause
 use Rattle.cmd_rewind.specs.Tasks.{reported}
 use Rattle.cmd_rewind.specs.declared.lines.Lines.TheVariants as lines
 use Rattle.run_acts.proofs.AnswerSteps.{carries_acts, carries_fault, last_exact}
 use Rattle.run_acts.proofs.UnseenSteps.{told_wet, unseen_by, unseen_still}
 use Rattle.cmd_resume.specs.Resume.{IsResume}
+use Rattle.cmd_resume.proofs.CallLemmas.{none-tried}
+use Rattle.cmd_resume.proofs.FoundCallLemmas.{dry-tried}
 use Rattle.cmd_resume.proofs.RestLemmas.{unseen_looked}
 use Rattle.cmd_resume.proofs.ResumeLemmas.{again-form, again-looks, dry-answer, lines_as, still-again, wet-answer, whole-form}
 use Rattle.cmd_resume.proofs.resumes.resume_stored.Goals as goal
@@ -38,3 +42,11 @@ returns-in-Err-clause-again g c told found e may = still-again found e c.args.st
 
 pub returns-then-words-clause-again : goal.returns-then-words-clause-again
 returns-then-words-clause-again g c told found e may = still-again found e c.args.stored.plan (moment_of g.F.Tree c.args.tree.now) may
+
+pub returns-in-Err-clause-tries : goal.returns-in-Err-clause-tries
+returns-in-Err-clause-tries g c told wet =
+    let contents = g.F.Tree.contents c.args.tree.now in
+    none-tried contents (resumed_changes contents c.args.stored.plan) (g.F.Tree.calls c.args.tree.now) cause.OutOfMemory (λ way is. cc is)
+
+pub returns-then-words-clause-tries : goal.returns-then-words-clause-tries
+returns-then-words-clause-tries g c told wet = dry-tried c.args.words.now c.if-words.true wet

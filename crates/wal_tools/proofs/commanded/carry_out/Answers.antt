@@ -6,7 +6,7 @@ use Rattle.cluster_tree.specs.Frame.{moment_of}
 use Rattle.run_acts.specs.Causes.{cause_of}
 use Rattle.wal_tools.proofs.RunLemmas.{at_time, beside_at, dried_cleanup, dried_reset, dried_rewind, of_archivecleanup, of_controldata, of_pair, of_resetwal, of_rewind, of_waldump, of_walcompare, of_walreplay, pair_may, paired_at, replay_may, replayed_at, rewound_at, same_at, stays_at}
 use Rattle.wal_tools.proofs.ResumeLemmas.{dried_resume, durable_resume, left_of_resume, of_resume, resumed_at}
-use Rattle.wal_tools.proofs.ResumableLemmas.{again_resume, resumable_resume, resumable_rewind}
+use Rattle.wal_tools.proofs.ResumableLemmas.{again_resume, resumable_resume, resumable_rewind, tries_resume}
 use Rattle.wal_tools.proofs.StopLemmas.{durable_replay, durable_reset, durable_rewind, left_of_cleanup, left_of_pair, left_of_replay, left_of_reset, left_of_rewind, read_left}
 use Rattle.wal_tools.proofs.commanded.carry_out.Goals as goal
 
@@ -199,3 +199,7 @@ pub returns-in-Resume-clause-again : goal.returns-in-Resume-clause-again
 returns-in-Resume-clause-again g c t resume asked first before n plan stop stands =
     again_resume (g.F.Tree.contents c.args.tree.now) (g.F.Tree.stops c.args.tree.now) (g.F.Tree.stops c.resume.new.tree) c.in-Resume.is (λ first before n plan stop. c.resume.ensures.again t first before n plan stop stands)
     resume asked first before n plan stop
+
+pub returns-in-Resume-clause-tries : goal.returns-in-Resume-clause-tries
+returns-in-Resume-clause-tries g c t resume asked =
+    tries_resume (g.F.Tree.contents c.args.tree.now) (g.F.Tree.calls c.args.tree.now) (g.F.Tree.calls c.resume.new.tree) (cause_of c.resume.result) c.in-Resume.is (c.resume.ensures.tries t) resume asked

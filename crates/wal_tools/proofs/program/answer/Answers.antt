@@ -5,7 +5,7 @@ use Rattle.cluster_tree.specs.Frame.{moment_of}
 use Rattle.tool_words.specs.Command.{command_of}
 use Rattle.wal_tools.specs.Words.{MayChange}
 use Rattle.wal_tools.proofs.RunLemmas.{at_time, no_words, of_command, stays_refused, stays_unmade, words_refused}
-use Rattle.wal_tools.proofs.ResumableLemmas.{again_still, resumable_at, resumable_still}
+use Rattle.wal_tools.proofs.ResumableLemmas.{again_still, resumable_at, resumable_still, tries_refused, tries_unmade}
 use Rattle.wal_tools.proofs.StopLemmas.{durable_command, left_at, left_of_command, still_left}
 use Rattle.rewind_core.specs.Over.{without_own}
 use Rattle.wal_tools.proofs.program.answer.Goals as goal
@@ -85,3 +85,13 @@ returns-in-Err-OutOfMemory-clause-again g c t resume asked first before n plan s
 pub returns-in-Err-clause-again : goal.returns-in-Err-clause-again
 returns-in-Err-clause-again g c t resume asked first before n plan stop stands =
     again_still first resume.target resume.source before n plan (g.F.Tree.contents c.args.tree.now) (moment_of g.F.Tree c.args.tree.now) stop stands
+
+pub returns-in-Ok-clause-tries : goal.returns-in-Ok-clause-tries
+returns-in-Ok-clause-tries g c t resume asked = c.carry_out.ensures.tries t resume (sym c.in-Ok.ensures.answer ∙ asked)
+
+pub returns-in-Err-OutOfMemory-clause-tries : goal.returns-in-Err-OutOfMemory-clause-tries
+returns-in-Err-OutOfMemory-clause-tries g c t resume asked = tries_unmade resume (g.F.Tree.contents c.args.tree.now) (g.F.Tree.calls c.args.tree.now)
+
+pub returns-in-Err-clause-tries : goal.returns-in-Err-clause-tries
+returns-in-Err-clause-tries g c t resume asked =
+    tries_refused resume (g.F.Tree.contents c.args.tree.now) (g.F.Tree.calls c.args.tree.now) c.in-Err.fault c.words_cause.result c.words_cause.ensures

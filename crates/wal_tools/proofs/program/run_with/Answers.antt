@@ -9,7 +9,7 @@ use Rattle.cause_lines.specs.Lines.{line_of}
 use Rattle.wal_tools.specs.Runs.{Says}
 use Rattle.wal_tools.proofs.ConvergeLemmas.{converges_left, handed-sound}
 use Rattle.wal_tools.proofs.RunLemmas.{at_time, exact_told, leaves_done, stays_told}
-use Rattle.wal_tools.proofs.ResumableLemmas.{resumable_at}
+use Rattle.wal_tools.proofs.ResumableLemmas.{resumable_at, tries_told}
 use Rattle.wal_tools.proofs.StopLemmas.{durable_done, left_at}
 use Rattle.rewind_core.specs.Over.{without_own}
 use Rattle.wal_tools.proofs.program.run_with.Goals as goal
@@ -77,3 +77,8 @@ pub returns-clause-fresh : goal.returns-clause-fresh
 returns-clause-fresh g c t resume asked none stands =
     let fits : FitsSigned w64 c.args.now = search rules in
     resumable_at resume (without_own (g.F.Tree.contents c.args.tree.now) resume.target) (g.F.Tree.contents c.args.tree.now) (g.F.Tree.stops c.args.tree.now) (g.F.Tree.stops c.answer-outcome.new.tree) (to_z-of_z w64 c.args.now fits) (c.answer-outcome.ensures.fresh t resume asked none stands)
+
+pub returns-clause-tries : goal.returns-clause-tries
+returns-clause-tries g c t resume asked =
+    tries_told resume (g.F.Tree.contents c.args.tree.now) (g.F.Tree.calls c.args.tree.now) (g.F.Tree.calls c.answer-outcome.new.tree) c.cause_of.ensures c.finish.ensures.cause
+    (c.answer-outcome.ensures.tries t resume asked)
