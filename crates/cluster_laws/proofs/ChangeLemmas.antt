@@ -177,12 +177,12 @@ module _ (custom : Option Extension) (root other : PathValue) (per : ℕ) (some 
   abbrev segment : ℕ
   segment = p.block / per
 
-  abbrev HasSame : Type 0
+  abbrev pub HasSame : Type 0
   HasSame = (a b : List ℕ) → is_alike per (file_parts p.rel p.fork segment) a b ≡ true → a ≡ b
 
-  reading_same : (c d : Contents) → HasSame → AlikeClusters per c root d other → SameAnswers root other (block_read root per p c zeros) (block_read other per p d zeros)
+  pub reading-same : (c d : Contents) → HasSame → AlikeClusters per c root d other → SameAnswers root other (block_read root per p c zeros) (block_read other per p d zeros)
   unfolding block_read
-  reading_same c d same both =
+  reading-same c d same both =
       told-same per root other (has_block root per p.rel p.fork p.block c) (has_block other per p.rel p.fork p.block d)
       (λ there. if there then block_from_file root per p c else Ok (record { found = found.Absent; bytes = zeros }))
       (λ there. if there then block_from_file other per p d else Ok (record { found = found.Absent; bytes = zeros }))
@@ -209,7 +209,7 @@ module _ (custom : Option Extension) (root other : PathValue) (per : ℕ) (some 
   map_agree c d gapless same both =
       told-agree_is per root other Files (block_read root per p c zeros) (block_read other per p d zeros)
       (λ reading. older_put root per rec p (stamped rec.end (visible_map rec parts)) reading.bytes c) (λ reading. older_put other per rec p (stamped rec.end (visible_map rec parts)) reading.bytes d)
-      (reading_same c d same both)
+      (reading-same c d same both)
       (λ reading made.
       let size : length reading.bytes ≡ 8192 = ap (λ (r : Reading). length r.bytes) (read_is c gapless reading made) ∙ read_size c gapless (block_in root per p c) refl in
       older_agree (stamped rec.end (visible_map rec parts)) reading.bytes (λ new made_new. stamped-map_size rec parts reading.bytes new ends size made_new) c d both)
@@ -231,7 +231,7 @@ module _ (custom : Option Extension) (root other : PathValue) (per : ℕ) (some 
     same_agree same =
         told-agree_is per root other BothBlocks (block_read root per p w.files zeros) (block_read other per p x.files zeros)
         (λ reading. change_at custom root per rec parts block w reading.found reading.bytes) (λ reading. change_at custom other per rec parts block x reading.found reading.bytes)
-        (reading_same w.files x.files same both)
+        (reading-same w.files x.files same both)
         (λ reading made.
         subst (λ (r : Reading). AgreeOn BothBlocks root other (change_at custom root per rec parts block w r.found r.bytes) (change_at custom other per rec parts block x r.found r.bytes))
         (sym (read_is w.files gapless reading made)) (state_agree (block_in root per p w.files) refl))
@@ -298,8 +298,8 @@ module _ (custom : Option Extension) (root other : PathValue) (per : ℕ) (some 
   map_fork Visibility h = refl
   map_fork Init h = absurd (true≢false (sym h))
 
-  map_same : act_on custom rec parts block ≡ act.MapPage → HasSame
-  map_same chosen =
+  pub map-same : act_on custom rec parts block ≡ act.MapPage → HasSame
+  map-same chosen =
       let is : is_map_page rec block ≡ true = map_chosen (is_gone rec parts p) (is_left p.fork) (is_some (applied block.image)) (is_main p.fork && (rules_of custom rec).acts rec parts block.id) ((rules_of custom rec).fresh rec parts block.id) (is_map_page rec block) chosen in
       let fork : p.fork ≡ Visibility = map_fork p.fork (second (sets_map_bits (done_by rec) && block.id == 0) (is_map p.fork) is) in
       same-bytes per (file_parts p.rel p.fork segment) (file-no_version p.rel p.fork segment)
@@ -319,4 +319,4 @@ module _ (custom : Option Extension) (root other : PathValue) (per : ℕ) (some 
       (redone_agree (redone custom rec parts block zeros) (λ page made. page_size page (subst (λ r. IsEffect (view p.block) rec.end (effect.Init r)) made (subst (IsEffect (view p.block) rec.end) done meets)).page) w.files x.files both)
   act-agree act.Change w x gapless other_gapless is done meets both = changed_agree w x gapless other_gapless (subst (IsEffect (view p.block) rec.end) done meets) both
   act-agree act.MapPage w x gapless other_gapless is done meets both =
-      with_agree w.skipped x.skipped (map_changed root per rec parts p w.files) (map_changed other per rec parts p x.files) (map_agree w.files x.files gapless (map_same is) both)
+      with_agree w.skipped x.skipped (map_changed root per rec parts p w.files) (map_changed other per rec parts p x.files) (map_agree w.files x.files gapless (map-same is) both)

@@ -8,5 +8,6 @@ pub mod ConvergeLemmas
 pub mod SameLemmas
 pub mod StartLemmas
 pub mod EndLemmas
+pub mod LiftLemmas
 pub mod ReplayLemmas
 pub mod BothLemmas

@@ -97,8 +97,8 @@ module _ (custom : Option Extension) (sound : IsSound custom) (root : PathValue)
     abbrev pub IsRefused : Type 0
     IsRefused = LacksLayout rec parts ⊎ (IsMainBlock name × (replay_step (view name.block) (held root per w name) rec.end (effect_on custom rec parts name) ≡ ErrHeld why))
 
-    others_free : (mid : BlockWorld) → others_after root per rec parts w mid ≡ Err Fault → ⊥
-    others_free mid own = by (files_after root per rec parts mid.files) own
+    pub others-free : (mid : BlockWorld) → others_after root per rec parts w mid ≡ Err Fault → ⊥
+    others-free mid own = by (files_after root per rec parts mid.files) own
       where
         by : (r : Result Contents FileFault) → given (of_files r) (λ c. OkWorld (record { files = c; control = control_after rec parts w.control; skipped = without_gone rec parts mid.skipped })) ≡ Err Fault → ⊥
         by (Ok c) run = absurd cc
@@ -108,7 +108,7 @@ module _ (custom : Option Extension) (sound : IsSound custom) (root : PathValue)
     blocks_refused (inl refused) =
         let of = taken-read custom rec parts is in
         (each_refused rec parts of.of_rec is.ends parts.blocks (blocks_of w) (all-ready custom sound root per some rec parts of.of_rec is.ends of.known) of.own whole refused).1
-    blocks_refused (inr next) = absurd (others_free next.0 next.2)
+    blocks_refused (inr next) = absurd (others-free next.0 next.2)
 
     pub record-refused : record_after custom root per rec parts w ≡ Err Fault → IsRefused
     unfolding record_after

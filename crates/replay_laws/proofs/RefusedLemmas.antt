@@ -76,9 +76,9 @@ redo_err rec p (Err own) start name why e = (cc, ap OffPage same)
     same : own ≡ why
     same = cc
 
-with_err : (skipped : List BlockName) (files : Result Contents RecordFault) (e : RecordFault) → with_files skipped files ≡ Err e → files ≡ Err e
-with_err skipped (Ok c) e is = absurd cc
-with_err skipped (Err f) e is = cc
+pub with-err : (skipped : List BlockName) (files : Result Contents RecordFault) (e : RecordFault) → with_files skipped files ≡ Err e → files ≡ Err e
+with-err skipped (Ok c) e is = absurd cc
+with-err skipped (Err f) e is = cc
 
 put_err : (root : PathValue) (per : ℕ) (rec : LogRecord) (p : BlockName) (r : Redone) (c : Contents) (start : Lsn) (name : BlockName) (why : RedoWhy) → redone_put root per rec p r c ≡ Err (RedoFailed start name why) → (p ≡ name) × (r ≡ Err why)
 put_err root per rec p r c start name why e = by (given-err (of_redo rec p r) (λ page. page_put root per p page c) (RedoFailed start name why) e)
@@ -87,9 +87,9 @@ put_err root per rec p r c start name why e = by (given-err (of_redo rec p r) (�
     by (inl own) = redo_err rec p r start name why own
     by (inr put) = absurd (no-redo _ start name why put.2)
 
-older_err : (root : PathValue) (per : ℕ) (rec : LogRecord) (p : BlockName) (change : List ℕ → Redone) (bytes : List ℕ) (c : Contents) (start : Lsn) (name : BlockName) (why : RedoWhy)
+pub older-err : (root : PathValue) (per : ℕ) (rec : LogRecord) (p : BlockName) (change : List ℕ → Redone) (bytes : List ℕ) (c : Contents) (start : Lsn) (name : BlockName) (why : RedoWhy)
     → older_put root per rec p change bytes c ≡ Err (RedoFailed start name why) → (nat_lt (lsn bytes) rec.end ≡ true) × (p ≡ name) × (change bytes ≡ Err why)
-older_err root per rec p change bytes c start name why e = by (nat_lt (lsn bytes) rec.end) refl e
+older-err root per rec p change bytes c start name why e = by (nat_lt (lsn bytes) rec.end) refl e
   where
     by : (b : Bool) → nat_lt (lsn bytes) rec.end ≡ b → (if b then redone_put root per rec p (change bytes) c else Ok c) ≡ Err (RedoFailed start name why) → (nat_lt (lsn bytes) rec.end ≡ true) × (p ≡ name) × (change bytes ≡ Err why)
     by true is run = let two = put_err root per rec p (change bytes) c start name why run in (is, two.0, two.1)
@@ -162,7 +162,12 @@ module _ (custom : Option Extension) (root : PathValue) (per : ℕ) (some : 0 < 
   abbrev ErrHeld : RedoWhy → Result Held RedoWhy
   ErrHeld w = Err w
 
-  -- the record says too little, or the block's step is refused
+  -- the step of a main fork's block is refused
+  pub record MainStep : Type 0 where
+    pub main : IsMainBlock p
+    pub refused : replay_step (view p.block) before rec.end (effect_on custom rec parts p) ≡ ErrHeld why
+
+  -- so it is, or the record says too little
   abbrev pub Step : Type 0
   Step = LacksLayout rec parts ⊎ (IsMainBlock p × (replay_step (view p.block) before rec.end (effect_on custom rec parts p) ≡ ErrHeld why))
 
@@ -187,62 +192,63 @@ module _ (custom : Option Extension) (root : PathValue) (per : ℕ) (some : 0 < 
       first_of_three (sets_map_bits (done_by rec)) (block.id == 0) (is_map p.fork)
       (mark_sets (is_gone rec parts p) (is_left p.fork) (is_some (applied block.image)) (is_main p.fork && (rules_of custom rec).acts rec parts block.id) ((rules_of custom rec).fresh rec parts block.id) (is_map_page rec block) (ap marks is))
 
-  image_refused : by_act custom root per rec parts block w act.Image ≡ Err Fault → ⊥
-  image_refused e = by (image_at rec parts block.id) (with_err w.skipped (image_put root per rec p (image_at rec parts block.id) w.files) Fault e)
+  pub image-refused : by_act custom root per rec parts block w act.Image ≡ Err Fault → ⊥
+  image-refused e = by (image_at rec parts block.id) (with-err w.skipped (image_put root per rec p (image_at rec parts block.id) w.files) Fault e)
     where
       by : (image : Option (List ℕ)) → image_put root per rec p image w.files ≡ Err Fault → ⊥
       by None run = absurd cc
       by (Some page) run = no-redo _ start name why run
 
   skip_refused : change_skipped root p w ≡ Err Fault → ⊥
-  skip_refused e = no-redo (created root p.rel p.fork w.files) start name why (with_err (with_name p w.skipped) (of_files (created root p.rel p.fork w.files)) Fault e)
+  skip_refused e = no-redo (created root p.rel p.fork w.files) start name why (with-err (with_name p w.skipped) (of_files (created root p.rel p.fork w.files)) Fault e)
 
-  made_refused : act_on custom rec parts block ≡ act.Make → effect_on custom rec parts p ≡ Init (redo zeros) → by_act custom root per rec parts block w act.Make ≡ Err Fault → (p ≡ name) × Step
-  made_refused is effect e =
-      let two = put_err root per rec p (redo zeros) w.files start name why (with_err w.skipped (redone_put root per rec p (redo zeros) w.files) Fault e) in
-      (two.0, inr (of_main (inl is), ap (replay_step (view p.block) before rec.end) effect ∙ ap (with_page before.skipped) two.1))
+  pub made-refused : act_on custom rec parts block ≡ act.Make → effect_on custom rec parts p ≡ Init (redo zeros) → by_act custom root per rec parts block w act.Make ≡ Err Fault → (p ≡ name) × MainStep
+  made-refused is effect e =
+      let two = put_err root per rec p (redo zeros) w.files start name why (with-err w.skipped (redone_put root per rec p (redo zeros) w.files) Fault e) in
+      (two.0, record { main = of_main (inl is); refused = ap (replay_step (view p.block) before rec.end) effect ∙ ap (with_page before.skipped) two.1 })
 
-  changed_refused : act_on custom rec parts block ≡ act.Change → effect_on custom rec parts p ≡ Change redo → by_act custom root per rec parts block w act.Change ≡ Err Fault → (p ≡ name) × Step
-  changed_refused is effect e = by_read (given-err (page_there root per p w.files) (λ reading. change_at custom root per rec parts block w reading.found reading.bytes) Fault e)
+  pub changed-refused : act_on custom rec parts block ≡ act.Change → effect_on custom rec parts p ≡ Change redo → by_act custom root per rec parts block w act.Change ≡ Err Fault → (p ≡ name) × MainStep
+  changed-refused is effect e = by_read (given-err (page_there root per p w.files) (λ reading. change_at custom root per rec parts block w reading.found reading.bytes) Fault e)
     where
-      older : (bytes : List ℕ) → page_in root per p w.files ≡ Some bytes → with_files w.skipped (older_put root per rec p redo bytes w.files) ≡ Err Fault → (p ≡ name) × Step
+      older : (bytes : List ℕ) → page_in root per p w.files ≡ Some bytes → with_files w.skipped (older_put root per rec p redo bytes w.files) ≡ Err Fault → (p ≡ name) × MainStep
       older bytes there run =
-          let three = older_err root per rec p redo bytes w.files start name why (with_err w.skipped (older_put root per rec p redo bytes w.files) Fault run) in (
+          let three = older-err root per rec p redo bytes w.files start name why (with-err w.skipped (older_put root per rec p redo bytes w.files) Fault run) in (
             three.1,
-            inr (
-              of_main (inr is),
-              ap (replay_step (view p.block) before rec.end) effect
+            record {
+              main = of_main (inr is);
+              refused =
+                  ap (replay_step (view p.block) before rec.end) effect
                   ∙ ap (after_change (view p.block) rec.end redo before.skipped) there
                   ∙ ap (λ b. if b then with_page before.skipped (redo bytes) else Ok (record { page = Some bytes; skipped = before.skipped })) three.0
-                  ∙ ap (with_page before.skipped) three.2,
-            ),
+                  ∙ ap (with_page before.skipped) three.2;
+            },
           )
 
-      by_state : (state : Option (List ℕ)) → block_in root per p w.files ≡ state → change_at custom root per rec parts block w (reading_of zeros state).found (reading_of zeros state).bytes ≡ Err Fault → (p ≡ name) × Step
+      by_state : (state : Option (List ℕ)) → block_in root per p w.files ≡ state → change_at custom root per rec parts block w (reading_of zeros state).found (reading_of zeros state).bytes ≡ Err Fault → (p ≡ name) × MainStep
       by_state None there run = absurd (skip_refused run)
       by_state (Some bytes) there run = by_test (is_zero bytes)
           (λ zero. absurd (skip_refused (rw zero at run)))
           (λ page. older bytes (ap (option_and_then page_or_none) there ∙ rw page refl) (rw page at run))
 
-      by_read : (page_there root per p w.files ≡ Err Fault) ⊎ ((reading : Reading) × (page_there root per p w.files ≡ Ok reading) × (change_at custom root per rec parts block w reading.found reading.bytes ≡ Err Fault)) → (p ≡ name) × Step
+      by_read : (page_there root per p w.files ≡ Err Fault) ⊎ ((reading : Reading) × (page_there root per p w.files ≡ Ok reading) × (change_at custom root per rec parts block w reading.found reading.bytes ≡ Err Fault)) → (p ≡ name) × MainStep
       by_read (inl refused) = absurd (no-redo (block_read root per p w.files zeros) start name why refused)
       by_read (inr read) =
           let same : read.0 ≡ reading_of zeros (block_in root per p w.files) = read-whole root per p w.files zeros read.0 some small (whole.no_gap p.rel p.fork small.rel) (files-ok _ read.0 read.1) in
           by_state (block_in root per p w.files) refl (subst (λ (r : Reading). change_at custom root per rec parts block w r.found r.bytes ≡ Err Fault) same read.2)
 
   map_refused : act_on custom rec parts block ≡ act.MapPage → by_act custom root per rec parts block w act.MapPage ≡ Err Fault → (p ≡ name) × Step
-  map_refused is e = by_read (given-err (page_there root per p w.files) (λ reading. older_put root per rec p (stamped rec.end (visible_map rec parts)) reading.bytes w.files) Fault (with_err w.skipped (map_changed root per rec parts p w.files) Fault e))
+  map_refused is e = by_read (given-err (page_there root per p w.files) (λ reading. older_put root per rec p (stamped rec.end (visible_map rec parts)) reading.bytes w.files) Fault (with-err w.skipped (map_changed root per rec parts p w.files) Fault e))
     where
       by_read : (page_there root per p w.files ≡ Err Fault) ⊎ ((reading : Reading) × (page_there root per p w.files ≡ Ok reading) × (older_put root per rec p (stamped rec.end (visible_map rec parts)) reading.bytes w.files ≡ Err Fault)) → (p ≡ name) × Step
       by_read (inl refused) = absurd (no-redo (block_read root per p w.files zeros) start name why refused)
       by_read (inr read) =
-          let three = older_err root per rec p (stamped rec.end (visible_map rec parts)) read.0.bytes w.files start name why read.2 in
+          let three = older-err root per rec p (stamped rec.end (visible_map rec parts)) read.0.bytes w.files start name why read.2 in
           (three.1, inl (no_visible rec parts read.0.bytes why (of_map is) three.2))
 
   pub refused-at : (a : Act) → act_on custom rec parts block ≡ a → IsDone custom rec parts block.id a (effect_on custom rec parts p) → by_act custom root per rec parts block w a ≡ Err Fault → (p ≡ name) × Step
   refused-at act.Nothing is done e = absurd cc
   refused-at act.Gone is done e = absurd cc
-  refused-at act.Image is done e = absurd (image_refused e)
-  refused-at act.Make is done e = made_refused is done e
-  refused-at act.Change is done e = changed_refused is done e
+  refused-at act.Image is done e = absurd (image-refused e)
+  refused-at act.Make is done e = let two = made-refused is done e in (two.0, inr (two.1.main, two.1.refused))
+  refused-at act.Change is done e = let two = changed-refused is done e in (two.0, inr (two.1.main, two.1.refused))
   refused-at act.MapPage is done e = map_refused is e

@@ -1,0 +1,4 @@
+pub mod TurnedLemmas
+pub mod ReferenceLemmas
+pub mod AgainLemmas
+pub mod EndLemmas

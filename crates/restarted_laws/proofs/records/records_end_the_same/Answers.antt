@@ -1,0 +1,7 @@
+use Rattle.restarted_laws.proofs.AgainLemmas.{log-ends}
+use Rattle.restarted_laws.proofs.EndLemmas.{before-log}
+use Rattle.restarted_laws.proofs.records.records_end_the_same.Goals as goal
+
+pub returns : goal.returns
+returns g = λ custom sound start records root other per_file w x taken alike again.
+    log-ends custom sound root other per_file again.begins.some start records w x taken (before-log custom sound root other per_file again.begins.some records w x alike again)

@@ -1,0 +1,8 @@
+//! A log that is replayed again over a cluster in which a replay of it was stopped.
+#![tactic(auto)]
+
+mod records;
+mod replays;
+
+pub use records::records_end_the_same;
+pub use replays::replays_end_the_same;
