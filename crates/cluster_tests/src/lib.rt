@@ -14,6 +14,8 @@ mod kinds;
 #[cfg(test)]
 mod labels;
 #[cfg(test)]
+mod lists;
+#[cfg(test)]
 mod numbers;
 #[cfg(test)]
 mod options;

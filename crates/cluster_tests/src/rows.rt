@@ -3,6 +3,7 @@ use crate::endless::tell_endless;
 use crate::faults::tell_faults;
 use crate::held::tell_held;
 use crate::labels::tell_labels;
+use crate::lists::tell_lists;
 use crate::numbers::tell_numbers;
 use crate::paths::tell_path;
 use crate::plans::tell_plan;
@@ -13,7 +14,7 @@ use crate::surveys::tell_survey;
 use crate::texts::cut_at;
 use crate::walks::tell_walks;
 use crate::{
-    endless, faults, held, labels, numbers, paths, plans, refusals, resets, resumes, stored,
+    endless, faults, held, labels, lists, numbers, paths, plans, refusals, resets, resumes, stored,
     surveys, walks,
 };
 use std::process::Abort;
@@ -58,6 +59,9 @@ const RESUMES: [&str; 9] = [
     resumes::STOPS,
 ];
 
+/// The texts of rows of lists in the marks of replays.
+const LISTS: [&str; 4] = [lists::KINDS, lists::TAKEN, lists::FORMS, lists::PATHS];
+
 /// The texts of rows of resets.
 const RESETS: [&str; 12] = [
     numbers::NUMBERS,
@@ -96,6 +100,7 @@ fn tell<R: AllocGlobal + Abort>(rt: &R, out: &mut String, row: &str) {
         "broken" | "call" => tell_faults(rt, out, verb, words),
         "resume" | "blocks" | "fails" | "stop" => tell_resumes(rt, out, verb, words),
         "held" => tell_held(rt, out, words),
+        "replay" | "listed" | "depth" => tell_lists(rt, out, verb, words),
         _ => tell_rewind(rt, out, verb, words),
     }
 }
@@ -126,6 +131,13 @@ fn each_row_of_a_rewind_is_answered(rt: HostRuntime) {
 #[test]
 fn each_row_of_a_resume_is_answered(rt: HostRuntime) {
     for text in RESUMES {
+        check(&rt, text);
+    }
+}
+
+#[test]
+fn each_row_of_a_list_is_answered(rt: HostRuntime) {
+    for text in LISTS {
         check(&rt, text);
     }
 }

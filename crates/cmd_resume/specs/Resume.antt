@@ -8,7 +8,7 @@ use Rattle.cluster_tree.specs.Run.{Moment}
 use Rattle.marked_runs.specs.Moments.{IsMarked, IsUntouched, StandsSynced}
 use Rattle.rewind_core.specs.Over.{without_own}
 use Rattle.rewind_survey.specs.declared.outcome.Told.{Told}
-use Rattle.plan_text.specs.Paths.{parts_below}
+use Rattle.mark_lines.specs.Paths.{parts_below}
 use Rattle.plan_text.specs.Text.{Saying}
 use Rattle.resume_core.specs.Stored.{stored_of}
 use Rattle.resume_core.specs.declared.fault.ResumeFault.{ResumeFault}

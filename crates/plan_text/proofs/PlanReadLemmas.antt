@@ -9,13 +9,16 @@ use Rattle.hex.specs.Hex.{IsBytes}
 use Rattle.wal_base.proofs.DecimalLemmas.{decimal_read}
 use Rattle.cluster_tree.specs.PathValue.{PathValue}
 use Rattle.rewind_survey.specs.declared.outcome.Told.{Told}
-use Rattle.plan_text.specs.Words.{bytes_in, line, lsn_in, sum_in}
+use Rattle.mark_lines.specs.Words.{bytes_in, line}
+use Rattle.plan_text.specs.Words.{lsn_in, sum_in}
 use Rattle.plan_text.specs.Text.{Saying, bytes_line, plan_text, source_line, step_lines, told_line}
-use Rattle.plan_text.specs.Reading.{Closing, behind_head, bytes_of, closing_in, control_of, end_of, pieces_of, said_first, said_in, sized_control, source_of, steps_in, tli_in, told_by, told_of, told_with, with_closing}
+use Rattle.plan_text.specs.Reading.{Closing, behind_head, bytes_of, closing_in, control_of, said_in, sized_control, source_of, steps_in, tli_in, told_by, told_of, told_with, with_closing}
+use Rattle.mark_lines.specs.Lines.{end_of, pieces_of, said_first}
 use Rattle.plan_text.specs.Laws.{IsSaid, IsTold, PlansHaveOneText, ReadPlansAreSaid}
-use Rattle.plan_text.proofs.DigitReadLemmas.{bytes_known, lsn_known}
-use Rattle.plan_text.proofs.LineReadLemmas.{end_known, first_known}
-use Rattle.plan_text.proofs.OptionLemmas.{and_then_ok, if_some, map_some}
+use Rattle.mark_lines.proofs.DigitReadLemmas.{bytes_known}
+use Rattle.plan_text.proofs.PositionLemmas.{lsn_known}
+use Rattle.mark_lines.proofs.LineReadLemmas.{end_known, first_known}
+use Rattle.mark_lines.proofs.OptionLemmas.{and_then_ok, if_some, map_some}
 use Rattle.plan_text.proofs.StepReadLemmas.{steps_known}
 use Rattle.plan_text.proofs.SumLemmas.{sum_known}
 

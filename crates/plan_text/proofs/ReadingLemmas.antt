@@ -5,9 +5,10 @@ use Rattle.rewind_survey.specs.declared.outcome.Told.{Told}
 use Rattle.rewind_writes.specs.declared.step.Step.{Step}
 use Rattle.plan_text.specs.declared.fault.StoredFault.{StoredFault}
 use Rattle.plan_text.specs.declared.fault.StoredFault.TheVariants.{BadPlan, OutOfMemory}
-use Rattle.plan_text.specs.Reading.{and_then, behind_head, closing_in, said_first, said_in, source_of, steps_in, told_of, with_closing}
+use Rattle.mark_lines.specs.Lines.{and_then, said_first}
+use Rattle.plan_text.specs.Reading.{behind_head, closing_in, said_in, source_of, steps_in, told_of, with_closing}
 use Rattle.plan_text.specs.Stored.{IsFault}
-use Rattle.plan_text.proofs.StepLemmas.{behind}
+use Rattle.mark_lines.proofs.LineLemmas.{behind}
 
 -- a fault stays one
 pub fault_kept : {A B : Type 0} (m : Result A ℕ) (n : Result B ℕ) (fault : StoredFault) → ((k : ℕ) → m ≡ Err k → n ≡ Err k) → IsFault m fault → IsFault n fault

@@ -2,7 +2,6 @@
 use Rattle.std.proofs.Common.{◌≡◌, ℕ, suc, ◌+◌, ◌<◌, ◌≤◌, ◌^◌, true, List, [], ◌∷◌, ◌++◌, codes, decimal, drop, length, nat_le, nat_lt, None, Some, option_and_then, option_map, refl, sym, ap, ◌∙◌, arith, append_assoc, if◌then◌else◌}
 use Rattle.std.proofs.lemmas.Bool.{and_parts}
 use Rattle.std.proofs.lemmas.Bool.Decides.{nat_tests}
-use Rattle.std.proofs.lemmas.Str.{IsUtf8-from_is_utf8}
 use Rattle.std.specs.List.{join_with_byte, list_all}
 use Rattle.std.specs.Str.{is_utf8}
 use Rattle.wal_base.proofs.HexDigits.{and_both}
@@ -10,31 +9,29 @@ use Rattle.cluster_tree.specs.PathValue.{PathValue, below}
 use Rattle.cluster_tree.proofs.RootLemmas.{held-below}
 use Rattle.rewind_writes.specs.declared.step.Step.{Step}
 use Rattle.rewind_writes.specs.declared.step.Step.TheVariants.{Folder, Whole, Cut, Range, Remove}
-use Rattle.plan_text.specs.Words.{line}
-use Rattle.plan_text.specs.Paths.{parts_below, parts_in, path_word, way_of}
-use Rattle.plan_text.specs.Steps.{depth, of_size, range_in, size_in, step_of, step_words, turn}
+use Rattle.mark_lines.specs.Words.{line, size_in}
+use Rattle.mark_lines.specs.Paths.{parts_below, path_word, way_of}
+use Rattle.plan_text.specs.Paths.{step_parts_in}
+use Rattle.plan_text.specs.Steps.{depth, of_size, range_in, step_of, step_words, turn}
 use Rattle.plan_text.specs.Text.{step_lines}
-use Rattle.plan_text.specs.Reading.{first_step, in_turn, next_step, pieces_of, steps_in}
+use Rattle.plan_text.specs.Reading.{first_step, in_turn, next_step, steps_in}
+use Rattle.mark_lines.specs.Lines.{pieces_of}
 use Rattle.plan_text.specs.Laws.{AllAreBetween, InTurn, IsBelow, IsBetween, IsCopied, are_texts, is_text}
-use Rattle.plan_text.proofs.DigitLemmas.{decimal_back, plain_bytes, plain_decimal}
-use Rattle.plan_text.proofs.LineLemmas.{are_plain, first_back, is_plain, line_back, words_back}
+use Rattle.mark_lines.proofs.DigitLemmas.{plain_decimal, plain_path, size_back}
+use Rattle.mark_lines.proofs.LineLemmas.{are_plain, first_back, is_plain, line_back, words_back}
 use Rattle.plan_text.proofs.StepLemmas.{ended, led}
-use Rattle.plan_text.proofs.Utf8Lemmas.{utf8_bytes}
-use Rattle.plan_text.proofs.WayBackLemmas.{parts_back}
+use Rattle.plan_text.proofs.OwnWayLemmas.{parts_back}
 
 -- a step at a path is read from the path's word
 made_back : (room : ℕ) (root path : PathValue) (make : List (List ℕ) → Step) (step : Step) → IsBelow room root path → is_utf8 (way_of root path) ≡ true
-    → make (parts_below root path) ≡ step → option_map make (parts_in room (path_word root path)) ≡ Some step
+    → make (parts_below root path) ≡ step → option_map make (step_parts_in room (path_word root path)) ≡ Some step
 made_back room root path make step is text e = ap (option_map make) (parts_back room (parts_below root path) is.way text) ∙ ap Some e
 
 placed : (room : ℕ) (root path : PathValue) → IsBelow room root path → below root (parts_below root path) ≡ path
 placed room root path is = sym (held-below root path is.held)
 
-size_back : (n : ℕ) → n < 2 ^ 64 → size_in (decimal n) ≡ Some n
-size_back n h = decimal_back (2 ^ 64) n (omega arith) h
-
 whole_back : (target source from to : PathValue) (size : ℕ) → IsCopied target source from to → is_utf8 (way_of target to) ≡ true
-    → option_map (λ parts. Whole (below source parts) (below target parts) size) (parts_in (depth target source) (path_word target to)) ≡ Some (Whole from to size)
+    → option_map (λ parts. Whole (below source parts) (below target parts) size) (step_parts_in (depth target source) (path_word target to)) ≡ Some (Whole from to size)
 whole_back target source from to size is text =
     made_back (depth target source) target to (λ parts. Whole (below source parts) (below target parts) size) (Whole from to size) is.placed text
     (λ i. Whole (sym is.same i) (placed (depth target source) target to is.placed i) size)
@@ -43,7 +40,7 @@ range_back : (target source from to : PathValue) (at size : ℕ) → IsCopied ta
     → at + size < 2 ^ 64 → range_in target source (path_word target to) at size ≡ Some (Range from to at size)
 range_back target source from to at size is text fits =
     let test : nat_lt (at + size) (2 ^ 64) ≡ true = grind (arith, nat_tests, fits) in
-    ap (λ b. if b then option_map (λ parts. Range (below source parts) (below target parts) at size) (parts_in (depth target source) (path_word target to)) else None) test
+    ap (λ b. if b then option_map (λ parts. Range (below source parts) (below target parts) at size) (step_parts_in (depth target source) (path_word target to)) else None) test
     ∙ made_back (depth target source) target to (λ parts. Range (below source parts) (below target parts) at size) (Range from to at size) is.placed text
     (λ i. Range (sym is.same i) (placed (depth target source) target to is.placed i) at size)
 
@@ -63,9 +60,6 @@ step_back target source (Remove path) is text =
     made_back (length target.parts) target path (λ parts. Remove (below target parts)) (Remove path) is text (ap Remove (placed (length target.parts) target path is))
 
 -- its words are plain
-plain_path : (root path : PathValue) → is_utf8 (way_of root path) ≡ true → list_all is_plain (path_word root path) ≡ true
-plain_path root path text = plain_bytes (way_of root path) (utf8_bytes (way_of root path) (IsUtf8-from_is_utf8 (way_of root path) text))
-
 plain_step : (target source : PathValue) (step : Step) → IsBetween target source step → is_text target step ≡ true → are_plain (step_words target step) ≡ true
 plain_step target source (Folder path) is text = and_both (list_all is_plain (path_word target path)) true (plain_path target path text) refl
 plain_step target source (Whole from to size) is text =

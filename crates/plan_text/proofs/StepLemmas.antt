@@ -1,16 +1,16 @@
 -- The steps that lines say.
-use Rattle.std.proofs.Common.{◌≡◌, ℕ, ◌+◌, ◌<◌, ◌≤◌, ◌^◌, Bool, true, false, List, [], ◌∷◌, ◌++◌, length, drop, map, slice_range, nat_le, nat_lt, Option, None, Some, IfSome, option_and_then, option_map, refl, sym, ap, ◌∙◌, arith, bytes_eq, codes, append_assoc, length-append, length-drop, if◌then◌else◌}
+use Rattle.std.proofs.Common.{◌≡◌, ℕ, ◌+◌, ◌<◌, ◌≤◌, ◌^◌, Bool, true, false, List, [], ◌∷◌, ◌++◌, length, drop, nat_le, nat_lt, Option, None, Some, IfSome, option_and_then, option_map, refl, sym, ap, ◌∙◌, arith, bytes_eq, codes, append_assoc, length-append, length-drop, if◌then◌else◌}
 use Rattle.std.proofs.lemmas.Bool.Decides.{nat_tests}
-use Rattle.std.proofs.lemmas.List.{append-nil, drop-drop, drop-map}
-use Rattle.std.proofs.lemmas.Slice.{between_to_end}
+use Rattle.std.proofs.lemmas.List.{append-nil, drop-drop}
 use Rattle.cluster_tree.specs.PathValue.{PathValue, below}
 use Rattle.rewind_writes.specs.declared.step.Step.{Step}
 use Rattle.rewind_writes.specs.declared.step.Step.TheVariants.{Folder, Whole, Cut, Range, Remove}
 use Rattle.rewind_writes.specs.Steps.{AllAreFit, IsFit}
-use Rattle.plan_text.specs.Paths.{parts_in}
-use Rattle.plan_text.specs.Steps.{cut_in, folder_in, of_size, parts_both, pathed, range_in, ranged, removed_in, size_in, step_of, turn, whole_in}
-use Rattle.plan_text.specs.Reading.{first_step, in_turn, led_by, next_step, steps_in}
-use Rattle.plan_text.specs.Words.{words_of}
+use Rattle.mark_lines.specs.Lines.{led_by}
+use Rattle.mark_lines.specs.Words.{size_in, words_of}
+use Rattle.plan_text.specs.Paths.{step_parts_in}
+use Rattle.plan_text.specs.Steps.{cut_in, folder_in, of_size, parts_both, pathed, range_in, ranged, removed_in, step_of, turn, whole_in}
+use Rattle.plan_text.specs.Reading.{first_step, in_turn, next_step, steps_in}
 
 -- a step has at least two words, and fewer than five
 pub without_words : (target source : PathValue) (words : List (List ℕ)) → length words < 2 → None ≡ step_of target source words
@@ -25,10 +25,6 @@ with_more target source (a ∷ b ∷ []) many = absurd (omega (arith, many))
 with_more target source (a ∷ b ∷ c ∷ []) many = absurd (omega (arith, many))
 with_more target source (a ∷ b ∷ c ∷ d ∷ []) many = absurd (omega (arith, many))
 with_more target source (a ∷ b ∷ c ∷ d ∷ e ∷ words) many = refl
-
--- what stands behind so many pieces
-pub behind : {X : Type 0} (f : X → List ℕ) (pieces : List X) (k n : ℕ) → k ≡ n → map f (slice_range pieces k (length pieces)) ≡ drop n (map f pieces)
-behind f pieces k n e = ap (map f) (between_to_end pieces k (length pieces) (omega arith)) ∙ sym (drop-map f k pieces) ∙ ap (λ m. drop m (map f pieces)) e
 
 -- a step in its turn, and those behind it
 pub led : (target source : PathValue) (least : ℕ) (pieces : List (List ℕ)) (step : Step) → first_step target source least pieces ≡ Some step
@@ -91,7 +87,7 @@ fit_pathed target source verb path =
     fit_chosen (bytes_eq verb (codes "folder")) (folder_in target source path) _
     (fit_made (λ parts. Folder (below target parts)) (parts_both target source path) (λ parts. tt))
     (fit_chosen (bytes_eq verb (codes "remove")) (removed_in target path) None
-    (fit_made (λ parts. Remove (below target parts)) (parts_in (length target.parts) path) (λ parts. tt)) tt)
+    (fit_made (λ parts. Remove (below target parts)) (step_parts_in (length target.parts) path) (λ parts. tt)) tt)
 
 fit_of_size : (target source : PathValue) (verb path : List ℕ) (size : ℕ) → IfSome (of_size target source verb path size) IsFit
 fit_of_size target source verb path size =

@@ -4,20 +4,21 @@ use Rattle.std.proofs.lemmas.Bool.Decides.{nat_tests}
 use Rattle.std.proofs.lemmas.Option.{option_and_then_some}
 use Rattle.std.proofs.lemmas.Slice.Eq.{bytes_eq-Decides}
 use Rattle.std.specs.List.{join_with_byte}
-use Rattle.wal_base.proofs.DecimalLemmas.{decimal_read}
+use Rattle.mark_lines.proofs.DigitReadLemmas.{size_known}
 use Rattle.wal_base.proofs.HexDigits.{and_both}
 use Rattle.cluster_tree.specs.PathValue.{PathValue, below}
 use Rattle.rewind_writes.specs.declared.step.Step.{Step}
 use Rattle.rewind_writes.specs.declared.step.Step.TheVariants.{Folder, Whole, Cut, Range, Remove}
-use Rattle.plan_text.specs.Words.{line, words_of}
-use Rattle.plan_text.specs.Paths.{parts_in}
-use Rattle.plan_text.specs.Steps.{cut_in, depth, folder_in, of_size, parts_both, pathed, range_in, ranged, removed_in, size_in, sized, step_of, step_words, turn, whole_in}
+use Rattle.mark_lines.specs.Words.{line, words_of, size_in}
+use Rattle.plan_text.specs.Paths.{step_parts_in}
+use Rattle.plan_text.specs.Steps.{cut_in, depth, folder_in, of_size, parts_both, pathed, range_in, ranged, removed_in, sized, step_of, step_words, turn, whole_in}
 use Rattle.plan_text.specs.Text.{step_lines}
-use Rattle.plan_text.specs.Reading.{in_turn, led_by, next_step, steps_in}
+use Rattle.plan_text.specs.Reading.{in_turn, next_step, steps_in}
+use Rattle.mark_lines.specs.Lines.{led_by}
 use Rattle.plan_text.specs.Laws.{AllAreBetween, InTurn, IsBetween, IsCopied, are_texts, is_text}
-use Rattle.plan_text.proofs.LineReadLemmas.{line_joined}
-use Rattle.plan_text.proofs.OptionLemmas.{choice, if_some, map_some}
-use Rattle.plan_text.proofs.WayReadLemmas.{IsPlaced, parts_known}
+use Rattle.mark_lines.proofs.LineReadLemmas.{line_joined}
+use Rattle.mark_lines.proofs.OptionLemmas.{choice, if_some, map_some}
+use Rattle.plan_text.proofs.OwnWayLemmas.{IsPlaced, step_parts_known}
 
 -- what is known of a step that words say
 record IsKnown (target source : PathValue) (words : List (List ℕ)) (step : Step) : Type 0 where
@@ -29,20 +30,17 @@ module _ (target source : PathValue) where
   verb_is : (verb name : List ℕ) → bytes_eq verb name ≡ true → name ≡ verb
   verb_is verb name e = sym ((bytes_eq-Decides verb name).0 e)
 
-  size_known : (word : List ℕ) (n : ℕ) → size_in word ≡ Some n → (n < 2 ^ 64) × (decimal n ≡ word)
-  size_known word n e = let r = decimal_read (2 ^ 64) n word (omega arith) e in (r.0, sym r.1)
-
   copied : (word : List ℕ) (parts : List (List ℕ)) → IsPlaced (depth target source) target word parts → IsCopied target source (below source parts) (below target parts)
   copied word parts p = record { placed = p.placed; same = ap (below source) (sym p.behind) }
 
   folder_known : (verb word : List ℕ) (step : Step) → codes "folder" ≡ verb → folder_in target source word ≡ Some step → IsKnown target source (verb ∷ word ∷ []) step
   folder_known verb word step v e = map_some (λ parts. Folder (below target parts)) (parts_both target source word) step e (λ parts ep is.
-      let p = parts_known (depth target source) target word parts ep in
+      let p = step_parts_known (depth target source) target word parts ep in
       subst (IsKnown target source (verb ∷ word ∷ [])) is (record { between = p.placed; text = p.text; same = λ i. v i ∷ p.digits i ∷ [] }))
 
   removed_known : (verb word : List ℕ) (step : Step) → codes "remove" ≡ verb → removed_in target word ≡ Some step → IsKnown target source (verb ∷ word ∷ []) step
-  removed_known verb word step v e = map_some (λ parts. Remove (below target parts)) (parts_in (length target.parts) word) step e (λ parts ep is.
-      let p = parts_known (length target.parts) target word parts ep in
+  removed_known verb word step v e = map_some (λ parts. Remove (below target parts)) (step_parts_in (length target.parts) word) step e (λ parts ep is.
+      let p = step_parts_known (length target.parts) target word parts ep in
       subst (IsKnown target source (verb ∷ word ∷ [])) is (record { between = p.placed; text = p.text; same = λ i. v i ∷ p.digits i ∷ [] }))
 
   pathed_known : (verb word : List ℕ) (step : Step) → pathed target source verb word ≡ Some step → IsKnown target source (verb ∷ word ∷ []) step
@@ -53,14 +51,14 @@ module _ (target source : PathValue) where
   whole_known : (verb word size : List ℕ) (n : ℕ) (step : Step) → codes "whole" ≡ verb → (n < 2 ^ 64) × (decimal n ≡ size) → whole_in target source word n ≡ Some step
       → IsKnown target source (verb ∷ word ∷ size ∷ []) step
   whole_known verb word size n step v s e = map_some (λ parts. Whole (below source parts) (below target parts) n) (parts_both target source word) step e (λ parts ep is.
-      let p = parts_known (depth target source) target word parts ep in
+      let p = step_parts_known (depth target source) target word parts ep in
       subst (IsKnown target source (verb ∷ word ∷ size ∷ [])) is
       (record { between = (copied word parts p, s.0); text = p.text; same = λ i. v i ∷ p.digits i ∷ s.1 i ∷ [] }))
 
   cut_known : (verb word size : List ℕ) (n : ℕ) (step : Step) → codes "cut" ≡ verb → (n < 2 ^ 64) × (decimal n ≡ size) → cut_in target source word n ≡ Some step
       → IsKnown target source (verb ∷ word ∷ size ∷ []) step
   cut_known verb word size n step v s e = map_some (λ parts. Cut (below target parts) n) (parts_both target source word) step e (λ parts ep is.
-      let p = parts_known (depth target source) target word parts ep in
+      let p = step_parts_known (depth target source) target word parts ep in
       subst (IsKnown target source (verb ∷ word ∷ size ∷ [])) is (record { between = (p.placed, s.0); text = p.text; same = λ i. v i ∷ p.digits i ∷ s.1 i ∷ [] }))
 
   sized_known : (verb word size : List ℕ) (step : Step) → sized target source verb word size ≡ Some step → IsKnown target source (verb ∷ word ∷ size ∷ []) step
@@ -75,7 +73,7 @@ module _ (target source : PathValue) where
       let f = if_some (nat_lt (m + n) (2 ^ 64)) (option_map (λ parts. Range (below source parts) (below target parts) m n) (parts_both target source word)) step e in
       let fits : m + n < 2 ^ 64 = grind (arith, nat_tests, f.0) in
       map_some (λ parts. Range (below source parts) (below target parts) m n) (parts_both target source word) step f.1 (λ parts ep is.
-      let p = parts_known (depth target source) target word parts ep in
+      let p = step_parts_known (depth target source) target word parts ep in
       subst (IsKnown target source (verb ∷ word ∷ at ∷ size ∷ [])) is
       (record { between = (copied word parts p, fits); text = p.text; same = λ i. v i ∷ p.digits i ∷ a i ∷ s i ∷ [] }))
 

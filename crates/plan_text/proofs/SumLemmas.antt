@@ -12,7 +12,9 @@ use Rattle.std.specs.Str.Parse.{ParsesUnsigned, AllDigits, digits_value, without
 use Rattle.wal_base.specs.Hex.{hex8, hex_digits, hex_value, is_upper_hex}
 use Rattle.wal_base.proofs.HexDigits.{all_hex_from_upper, and_both, digits_from_hex, hex_digits-value, length-hex_digits, upper-hex_digits, value-hex_digits, value_below}
 use Rattle.plan_text.specs.Words.{is_sum, sum_in}
-use Rattle.plan_text.proofs.OptionLemmas.{if_some}
+use Rattle.mark_lines.proofs.DigitLemmas.{plain_by}
+use Rattle.mark_lines.proofs.LineLemmas.{is_plain}
+use Rattle.mark_lines.proofs.OptionLemmas.{if_some}
 
 record IsSum (word : List ℕ) : Type 0 where
   upper : list_all is_upper_hex word ≡ true
@@ -65,3 +67,7 @@ sum_known word n e =
     let value : hex_value word ≡ n = let g = f.1 in cc in
     let low = value_below word 8 (digits_from_hex word (all_hex_from_upper word s.upper)) (omega (arith, s.size)) in
     (omega (arith, low, value), ap (hex_digits 8) (sym value) ∙ ap (λ k. hex_digits k (hex_value word)) (sym s.size) ∙ hex_digits-value word s.upper)
+
+-- its digits are plain
+pub plain_sum : (n : ℕ) → list_all is_plain (hex8 n) ≡ true
+plain_sum n = plain_by is_upper_hex (λ c e. grind (arith, nat_tests)) (hex8 n) (upper-hex_digits 8 n)

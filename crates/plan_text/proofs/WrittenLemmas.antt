@@ -6,16 +6,18 @@ use Rattle.wal_base.specs.Hex.{hex8}
 use Rattle.wal_base.proofs.HexDigits.{and_both}
 use Rattle.cluster_tree.specs.PathValue.{PathValue}
 use Rattle.rewind_survey.specs.declared.outcome.Told.{Told}
-use Rattle.plan_text.specs.Words.{line}
+use Rattle.mark_lines.specs.Words.{line}
 use Rattle.plan_text.specs.Steps.{step_of}
 use Rattle.plan_text.specs.Text.{Saying, bytes_line, plan_text, source_line, step_lines, told_line, told_words}
-use Rattle.plan_text.specs.Reading.{and_then, behind_head, bytes_of, closing_in, control_of, end_of, ended_by, first_step, in_turn, next_step, pieces_of, said_first, sized_control, source_of, told_of, with_closing}
+use Rattle.mark_lines.specs.Lines.{and_then, end_of, ended_by, pieces_of, said_first}
+use Rattle.plan_text.specs.Reading.{behind_head, bytes_of, closing_in, control_of, first_step, in_turn, next_step, sized_control, source_of, told_of, with_closing}
 use Rattle.plan_text.specs.Laws.{IsSaid, IsTold, PlanTextsAreRead}
-use Rattle.plan_text.proofs.DigitLemmas.{bytes_back, plain_bytes, plain_sum, told_back, told_plain}
-use Rattle.plan_text.proofs.LineLemmas.{are_plain, first_back, is_plain, line_back, said_line, words_back}
+use Rattle.mark_lines.proofs.DigitLemmas.{bytes_back, plain_bytes}
+use Rattle.plan_text.proofs.SumLemmas.{plain_sum, sum_back}
+use Rattle.plan_text.proofs.ToldLemmas.{told_back, told_plain}
+use Rattle.mark_lines.proofs.LineLemmas.{are_plain, first_back, is_plain, line_back, said_line, words_back}
 use Rattle.plan_text.proofs.ReadingLemmas.{closed, headed}
 use Rattle.plan_text.proofs.StepBackLemmas.{behind_steps, steps_back}
-use Rattle.plan_text.proofs.SumLemmas.{sum_back}
 
 -- the label, the control file and the end
 abbrev end_line : List ℕ

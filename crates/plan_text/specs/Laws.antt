@@ -7,7 +7,8 @@ use Rattle.cluster_tree.specs.PathValue.{PathValue, Holds, below, is_part}
 use Rattle.rewind_survey.specs.declared.outcome.Told.{Told}
 use Rattle.rewind_writes.specs.declared.step.Step.{Step}
 use Rattle.rewind_writes.specs.declared.step.Step.TheVariants.{Folder, Whole, Cut, Range, Remove}
-use Rattle.plan_text.specs.Paths.{is_kept_out, parts_below, way_of}
+use Rattle.mark_lines.specs.Paths.{parts_below, way_of}
+use Rattle.plan_text.specs.Paths.{is_kept_out}
 use Rattle.plan_text.specs.Steps.{depth, turn}
 use Rattle.plan_text.specs.Text.{Saying, plan_text}
 use Rattle.plan_text.specs.Reading.{said_of}

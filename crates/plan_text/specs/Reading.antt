@@ -1,12 +1,13 @@
 -- What the plan in a mark says, or its first line that is at fault. Own: "The plan of a rewind as text".
-use Rattle.std.specs.Prelude.{ℕ, ◌+◌, ◌^◌, ◌==◌, List, [], ◌∷◌, bytes_eq, codes, drop, length, nat_le, Option, None, Some, Result, Ok, Err, option_and_then, option_map, if◌then◌else◌}
-use Rattle.std.specs.List.{slice_split}
+use Rattle.std.specs.Prelude.{ℕ, ◌+◌, ◌^◌, ◌==◌, List, [], ◌∷◌, bytes_eq, codes, drop, length, nat_le, Option, None, Some, Result, Ok, option_and_then, option_map, if◌then◌else◌}
 use Rattle.cluster_tree.specs.PathValue.{PathValue}
 use Rattle.wal_base.specs.Decimal.{decimal_number}
 use Rattle.wal_base.specs.declared.lsn.Lsn.{Lsn}
 use Rattle.rewind_survey.specs.declared.outcome.Told.{Told}
 use Rattle.rewind_writes.specs.declared.step.Step.{Step}
-use Rattle.plan_text.specs.Words.{bytes_in, lsn_in, sum_in, words_of}
+use Rattle.mark_lines.specs.Words.{bytes_in, words_of}
+use Rattle.mark_lines.specs.Lines.{and_then, end_of, ended_by, first_line, led_by, pieces_of, said_first}
+use Rattle.plan_text.specs.Words.{lsn_in, sum_in}
 use Rattle.plan_text.specs.Steps.{step_of, turn}
 use Rattle.plan_text.specs.Text.{Saying}
 
@@ -46,34 +47,6 @@ sized_control bytes = if length bytes == 8192 then Some bytes else None
 abbrev pub control_of : List (List ℕ) → Option (List ℕ)
 control_of words = option_and_then sized_control (bytes_of (codes "control") words)
 
--- the last line
-abbrev pub end_of : List (List ℕ) → Option (Unit {0})
-end_of (verb ∷ []) = if bytes_eq verb (codes "end") then Some tt else None
-end_of words = None
-
--- the pieces of a text between its newlines: its lines, and what stands behind the last newline, which is no line
-abbrev pub pieces_of : List ℕ → List (List ℕ)
-pieces_of text = slice_split (λ byte. byte == 10) text
-
--- the first line, and what stands behind it
-abbrev pub first_line : List (List ℕ) → Option (List ℕ × List (List ℕ))
-first_line (line ∷ (next ∷ more)) = Some (line, next ∷ more)
-first_line pieces = None
-
--- the line of a number is at fault where there is no value
-abbrev pub or_at : {A B : Type 0} → ℕ → Option A → (A → Result B ℕ) → Result B ℕ
-or_at number (Some value) more = more value
-or_at number None more = Err number
-
--- what the first line says, and what stands behind it; a line of another form is at fault
-abbrev pub said_first : {A : Type 0} → (List (List ℕ) → Option A) → ℕ → List (List ℕ) → Result (A × List (List ℕ)) ℕ
-said_first form n pieces = or_at n (first_line pieces) (λ cut. or_at n (form (words_of cut.0)) (λ value. Ok (value, cut.1)))
-
--- what is read next, unless a line was at fault
-abbrev pub and_then : {A B : Type 0} → Result A ℕ → (A → Result B ℕ) → Result B ℕ
-and_then (Ok value) more = more value
-and_then (Err n) more = Err n
-
 -- the step that a line says, where its turn is come
 abbrev pub in_turn : ℕ → Step → Option Step
 in_turn least step = if nat_le least (turn step) then Some step else None
@@ -86,22 +59,12 @@ next_step target source least line = option_and_then (in_turn least) (step_of ta
 abbrev pub first_step : (target source : PathValue) → ℕ → List (List ℕ) → Option Step
 first_step target source least pieces = option_and_then (λ cut. next_step target source least cut.0) (first_line pieces)
 
--- a step and those behind it, if there is one
-abbrev pub led_by : Option Step → (Step → List Step) → List Step
-led_by None more = []
-led_by (Some step) more = step ∷ more step
-
 -- the steps at the front, each in its turn
 unfoldable pub steps_in : (target source : PathValue) → ℕ → List (List ℕ) → List Step
 steps_in target source least [] = []
 steps_in target source least (line ∷ []) = []
 steps_in target source least (line ∷ (next ∷ more)) =
     led_by (next_step target source least line) (λ step. steps_in target source (turn step) (next ∷ more))
-
--- nothing stands behind the last line
-abbrev pub ended_by : {A : Type 0} → A → ℕ → List (List ℕ) → Result A ℕ
-ended_by value n ([] ∷ []) = Ok value
-ended_by value n pieces = Err n
 
 -- what stands in the lines behind the steps
 pub record Closing : Type 0 where

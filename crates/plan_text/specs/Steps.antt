@@ -1,10 +1,11 @@
 -- The steps of a plan as lines. Own: "The plan of a rewind as text".
 use Rattle.std.specs.Prelude.{ℕ, ◌+◌, ◌^◌, List, [], ◌∷◌, bytes_eq, codes, decimal, length, max, nat_lt, Option, None, option_and_then, option_map, if◌then◌else◌}
 use Rattle.cluster_tree.specs.PathValue.{PathValue, below}
-use Rattle.wal_base.specs.Decimal.{decimal_number}
 use Rattle.rewind_writes.specs.declared.step.Step.{Step}
 use Rattle.rewind_writes.specs.declared.step.Step.TheVariants.{Folder, Whole, Cut, Range, Remove}
-use Rattle.plan_text.specs.Paths.{parts_in, path_word}
+use Rattle.mark_lines.specs.Words.{size_in}
+use Rattle.mark_lines.specs.Paths.{path_word}
+use Rattle.plan_text.specs.Paths.{step_parts_in}
 
 -- the words of a step, paths below the target's root
 abbrev pub step_words : PathValue → Step → List (List ℕ)
@@ -14,24 +15,20 @@ step_words root (Cut path size) = codes "cut" ∷ path_word root path ∷ decima
 step_words root (Range from to at size) = codes "range" ∷ path_word root to ∷ decimal at ∷ decimal size ∷ []
 step_words root (Remove path) = codes "remove" ∷ path_word root path ∷ []
 
--- a number of 64 bits
-abbrev pub size_in : List ℕ → Option ℕ
-size_in word = decimal_number (2 ^ 64) word
-
 -- how many parts the longer root has
 abbrev pub depth : (target source : PathValue) → ℕ
 depth target source = max (length target.parts) (length source.parts)
 
 -- the parts of a path that has room below both roots
 abbrev pub parts_both : (target source : PathValue) → List ℕ → Option (List (List ℕ))
-parts_both target source word = parts_in (depth target source) word
+parts_both target source word = step_parts_in (depth target source) word
 
 -- a folder that is made, and what goes
 abbrev pub folder_in : (target source : PathValue) → List ℕ → Option Step
 folder_in target source word = option_map (λ parts. Folder (below target parts)) (parts_both target source word)
 
 abbrev pub removed_in : PathValue → List ℕ → Option Step
-removed_in target word = option_map (λ parts. Remove (below target parts)) (parts_in (length target.parts) word)
+removed_in target word = option_map (λ parts. Remove (below target parts)) (step_parts_in (length target.parts) word)
 
 -- a file that is copied whole, and one that is cut
 abbrev pub whole_in : (target source : PathValue) → List ℕ → ℕ → Option Step

@@ -8,7 +8,7 @@ use Rattle.wal_base.specs.Lsn.{lsn_text}
 use Rattle.rewind_survey.specs.declared.outcome.Told.{Told}
 use Rattle.rewind_writes.specs.declared.step.Step.{Step}
 use Rattle.plan_text.specs.declared.stored.StoredPlan.{StoredPlan}
-use Rattle.plan_text.specs.Words.{line}
+use Rattle.mark_lines.specs.Words.{line}
 use Rattle.plan_text.specs.Steps.{step_words}
 
 -- what a text says: the sum of the source's control file, from where is rewound, the steps, and the bytes of the label and the control file

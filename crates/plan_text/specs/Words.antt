@@ -1,32 +1,9 @@
--- The words of a plan's lines. Own: "The plan of a rewind as text".
-use Rattle.std.specs.Prelude.{ℕ, ◌==◌, ◌&&◌, ◌||◌, Bool, List, [], ◌∷◌, ◌++◌, bytes_eq, length, nat_le, Option, None, Some, Result, Ok, Err, option_and_then, if◌then◌else◌}
-use Rattle.std.specs.List.{join_with_byte, list_all, slice_split}
-use Rattle.hex.specs.Hex.{decode_of}
-use Rattle.hex.specs.declared.error.FromHexError.{FromHexError}
+-- The words of a plan's lines: positions and sums. Own: "The plan of a rewind as text".
+use Rattle.std.specs.Prelude.{ℕ, ◌==◌, ◌&&◌, Bool, List, bytes_eq, length, Option, None, Some, option_and_then, if◌then◌else◌}
+use Rattle.std.specs.List.{list_all}
 use Rattle.wal_base.specs.Hex.{hex_value, is_upper_hex}
 use Rattle.wal_base.specs.Lsn.{lsn_of, lsn_text}
 use Rattle.wal_base.specs.declared.lsn.Lsn.{Lsn}
-
--- a space between words, and a newline behind the last of them
-abbrev pub line : List (List ℕ) → List ℕ
-line words = join_with_byte 32 words ++ 10 ∷ []
-
--- the words of a line without its newline
-abbrev pub words_of : List ℕ → List (List ℕ)
-words_of text = slice_split (λ byte. byte == 32) text
-
--- the bytes that digits write, if they are such
-abbrev pub ok_of : Result (List ℕ) FromHexError → Option (List ℕ)
-ok_of (Ok bytes) = Some bytes
-ok_of (Err fault) = None
-
--- digits 0 to 9 and a to f, as `hex` writes them
-abbrev pub is_lower : ℕ → Bool
-is_lower byte = nat_le 48 byte && nat_le byte 57 || nat_le 97 byte && nat_le byte 102
-
--- the bytes that are written as two such digits each
-abbrev pub bytes_in : List ℕ → Option (List ℕ)
-bytes_in word = if list_all is_lower word then ok_of (decode_of word) else None
 
 -- a position, where this is its word
 abbrev pub shown_so : List ℕ → Lsn → Option Lsn

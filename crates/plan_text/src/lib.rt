@@ -3,7 +3,6 @@
 
 mod fault;
 mod laws;
-mod lines;
 mod mark;
 mod paths;
 mod reading;

@@ -1,14 +1,11 @@
-// Paths below a root, in a plan's text.
-ghost use Rattle.std.specs.Prelude.{◌≡◌, ◌+◌, ◌≤◌, ◌&&◌, length, string_bytes, bytes_eq, IfOk};
-ghost use Rattle.std.specs.List.{join_with_byte};
+// Paths that have a step of a plan.
+ghost use Rattle.std.specs.Prelude.{◌≡◌, ◌≤◌, string_bytes, IfOk};
 ghost use Rattle.std.specs.Option.{option_map};
-ghost use Rattle.cluster_tree.specs.PathValue.{kept_parts, parsed};
-ghost use Rattle.plan_text.specs.Paths.{is_kept_out, is_shown, is_way, way_in};
+ghost use Rattle.plan_text.specs.Paths.{is_kept_out, step_way_in};
 
-use crate::words::bytes_in;
-use cluster_tree::{OutOfMemory, Path, PathFault};
+use cluster_tree::OutOfMemory;
+use mark_lines::way_in;
 use std::alloc::Global;
-use std::str;
 
 /// Whether a file has no step of its own: the control file, and the marks.
 fn is_kept_out(text: &str) -> bool
@@ -20,48 +17,21 @@ fn is_kept_out(text: &str) -> bool
         || text == "pg_resetwal.unfinished"
 }
 
-/// Whether a path is one below a root of so many parts, and is shown as this text.
-fn is_shown(alloc: Global, depth: usize, path: &Path, text: &str) -> Result<bool, OutOfMemory>
-    requires { depth ≤ 64 }
-    ensures { IfOk result (λ is. is ≡ is_shown depth path.now text.now) }
-{
-    if path.is_absolute() || path.len() == 0 || path.len() + depth > 64 {
-        return Ok(false);
-    }
-    let shown = format!(in alloc; "{path}")?;
-    Ok(shown.as_str() == text)
-}
-
-/// Whether a text is the way to a path below a root of so many parts.
-fn is_way(alloc: Global, depth: usize, text: &str) -> Result<bool, OutOfMemory>
-    requires { depth ≤ 64 }
-    ensures { IfOk result (λ is. is ≡ is_way depth text.now) }
-{
-    match Path::parse(alloc, text) {
-        Ok(path) => Ok(is_shown(alloc, depth, &path, text)? && !is_kept_out(text)),
-        Err(PathFault::OutOfMemory) => Err(OutOfMemory),
-        Err(_) => Ok(false),
-    }
-}
-
-/// The way below a root of so many parts that a word says.
-pub(crate) fn way_in(
+/// The way below a root of so many parts that a step's word says.
+pub(crate) fn step_way_in(
     alloc: Global,
     depth: usize,
     word: &[u8],
 ) -> Result<Option<String>, OutOfMemory>
     requires { depth ≤ 64 }
-    ensures { IfOk result (λ way. option_map string_bytes way ≡ way_in depth word.now) }
+    ensures { IfOk result (λ way. option_map string_bytes way ≡ step_way_in depth word.now) }
 {
-    let Some(bytes) = bytes_in(alloc, word)? else {
+    let Some(way) = way_in(alloc, depth, word)? else {
         return Ok(None);
     };
-    let Ok(text) = str::from_utf8(&bytes) else {
-        return Ok(None);
-    };
-    if is_way(alloc, depth, text)? {
-        Ok(Some(String::from_str(alloc, text)?))
-    } else {
+    if is_kept_out(&way) {
         Ok(None)
+    } else {
+        Ok(Some(way))
     }
 }

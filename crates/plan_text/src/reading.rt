@@ -2,16 +2,17 @@
 ghost use Rattle.std.specs.Prelude.{◌≡◌, ◌+◌, ◌<◌, ◌^◌, ◌≤◌, codes, length, map, IfOk, MatchResult, Ok};
 ghost use Rattle.rewind_writes.specs.Steps.{AllAreFit};
 ghost use Rattle.plan_text.specs.Text.{said_by};
-ghost use Rattle.plan_text.specs.Reading.{behind_head, bytes_of, closing_in, control_of, end_of, said_first, said_in, said_of, source_of, told_of};
+ghost use Rattle.mark_lines.specs.Lines.{end_of, said_first};
+ghost use Rattle.plan_text.specs.Reading.{behind_head, bytes_of, closing_in, control_of, said_in, said_of, source_of, told_of};
 ghost use Rattle.plan_text.specs.Stored.{IsFault, IsPlacedAt};
 
 use crate::fault::StoredFault;
-use crate::lines::{first_line, pieces_of};
-use crate::saying::{bytes_of, control_of, end_of, source_of, told_of};
+use crate::saying::{bytes_of, control_of, source_of, told_of};
 use crate::steps::Roots;
 use crate::stored::StoredPlan;
 use crate::turns::steps_in;
 use cluster_tree::{OutOfMemory, Path};
+use mark_lines::{end_of, first_line, pieces_of};
 use rewind_survey::Told;
 use rewind_writes::{FileBytes, Plan, Step};
 use std::alloc::Global;

@@ -1,12 +1,12 @@
 // What the lines of a plan say but for its steps.
 ghost use Rattle.std.specs.Prelude.{◌≡◌, map, IfOk};
 ghost use Rattle.std.specs.Option.{option_map};
-ghost use Rattle.plan_text.specs.Words.{words_of};
-ghost use Rattle.plan_text.specs.Reading.{bytes_of, control_of, end_of, source_of, told_by, told_of};
+ghost use Rattle.mark_lines.specs.Words.{words_of};
+ghost use Rattle.plan_text.specs.Reading.{bytes_of, control_of, source_of, told_by, told_of};
 
-use crate::lines::words_of;
-use crate::words::{bytes_in, lsn_in, sum_in};
+use crate::words::{lsn_in, sum_in};
 use cluster_tree::OutOfMemory;
+use mark_lines::{bytes_in, words_of};
 use rewind_survey::{Divergence, Told};
 use std::alloc::Global;
 use wal_base::decimal_u32;
@@ -80,16 +80,6 @@ pub(crate) fn control_of(alloc: Global, line: &[u8]) -> Result<Option<Vec<u8>>, 
 {
     match bytes_of(alloc, b"control", line)? {
         Some(bytes) if bytes.len() == 8192 => Ok(Some(bytes)),
-        _ => Ok(None),
-    }
-}
-
-/// Nothing more: the last line.
-pub(crate) fn end_of(alloc: Global, line: &[u8]) -> Result<Option<()>, OutOfMemory>
-    ensures { IfOk result (λ end. end ≡ end_of (words_of line.now)) }
-{
-    match words_of(alloc, line)?.as_slice() {
-        [verb] if *verb == b"end".as_slice() => Ok(Some(())),
         _ => Ok(None),
     }
 }

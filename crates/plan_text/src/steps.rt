@@ -3,10 +3,10 @@ ghost use Rattle.std.specs.Prelude.{◌≡◌, length, map, max, string_bytes, I
 ghost use Rattle.std.specs.Option.{option_map};
 ghost use Rattle.rewind_writes.specs.Steps.{IsFit};
 ghost use Rattle.cluster_tree.specs.Paths.{checked};
-ghost use Rattle.plan_text.specs.Paths.{way_in};
+ghost use Rattle.plan_text.specs.Paths.{step_way_in};
 ghost use Rattle.plan_text.specs.Steps.{cut_in, folder_in, pathed, range_in, ranged, removed_in, sized, step_of, turn, whole_in};
 
-use crate::paths::way_in;
+use crate::paths::step_way_in;
 use cluster_tree::{OutOfMemory, Path};
 use rewind_writes::Step;
 use std::alloc::Global;
@@ -23,14 +23,14 @@ pub(crate) struct Roots<'a> {
 
 /// The way of a path that has room below both roots.
 fn way_both(alloc: Global, roots: &Roots<'_>, word: &[u8]) -> Result<Option<String>, OutOfMemory>
-    ensures value { IfOk result (λ way. option_map string_bytes way ≡ way_in
+    ensures value { IfOk result (λ way. option_map string_bytes way ≡ step_way_in
         (max (length roots.now.target.now.parts) (length roots.now.source.now.parts)) word.now) }
     ensures target { IfOk result (λ way. IfSome way (λ text.
         checked (length roots.now.target.now.parts) (string_bytes text) ≡ Ok tt)) }
     ensures source { IfOk result (λ way. IfSome way (λ text.
         checked (length roots.now.source.now.parts) (string_bytes text) ≡ Ok tt)) }
 {
-    way_in(alloc, roots.target.len().max(roots.source.len()), word)
+    step_way_in(alloc, roots.target.len().max(roots.source.len()), word)
 }
 
 /// A folder that is made.
@@ -48,7 +48,7 @@ fn folder(alloc: Global, roots: &Roots<'_>, path: &[u8]) -> Result<Option<Step>,
 fn removed(alloc: Global, root: &Path, path: &[u8]) -> Result<Option<Step>, OutOfMemory>
     ensures { IfOk result (λ step. step ≡ removed_in root.now path.now) }
 {
-    let Some(way) = way_in(alloc, root.len(), path)? else {
+    let Some(way) = step_way_in(alloc, root.len(), path)? else {
         return Ok(None);
     };
     Ok(Some(Step::Remove(root.below(alloc, &way)?)))

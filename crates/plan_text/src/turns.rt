@@ -2,9 +2,9 @@
 ghost use Rattle.std.specs.Prelude.{◌≡◌, ◌≤◌, length, map, IfOk};
 ghost use Rattle.plan_text.specs.Reading.{first_step, in_turn, next_step, steps_in};
 
-use crate::lines::{first_line, words_of};
 use crate::steps::{Roots, step_of, turn};
 use cluster_tree::OutOfMemory;
+use mark_lines::{first_line, words_of};
 use rewind_writes::Step;
 use std::alloc::Global;
 use std::collections::VecDeque;

@@ -1,37 +1,14 @@
-// The words of a plan's lines.
+// The words of a plan's lines: positions and sums.
 ghost use Rattle.std.specs.Prelude.{◌≡◌, IfOk};
 ghost use Rattle.std.specs.List.{list_all};
-ghost use Rattle.std.specs.Option.{option_map};
 ghost use Rattle.wal_base.specs.Hex.{is_upper_hex};
 ghost use Rattle.wal_base.specs.Lsn.{lsn_of};
-ghost use Rattle.plan_text.specs.Words.{bytes_in, is_lower, is_sum, lsn_in, sum_in};
+ghost use Rattle.plan_text.specs.Words.{is_sum, lsn_in, sum_in};
 
 use cluster_tree::OutOfMemory;
-use hex::FromHexError;
 use std::alloc::Global;
 use std::str;
 use wal_base::Lsn;
-
-fn all_lower(word: &[u8]) -> bool
-    ensures { result ≡ list_all is_lower word.now }
-{
-    word.iter()
-        .all(|byte| matches!(byte, b'0'..=b'9' | b'a'..=b'f'))
-}
-
-/// The bytes that digits 0 to 9 and a to f write, two digits each.
-pub(crate) fn bytes_in(alloc: Global, word: &[u8]) -> Result<Option<Vec<u8>>, OutOfMemory>
-    ensures { IfOk result (λ bytes. option_map (λ vec. vec.items) bytes ≡ bytes_in word.now) }
-{
-    if !all_lower(word) {
-        return Ok(None);
-    }
-    match hex::decode(alloc, word) {
-        Ok(bytes) => Ok(Some(bytes)),
-        Err(FromHexError::OutOfMemory) => Err(OutOfMemory),
-        Err(_) => Ok(None),
-    }
-}
 
 fn position(word: &[u8]) -> Option<Lsn>
     ensures { result ≡ lsn_of word.now }

@@ -1,96 +1,21 @@
 // The text of a plan.
-ghost use Rattle.std.specs.Prelude.{◌≡◌, ◌+◌, ◌++◌, ◌<◌, ◌≤◌, ◌^◌, [], ◌∷◌, codes, decimal, length, slice_range, string_bytes, true, IfOk, OnOk};
-ghost use Rattle.std.specs.List.{join_with_byte};
+ghost use Rattle.std.specs.Prelude.{◌≡◌, ◌++◌, ◌<◌, ◌^◌, [], ◌∷◌, codes, decimal, string_bytes, true, IfOk, OnOk};
 ghost use Rattle.std.specs.Str.{is_utf8};
-ghost use Rattle.plan_text.specs.Words.{line};
+ghost use Rattle.mark_lines.specs.Words.{line};
+ghost use Rattle.mark_lines.specs.Paths.{path_word, way_of};
 ghost use Rattle.hex.specs.Hex.{IsBytes};
 ghost use Rattle.plan_text.specs.Laws.{AllAreSized, IsHeld, IsSized, IsTold, are_texts, is_text};
-ghost use Rattle.plan_text.specs.Paths.{path_word, way_of};
 ghost use Rattle.plan_text.specs.Steps.{step_words};
 ghost use Rattle.plan_text.specs.Text.{bytes_line, plan_text, said_by, source_line, step_lines, told_line};
 
 use crate::stored::StoredPlan;
 use cluster_tree::{OutOfMemory, Path};
+use mark_lines::{add_pathed, add_sized, path_word};
 use rewind_survey::Told;
 use rewind_writes::Step;
 use std::alloc::Global;
 use std::collections::VecDeque;
 use wal_base::Text;
-
-/// Adds the part of a path at a place, behind a slash unless it is the first.
-fn add_part(way: &mut String, path: &Path, first: usize, at: usize) -> Result<(), OutOfMemory>
-    requires behind { first ≤ at }
-    requires within { at < length path.now.parts }
-    requires front { string_bytes way.old ≡ join_with_byte 47 (slice_range path.now.parts first at) }
-    ensures { OnOk result (string_bytes way.new
-        ≡ join_with_byte 47 (slice_range path.now.parts first (at + 1))) }
-{
-    let Some(part) = path.part(at) else {
-        return Ok(());
-    };
-    if first < at {
-        write!(way, "/{part}")?;
-        return Ok(());
-    }
-    way.push_str(part)?;
-    Ok(())
-}
-
-/// The way from a root to a path below it.
-fn way(alloc: Global, root: &Path, path: &Path) -> Result<String, OutOfMemory>
-    ensures { IfOk result (λ way. string_bytes way ≡ way_of root.now path.now) }
-{
-    let first = root.len();
-    let mut way = String::new(alloc);
-    for at in first..path.len() {
-        add_part(&mut way, path, first, at)?;
-    }
-    Ok(way)
-}
-
-/// A path below a root, as digits.
-fn path_word(alloc: Global, root: &Path, path: &Path) -> Result<String, OutOfMemory>
-    ensures value { IfOk result (λ word. string_bytes word ≡ path_word root.now path.now) }
-    ensures text { OnOk result (is_utf8 (way_of root.now path.now) ≡ true) }
-{
-    let way = way(alloc, root, path)?;
-    Ok(hex::encode(alloc, &way)?)
-}
-
-/// Adds the line of a word and a path.
-fn add_pathed(
-    alloc: Global,
-    text: &mut String,
-    verb: &str,
-    root: &Path,
-    path: &Path,
-) -> Result<(), OutOfMemory>
-    ensures line { OnOk result (string_bytes text.new
-        ≡ string_bytes text.old ++ line (verb.now ∷ path_word root.now path.now ∷ [])) }
-    ensures text { OnOk result (is_utf8 (way_of root.now path.now) ≡ true) }
-{
-    let path = path_word(alloc, root, path)?;
-    writeln!(text, "{verb} {path}")?;
-    Ok(())
-}
-
-/// .. and a size.
-fn add_sized(
-    alloc: Global,
-    text: &mut String,
-    verb: &str,
-    root: &Path,
-    path: &Path,
-    size: u64,
-) -> Result<(), OutOfMemory>
-    ensures line { OnOk result (string_bytes text.new
-        ≡ string_bytes text.old ++ line (verb.now ∷ path_word root.now path.now ∷ decimal size ∷ [])) }
-    ensures text { OnOk result (is_utf8 (way_of root.now path.now) ≡ true) }
-{
-    let path = path_word(alloc, root, path)?;
-    writeln!(text, "{verb} {path} {size}")?;
-    Ok(())
-}
 
 /// Adds the line of bytes that are copied.
 fn add_range(

@@ -20,7 +20,8 @@ use Rattle.file_walk.specs.declared.entry.EntryKind.{EntryKind}
 use Rattle.file_walk.specs.declared.entry.EntryKind.TheVariants as kind
 use Rattle.file_walk.specs.declared.pair.Pair.{Pair}
 use Rattle.plan_text.specs.Laws.{AllAreBetween, AllAreSized, InTurn, IsBelow, IsBetween, IsCopied, IsSized, IsWay}
-use Rattle.plan_text.specs.Paths.{is_kept_out, parts_below}
+use Rattle.mark_lines.specs.Paths.{parts_below}
+use Rattle.plan_text.specs.Paths.{is_kept_out}
 use Rattle.plan_text.specs.Steps.{depth, turn}
 use Rattle.relation_files.specs.Reading.{file_named}
 use Rattle.rewind_plan.proofs.FitLemmas.{Acts, acts}

@@ -21,7 +21,8 @@ use Rattle.rewind_writes.specs.declared.step.Step.{Step}
 use Rattle.rewind_writes.specs.declared.step.Step.TheVariants.{Folder, Whole, Cut, Range, Remove}
 use Rattle.rewind_writes.proofs.StepLemmas.{off-both}
 use Rattle.plan_text.specs.Laws.{AllAreBetween, IsBelow, IsBetween, IsCopied}
-use Rattle.plan_text.specs.Paths.{is_kept_out, parts_below}
+use Rattle.mark_lines.specs.Paths.{parts_below}
+use Rattle.plan_text.specs.Paths.{is_kept_out}
 use Rattle.plan_text.specs.Stored.{IsPlacedAt}
 use Rattle.rewind_plan.specs.Sides.{control_parts, label_parts, mark_parts}
 use Rattle.rewind_plan.proofs.FoundLemmas.{apart-below}

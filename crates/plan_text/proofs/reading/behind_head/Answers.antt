@@ -1,6 +1,7 @@
 use Rattle.std.proofs.Common.{◌∙◌, Ok, ap, sym, subst, map, length}
 use Rattle.rewind_writes.specs.Steps.{AllAreFit}
-use Rattle.plan_text.specs.Reading.{and_then, behind_head, with_closing}
+use Rattle.mark_lines.specs.Lines.{and_then}
+use Rattle.plan_text.specs.Reading.{behind_head, with_closing}
 use Rattle.plan_text.proofs.StepLemmas.{steps_are_fit}
 use Rattle.plan_text.proofs.ReadingLemmas.{closed, closing_behind, fault_kept}
 use Rattle.plan_text.proofs.reading.behind_head.Goals as goal

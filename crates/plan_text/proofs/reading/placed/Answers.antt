@@ -1,6 +1,6 @@
 use Rattle.std.proofs.Common.{◌≡◌, ◌+◌, false, nat_lt, length, ap, arith}
 use Rattle.std.proofs.lemmas.Bool.Decides.{nat_tests}
-use Rattle.plan_text.proofs.PathLemmas.{refusal_by}
+use Rattle.mark_lines.proofs.PathLemmas.{refusal_by}
 use Rattle.plan_text.proofs.reading.placed.Goals as goal
 
 pub below-requires : goal.below-requires

@@ -1,5 +1,6 @@
 use Rattle.std.proofs.Common.{◌≡◌, ℕ, Result, MatchResult, Ok, subst, map}
-use Rattle.plan_text.specs.Reading.{said_first, said_in, source_of, told_of}
+use Rattle.mark_lines.specs.Lines.{said_first}
+use Rattle.plan_text.specs.Reading.{said_in, source_of, told_of}
 use Rattle.plan_text.specs.Stored.{IsFault}
 use Rattle.plan_text.specs.Text.{Saying, said_by}
 use Rattle.plan_text.proofs.ReadingLemmas.{fault_kept, headed, no_source, no_told}

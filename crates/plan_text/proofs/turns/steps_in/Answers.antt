@@ -1,7 +1,8 @@
 use Rattle.std.proofs.Common.{◌≡◌, ◌∙◌, Some, length, length-append, drop, map, ap, sym, arith, ◌∷◌, []}
 use Rattle.std.proofs.lemmas.List.{length-map}
 use Rattle.plan_text.specs.Reading.{first_step, steps_in}
-use Rattle.plan_text.proofs.StepLemmas.{behind, no_step, one_step, one_within}
+use Rattle.mark_lines.proofs.LineLemmas.{behind}
+use Rattle.plan_text.proofs.StepLemmas.{no_step, one_step, one_within}
 use Rattle.plan_text.proofs.turns.steps_in.Goals as goal
 
 pub loop-steps-preserved : goal.loop-steps-preserved

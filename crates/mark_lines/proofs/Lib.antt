@@ -1,0 +1,10 @@
+pub mod DigitLemmas
+pub mod DigitReadLemmas
+pub mod LineLemmas
+pub mod LineReadLemmas
+pub mod OptionLemmas
+pub mod PathLemmas
+pub mod Utf8Lemmas
+pub mod WayBackLemmas
+pub mod WayLemmas
+pub mod WayReadLemmas
