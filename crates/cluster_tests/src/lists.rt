@@ -119,7 +119,7 @@ depth /a/b/c 61 = again
 depth /a/b/c 62 = line 1";
 
 /// A text with the ends of its lines.
-fn spelled<R: AllocGlobal + Abort>(rt: &R, words: &str) -> String {
+pub(crate) fn spelled<R: AllocGlobal + Abort>(rt: &R, words: &str) -> String {
     words.replace(rt.alloc(), ";", "\n").expect(rt, "no memory")
 }
 
@@ -149,14 +149,13 @@ fn tell_one<R: Abort>(rt: &R, out: &mut String, one: &Listed) {
 }
 
 /// Tells what stood at each path.
-fn tell_each<R: Abort>(rt: &R, out: &mut String, listed: &[Listed]) {
+pub(crate) fn tell_each<R: Abort>(rt: &R, out: &mut String, listed: &[Listed]) {
     let mut between = "";
     for one in listed {
         tell(rt, out, between);
         tell_one(rt, out, one);
         between = ", ";
     }
-    tell(rt, out, ": ");
 }
 
 fn tell_fault<R: Abort>(rt: &R, out: &mut String, fault: ListFault) {
@@ -204,6 +203,7 @@ fn tell_read<R: AllocGlobal + Abort>(rt: &R, out: &mut String, words: &str) {
     let text = spelled(rt, words);
     if let Some(listed) = read(rt, out, root, &text) {
         tell_each(rt, out, &listed);
+        tell(rt, out, ": ");
         tell_again(rt, out, root, &listed, &text);
     }
 }

@@ -1,4 +1,5 @@
 //! Runs the rows of texts. README.md has their forms.
+use crate::begun::tell_begun;
 use crate::endless::tell_endless;
 use crate::faults::tell_faults;
 use crate::held::tell_held;
@@ -14,7 +15,7 @@ use crate::surveys::tell_survey;
 use crate::texts::cut_at;
 use crate::walks::tell_walks;
 use crate::{
-    endless, faults, held, labels, lists, numbers, paths, plans, refusals, resets, resumes, stored,
+    begun, endless, faults, held, labels, lists, numbers, paths, plans, refusals, resets, resumes, stored,
     surveys, walks,
 };
 use std::process::Abort;
@@ -60,7 +61,15 @@ const RESUMES: [&str; 9] = [
 ];
 
 /// The texts of rows of lists in the marks of replays.
-const LISTS: [&str; 4] = [lists::KINDS, lists::TAKEN, lists::FORMS, lists::PATHS];
+const LISTS: [&str; 7] = [
+    lists::KINDS,
+    lists::TAKEN,
+    lists::FORMS,
+    lists::PATHS,
+    begun::MARKS,
+    begun::COPIES,
+    begun::FAILING,
+];
 
 /// The texts of rows of resets.
 const RESETS: [&str; 12] = [
@@ -100,6 +109,7 @@ fn tell<R: AllocGlobal + Abort>(rt: &R, out: &mut String, row: &str) {
         "broken" | "call" => tell_faults(rt, out, verb, words),
         "resume" | "blocks" | "fails" | "stop" => tell_resumes(rt, out, verb, words),
         "held" => tell_held(rt, out, words),
+        "begun" => tell_begun(rt, out, words),
         "replay" | "listed" | "depth" => tell_lists(rt, out, verb, words),
         _ => tell_rewind(rt, out, verb, words),
     }

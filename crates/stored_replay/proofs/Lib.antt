@@ -1,0 +1,2 @@
+pub mod ShadowLemmas
+pub mod MarkLemmas

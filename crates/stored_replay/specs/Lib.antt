@@ -1,0 +1,4 @@
+pub mod Faults
+pub mod Shadows
+pub mod Marks
+pub mod Stored
