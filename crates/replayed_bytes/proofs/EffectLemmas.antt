@@ -1,5 +1,5 @@
 -- What a record does to files beside its blocks.
-use Rattle.std.proofs.Common.{◌≡◌, ℕ, ◌+◌, ◌*◌, ◌/◌, ◌%◌, ◌^◌, ◌==◌, Bool, true, false, not, ◌&&◌, ◌||◌, List, [], ◌∷◌, ◌++◌, codes, length, replicate, Option, None, Some, Result, Ok, refl, sym, ap, subst, ◌∙◌, append_assoc, true≢false, arith}
+use Rattle.std.proofs.Common.{◌≡◌, ℕ, ◌+◌, ◌/◌, ◌%◌, ◌^◌, ◌==◌, Bool, true, false, not, ◌&&◌, List, [], ◌∷◌, ◌++◌, codes, length, Option, None, Some, Result, Ok, refl, sym, ap, ◌∙◌, append_assoc, true≢false, arith}
 use Rattle.std.specs.Prelude.{if◌then◌else◌}
 use Rattle.std.specs.List.{list_all}
 use Rattle.std.proofs.lemmas.Bool.Decides.{nat_tests}
@@ -16,7 +16,6 @@ use Rattle.file_edits.specs.Edits.{file_edited, file_removed}
 use Rattle.file_effects.specs.Done.{bits_cleared, effect_done, files_after, for_each, multis_cut, own_xid, page_before, status_of, statuses_set, transaction_ended}
 use Rattle.file_effects.specs.Effect.{effect_by_clog, effect_by_database, effect_by_multixact, effect_by_relmap, effect_by_storage, effect_by_transaction, effect_in, effect_of}
 use Rattle.file_effects.specs.MapClears.{bits_number, map_clears}
-use Rattle.file_walk.specs.Actions.{is_version}
 use Rattle.file_walk.specs.Relations.{relation_of}
 use Rattle.record_layouts.specs.Clog.{clog_truncate_of, clog_zero_page_of}
 use Rattle.record_layouts.specs.Database.{database_create_of, database_drop_of}
@@ -47,7 +46,7 @@ use Rattle.record_layouts.specs.declared.transaction.TransactionOp.TheVariants a
 use Rattle.relation_files.specs.Paths.{database_parts, global_parts}
 use Rattle.relation_files.proofs.CutLemmas.{and_parts, without}
 use Rattle.slru_replay.specs.Area.{file_name, folder_of, folder_parts, page_file, page_zeroed}
-use Rattle.slru_replay.specs.Cutting.{area_cut, file_cut, file_number, has_extra_zero, is_file_name, is_name_length, name_cut, number_cut}
+use Rattle.slru_replay.specs.Cutting.{area_cut, file_cut, has_extra_zero, is_file_name, is_name_length, name_cut}
 use Rattle.slru_replay.specs.MultiXact.{create_in, flags_set, member_set, members_set, multi_added, offset_set, xid_set}
 use Rattle.slru_replay.specs.Status.{status_set}
 use Rattle.slru_replay.specs.declared.area.Area.{Area}

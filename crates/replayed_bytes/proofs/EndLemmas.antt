@@ -1,5 +1,5 @@
 -- Databases that are made and dropped: what is left of files that tell a version.
-use Rattle.std.proofs.Common.{◌≡◌, ◌⊎◌, ℕ, ◌+◌, ◌<◌, ◌==◌, Bool, true, false, List, [], ◌∷◌, ◌++◌, codes, decimal, length, Option, None, Some, Ok, inl, inr, refl, sym, ap, subst, ◌∙◌, ⊎_elim, true≢false, append_assoc, arith}
+use Rattle.std.proofs.Common.{◌≡◌, ◌⊎◌, ℕ, ◌<◌, true, false, List, [], ◌∷◌, ◌++◌, codes, decimal, length, Option, None, Some, Ok, inl, inr, refl, sym, ap, subst, ◌∙◌, ⊎_elim, append_assoc, arith}
 use Rattle.std.proofs.lemmas.List.{append_cancel_left, length-append}
 use Rattle.cluster_tree.specs.Apart.{is_held}
 use Rattle.cluster_tree.specs.Contents.{Contents, Entry, FolderEntry, FileEntry, LinkEntry, IsTree, entry_at, is_file}
@@ -19,7 +19,7 @@ use Rattle.storage_databases.specs.Databases.{database_dropped, database_folder,
 use Rattle.storage_laws.proofs.EditedLemmas.{bytes-elsewhere, given-done}
 use Rattle.storage_laws.proofs.NumberLemmas.{by_test}
 use Rattle.wal_base.specs.Decimal.{decimal_number}
-use Rattle.replayed_bytes.proofs.StepLemmas.{KeepsBlocks, Left, OkFiles, Sized, Steps, one-files, steps-same}
+use Rattle.replayed_bytes.proofs.StepLemmas.{KeepsBlocks, Left, Sized, Steps, one-files, steps-same}
 
 -- the bytes of a file that is made to tell the version
 abbrev pub made_text : List ℕ

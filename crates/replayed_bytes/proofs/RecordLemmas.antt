@@ -1,5 +1,5 @@
 -- Records: what they leave of the sizes of main forks' files, and of files that tell a version.
-use Rattle.std.proofs.Common.{◌≡◌, ℕ, ◌<◌, Bool, true, false, nat_lt, List, [], ◌∷◌, length, Option, None, Some, Result, Ok, refl, sym, ap, subst, ◌∙◌}
+use Rattle.std.proofs.Common.{◌≡◌, ℕ, ◌<◌, Bool, true, false, nat_lt, List, [], ◌∷◌, length, Option, None, Some, Result, Ok, refl, ap, subst, ◌∙◌}
 use Rattle.std.specs.Prelude.{if◌then◌else◌}
 use Rattle.std.proofs.lemmas.List.{length-replicate}
 use Rattle.rmgr_hooks.specs.Custom.{Extension, IsSound}
@@ -43,7 +43,6 @@ use Rattle.storage_laws.specs.LengthLaws.{reading_of}
 use Rattle.storage_laws.specs.Names.{IsBlock}
 use Rattle.storage_laws.specs.States.{block_in}
 use Rattle.storage_laws.proofs.LengthLemmas.{read-whole}
-use Rattle.storage_laws.proofs.NumberLemmas.{by_test}
 use Rattle.storage_pages.specs.MapPage.{visible_map}
 use Rattle.storage_replay.specs.Blocks.{block_put}
 use Rattle.storage_replay.specs.Changes.{created}

@@ -1,8 +1,7 @@
 -- Alike clusters of whole blocks, the same pages and the same versions have the same files.
-use Rattle.std.proofs.Common.{◌≡◌, ◌⊎◌, ℕ, zero, suc, ◌+◌, ◌*◌, ◌/◌, ◌%◌, ◌^◌, ◌<◌, ◌≤◌, ◌==◌, Bool, true, false, ◌&&◌, ◌||◌, List, [], ◌∷◌, ◌++◌, length, take, drop, replicate, Option, None, Some, inl, inr, refl, sym, ap, ap₂, subst, ◌∙◌, take-append-drop, arith}
+use Rattle.std.proofs.Common.{◌≡◌, ℕ, zero, suc, ◌+◌, ◌*◌, ◌/◌, ◌%◌, ◌^◌, ◌<◌, ◌≤◌, ◌==◌, Bool, true, false, ◌||◌, List, [], ◌∷◌, ◌++◌, length, take, drop, replicate, Option, None, Some, inl, inr, refl, sym, ap, ap₂, ◌∙◌, take-append-drop, arith}
 use Rattle.std.specs.Prelude.{if◌then◌else◌}
 use Rattle.std.specs.Option.{option_and_then}
-use Rattle.std.proofs.lemmas.Bool.Decides.{nat_tests}
 use Rattle.std.proofs.lemmas.List.{drop-drop, length-drop, length-take}
 use Rattle.std.proofs.lemmas.Slice.Eq.{bytes_eq-Decides}
 use Rattle.alike_clusters.specs.Clusters.{AlikeClusters, is_alike, is_alike_file, is_bounded}
@@ -11,7 +10,7 @@ use Rattle.alike_clusters.proofs.NameLemmas.{file-lies, file_parts}
 use Rattle.block_refs.specs.declared.names.BlockName.{BlockName}
 use Rattle.block_refs.specs.declared.names.Fork.TheVariants.{Main}
 use Rattle.block_refs.specs.declared.names.RelName.{RelName}
-use Rattle.cluster_tree.specs.Contents.{Contents, Entry, FolderEntry, FileEntry, LinkEntry, entry_at, is_file}
+use Rattle.cluster_tree.specs.Contents.{Contents, Entry, FileEntry, entry_at, is_file}
 use Rattle.cluster_tree.specs.PathValue.{PathValue, below, path_of}
 use Rattle.cluster_tree.specs.Tree.{bytes_at, bytes_in}
 use Rattle.file_edits.specs.Alike.{AlikeEntries, Neither, Folders, Files, Links}
@@ -27,7 +26,7 @@ use Rattle.storage_laws.proofs.NumberLemmas.{and-parts, eq-is, file-of, place-of
 use Rattle.storage_laws.proofs.WholeLemmas.{whole-there}
 use Rattle.storage_replay.specs.Reading.{is_zero}
 use Rattle.replayed_bytes.specs.Bytes.{HasWholeBlocks, HaveSameFiles, HaveSameVersions}
-use Rattle.replayed_bytes.proofs.EndLemmas.{Ended, Ends, made_text}
+use Rattle.replayed_bytes.proofs.EndLemmas.{Ended, Ends}
 
 -- ---- bytes of whole blocks
 

@@ -1,13 +1,11 @@
 -- What edits of files leave of the sizes of main forks' files, and of files that tell a version.
-use Rattle.std.proofs.Common.{◌≡◌, ◌≢◌, ◌⊎◌, ℕ, ◌+◌, ◌*◌, ◌%◌, ◌<◌, true, false, List, [], ◌∷◌, length, take, min, Option, None, Some, Result, Ok, inl, inr, refl, sym, ap, subst, ◌∙◌, ⊎_elim, true≢false, arith}
-use Rattle.std.specs.List.{AllByRecursion}
+use Rattle.std.proofs.Common.{◌≡◌, ◌≢◌, ◌⊎◌, ℕ, ◌*◌, ◌%◌, true, false, List, [], ◌∷◌, length, take, Option, None, Some, Result, Ok, inl, inr, refl, sym, ap, subst, ◌∙◌, ⊎_elim, true≢false, arith}
 use Rattle.std.proofs.lemmas.List.{append_cancel_left, length-take}
 use Rattle.alike_clusters.proofs.LikeLemmas.{grown-size}
 use Rattle.alike_clusters.proofs.NameLemmas.{file-lies, file-no_version, file_parts}
 use Rattle.alike_clusters.proofs.StorageLemmas.{padded-size, splice-size}
 use Rattle.block_refs.specs.declared.names.Fork.{Fork}
 use Rattle.block_refs.specs.declared.names.RelName.{RelName}
-use Rattle.cluster_tree.specs.Causes.{given}
 use Rattle.cluster_tree.specs.Contents.{Contents, Entry, FolderEntry, entry_at}
 use Rattle.cluster_tree.specs.PathValue.{PathValue, below, path_of}
 use Rattle.cluster_tree.specs.Tree.{bytes_at, bytes_in}

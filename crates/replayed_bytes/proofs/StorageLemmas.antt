@@ -1,20 +1,17 @@
 -- Forks and relations: what is left of the sizes of main forks' files, and of files that tell a version.
-use Rattle.std.proofs.Common.{◌≡◌, ℕ, zero, suc, ◌+◌, ◌*◌, ◌/◌, ◌%◌, Bool, true, false, List, [], ◌∷◌, length, Option, None, Some, Result, Ok, refl, sym, ap, subst, ◌∙◌, true≢false, arith}
+use Rattle.std.proofs.Common.{◌≡◌, ℕ, zero, suc, ◌+◌, ◌*◌, ◌/◌, ◌%◌, Bool, true, false, List, [], ◌∷◌, length, Option, None, Some, Result, Ok, refl, sym, subst, ◌∙◌, arith}
 use Rattle.std.specs.Prelude.{if◌then◌else◌}
-use Rattle.alike_clusters.proofs.NameLemmas.{file_parts, map-not_main}
+use Rattle.alike_clusters.proofs.NameLemmas.{map-not_main}
 use Rattle.block_refs.specs.declared.names.BlockName.{BlockName}
 use Rattle.block_refs.specs.declared.names.Fork.{Fork}
 use Rattle.block_refs.specs.declared.names.Fork.TheVariants.{Main, Visibility}
 use Rattle.block_refs.specs.declared.names.RelName.{RelName}
-use Rattle.cluster_tree.specs.Causes.{given}
 use Rattle.cluster_tree.specs.Contents.{Contents, entry_at}
-use Rattle.cluster_tree.specs.PathValue.{PathValue, below, path_of}
+use Rattle.cluster_tree.specs.PathValue.{PathValue, below}
 use Rattle.cluster_tree.specs.declared.file_fault.FileFault.{FileFault}
 use Rattle.file_edits.specs.Asking.{names_asked}
 use Rattle.file_edits.specs.Clearing.{in_turn}
 use Rattle.file_edits.specs.Edits.{file_cut}
-use Rattle.file_walk.specs.Relations.{relation_of}
-use Rattle.relation_files.specs.Names.{name_of}
 use Rattle.relation_files.specs.Paths.{relation_file, relation_folder}
 use Rattle.relation_files.specs.Reading.{file_named}
 use Rattle.relation_files.specs.declared.file_name.FileName.{FileName}
@@ -29,7 +26,7 @@ use Rattle.storage_replay.specs.declared.map_edit.MapEdit.{MapEdit}
 use Rattle.storage_replay.specs.declared.map_edit.MapEdit.TheVariants.{Cut}
 use Rattle.storage_replay.specs.declared.sweep.Sweep.{Sweep}
 use Rattle.storage_replay.specs.declared.sweep.Sweep.TheVariants.{Remove, Empty}
-use Rattle.replayed_bytes.proofs.StepLemmas.{OkFiles, Sized, Steps, file-cut, file-edited, file-removed, grown-sized, laid-sized, one-files, steps-same, steps-then, turn-steps}
+use Rattle.replayed_bytes.proofs.StepLemmas.{OkFiles, Steps, file-cut, file-edited, file-removed, grown-sized, laid-sized, one-files, steps-same, steps-then, turn-steps}
 
 whole_blocks : (n : ℕ) → n * 8192 % 8192 ≡ 0
 whole_blocks n = omega arith

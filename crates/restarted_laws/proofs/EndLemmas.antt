@@ -20,8 +20,12 @@ use Rattle.replay_world.specs.Records.{records_after}
 use Rattle.replay_world.specs.World.{World}
 use Rattle.storage_laws.specs.States.{page_in}
 use Rattle.wal_records.specs.Reading.{LogRecord}
+use Rattle.replayed_bytes.specs.Bytes.{HasWholeBlocks, HaveSameFiles, HaveSameVersions}
+use Rattle.replayed_bytes.proofs.SameLemmas.{files-same}
 use Rattle.restarted_laws.specs.Again.{AreAgain, AreSame, EndTheSame, EndsTheSame}
+use Rattle.restarted_laws.specs.Files.{EndsWithSameFiles}
 use Rattle.restarted_laws.proofs.AgainLemmas.{AreBefore, log-ends}
+use Rattle.restarted_laws.proofs.FileLemmas.{begun-steps, closed-steps, left-versions, left-whole, versions-stay, whole-kept}
 
 -- what stands of the one where the other ends
 record Other (root : PathValue) (other : PathValue) (per : ℕ) (v : World) (r : Result World RecordFault) : Type 0 where
@@ -106,3 +110,35 @@ module _ (custom : Option Extension) (sound : IsSound custom) (c d : Contents) (
         (subst (λ f. AlikeClusters per own root f other) others_are files_alike);
     pages = λ name main. sym (ap (page_in root per name) own_is) ∙ pages_same name main ∙ ap (page_in other per name) others_are;
   }
+
+  -- ---- and the same files, byte for byte
+
+  module _ (whole : HasWholeBlocks c root) (same : HaveSameVersions c root d other) where
+    begun_whole : HasWholeBlocks (first_world c root s).files root
+    begun_whole = whole-kept root c (first_world c root s).files (begun-steps root c) whole
+
+    begun_versions : HaveSameVersions (first_world c root s).files root (first_world d other s).files other
+    begun_versions = versions-stay root other per c d (first_world c root s).files (first_world d other s).files both alike.files same (begun-steps root c) (begun-steps other d)
+
+    own_whole : HasWholeBlocks own root
+    own_whole =
+        whole-kept root v.files own (closed-steps root v.files (left-by s v))
+        (left-whole custom sound root other per again.begins.some s.label.start.0 s.records (first_world c root s) (first_world d other s) taken alike begun_whole begun_versions v first.is)
+
+    both_versions : HaveSameVersions own root others other
+    both_versions =
+        versions-stay root other per v.files y.files own others second.same.alike.files files_alike
+        (left-versions custom sound root other per again.begins.some s.label.start.0 s.records (first_world c root s) (first_world d other s) taken alike begun_whole begun_versions v y first.is second.is)
+        (closed-steps root v.files (left-by s v)) (closed-steps other y.files (left-by s v))
+
+    files_same : HaveSameFiles own root others other
+    files_same = files-same root other per again.begins.some own others files_alike own_whole both_versions pages_same
+
+    pub ends-same_files : EndsWithSameFiles custom per after root d other
+    unfolding ends-the_same
+    ends-same_files = record {
+      ends = ends-the_same;
+      files =
+          subst (λ e. HaveSameFiles e root (closed-by other s y).files other) own_is
+          (subst (λ f. HaveSameFiles own root f other) others_are files_same);
+    }

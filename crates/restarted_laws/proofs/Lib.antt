@@ -1,4 +1,5 @@
 pub mod TurnedLemmas
 pub mod ReferenceLemmas
 pub mod AgainLemmas
+pub mod FileLemmas
 pub mod EndLemmas

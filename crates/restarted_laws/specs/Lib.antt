@@ -1,2 +1,4 @@
 pub mod Again
+pub mod Files
 pub mod Laws
+pub mod FileLaws
