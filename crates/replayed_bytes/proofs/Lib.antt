@@ -4,3 +4,4 @@ pub mod EndLemmas
 pub mod EffectLemmas
 pub mod RecordLemmas
 pub mod SameLemmas
+pub mod WholeLemmas

@@ -6,6 +6,8 @@ use Rattle.block_refs.specs.Parts.{PartsView}
 use Rattle.block_refs.specs.declared.names.BlockName.{BlockName}
 use Rattle.cluster_tree.specs.Contents.{Contents}
 use Rattle.cluster_tree.specs.PathValue.{PathValue}
+use Rattle.file_walk.specs.Walk.{HasParts, walk_of}
+use Rattle.file_walk.specs.declared.entry.Entry.{Entry as Walked}
 use Rattle.replay_laws.specs.Held.{IsMainBlock}
 use Rattle.replay_laws.specs.Log.{AreTaken, IsTaken}
 use Rattle.replay_laws.specs.Whole.{AreWhole}
@@ -14,6 +16,14 @@ use Rattle.replay_world.specs.World.{World}
 use Rattle.storage_laws.specs.States.{page_in}
 use Rattle.wal_records.specs.Reading.{LogRecord}
 use Rattle.replayed_bytes.specs.Bytes.{HasWholeBlocks, HaveSameFiles, HaveSameVersions}
+
+-- a walk of a cluster that finds nothing wrong tells that files of main forks have whole blocks alone
+abbrev pub WalkedHaveWholeBlocks : Type 0
+WalkedHaveWholeBlocks = (c : Contents) (root : PathValue) (entries : List Walked) → HasParts c root → walk_of c root ≡ Ok entries → HasWholeBlocks c root
+
+-- and of alike clusters both have, or neither
+abbrev pub AlikeHaveWholeBlocks : Type 0
+AlikeHaveWholeBlocks = (root other : PathValue) (per_file : ℕ) (c d : Contents) → AlikeClusters per_file c root d other → HasWholeBlocks c root → HasWholeBlocks d other
 
 -- a record leaves whole blocks alone in files of main forks
 abbrev pub RecordKeepsBlocks : Type 0
