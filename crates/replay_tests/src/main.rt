@@ -8,6 +8,7 @@
 mod effects;
 mod fault;
 mod files;
+mod firsts;
 mod logs;
 mod pages;
 mod profile;

@@ -4,6 +4,7 @@ use crate::fault::{RowFault, TextFault};
 use crate::files::answer;
 use crate::files::courses::run_course;
 use crate::files::endless::EndlessTree;
+use crate::firsts::changed_first;
 use crate::logs::cursor_by;
 use crate::profile::{judged, measured};
 use crate::redo::redone_row;
@@ -45,9 +46,11 @@ fn told_of(alloc: Global, row: &str) -> Result<String, RowFault> {
     told_by(alloc, rec, call, words)
 }
 
-/// What is told of the record that a row has before its sign of equality.
+/// What is told of the record that a row has before its sign of equality, or of the records.
 fn told_in(alloc: Global, row: &str) -> Result<String, RowFault> {
-    if row.contains(" | ") {
+    if let Some(records) = row.strip_prefix("first ") {
+        changed_first(alloc, records)
+    } else if row.contains(" | ") {
         redone_row(alloc, row)
     } else {
         told_of(alloc, row)

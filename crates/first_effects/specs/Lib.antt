@@ -1,0 +1,4 @@
+pub mod First
+pub mod Taken
+pub mod Gathered
+pub mod References
