@@ -1,5 +1,6 @@
 // Runs the cases of texts. README.md has the lines of such a text.
 mod asked;
+mod begins;
 mod calls;
 mod control;
 mod fault;

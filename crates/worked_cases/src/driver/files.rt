@@ -1,4 +1,5 @@
 // The lines that say what the tree has to hold.
+use super::begins::begins;
 use super::fault::LineFault;
 use super::line::{bytes, first_word, number, zeros};
 use cluster_tree::{Kind, Path, Tree};
@@ -45,6 +46,7 @@ pub(crate) fn holds(
         "bytes" => has_bytes(alloc, tree, file, words),
         "size" => has_size(tree, file, words),
         "absent" => Ok(is_absent(tree, file)),
+        "begins" => begins(alloc, tree, file, words),
         _ => Err(LineFault::NotALine),
     }
 }
