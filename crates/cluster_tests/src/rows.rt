@@ -1,4 +1,5 @@
 //! Runs the rows of texts. README.md has their forms.
+use crate::areas::tell_areas;
 use crate::begun::tell_begun;
 use crate::endless::tell_endless;
 use crate::faults::tell_faults;
@@ -15,8 +16,8 @@ use crate::surveys::tell_survey;
 use crate::texts::cut_at;
 use crate::walks::tell_walks;
 use crate::{
-    begun, endless, faults, held, labels, lists, numbers, paths, plans, refusals, resets, resumes, stored,
-    surveys, walks,
+    areas, begun, endless, faults, held, labels, lists, numbers, paths, plans, refusals, resets, resumes,
+    stored, surveys, walks,
 };
 use std::process::Abort;
 
@@ -61,11 +62,15 @@ const RESUMES: [&str; 9] = [
 ];
 
 /// The texts of rows of lists in the marks of replays.
-const LISTS: [&str; 7] = [
+const LISTS: [&str; 11] = [
     lists::KINDS,
     lists::TAKEN,
     lists::FORMS,
     lists::PATHS,
+    areas::LISTED,
+    areas::ELSEWHERE,
+    areas::REFUSED,
+    areas::FAILING,
     begun::MARKS,
     begun::COPIES,
     begun::FAILING,
@@ -109,6 +114,7 @@ fn tell<R: AllocGlobal + Abort>(rt: &R, out: &mut String, row: &str) {
         "broken" | "call" => tell_faults(rt, out, verb, words),
         "resume" | "blocks" | "fails" | "stop" => tell_resumes(rt, out, verb, words),
         "held" => tell_held(rt, out, words),
+        "areas" => tell_areas(rt, out, words),
         "begun" => tell_begun(rt, out, words),
         "replay" | "listed" | "depth" => tell_lists(rt, out, verb, words),
         _ => tell_rewind(rt, out, verb, words),

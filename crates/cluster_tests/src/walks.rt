@@ -56,7 +56,7 @@ pairs d t, d t/a, f t/a/x 1, f t/a-b 2, d t/c, d s, d s/a, f s/a/x 3, f s/a/w 4,
     = a / /, a-b 2 -, a/w - 4, a/x 1 3, b - 5, c / 6";
 
 /// Tells a fault by its variant and its values.
-fn tell_fault<R: Abort>(rt: &R, out: &mut String, fault: &WalkFault) {
+pub(crate) fn tell_fault<R: Abort>(rt: &R, out: &mut String, fault: &WalkFault) {
     match fault {
         WalkFault::Link(path) => says(rt, out, "Link ", path),
         WalkFault::NameNotText(path) => says(rt, out, "NameNotText ", path),

@@ -1,0 +1,5 @@
+pub mod AnswerLemmas
+pub mod BelowLemmas
+pub mod FoundLemmas
+pub mod ListLemmas
+pub mod TellLemmas
