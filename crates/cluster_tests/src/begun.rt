@@ -62,13 +62,16 @@ begun 7 | pg_walreplay 2;+-;LISTend; | d t/pg_walreplay.shadow, f t/pg_walreplay
 begun 7 | pg_walreplay 2;+-;LISTend; | d t/pg_walreplay.shadow = t/pg_walreplay.shadow/0 is not the copy that the mark tells of";
 
 /// The label, a folder, a file of a main fork and another file.
-const LIST: &str = "file 6261636b75705f6c6162656c 5 0;folder 62617365;page 626173652f78 8192;file 676c6f62616c2f79 3 1;";
+const LIST: &str =
+    "file 6261636b75705f6c6162656c 5 0;folder 62617365;page 626173652f78 8192;file 676c6f62616c2f79 3 1;";
 
 /// A cluster with this mark, and lines beside it.
 fn marked<R: AllocGlobal + Abort>(rt: &R, mark: &str, lines: &str) -> MemoryTree {
     let mut tree = tree_of(rt, "d t");
     if mark != "-" {
-        let text = mark.replace(rt.alloc(), "LIST", LIST).expect(rt, "no memory");
+        let text = mark
+            .replace(rt.alloc(), "LIST", LIST)
+            .expect(rt, "no memory");
         let text = spelled(rt, &text);
         put_file(rt, &mut tree, "t/pg_walreplay.unfinished", text.as_bytes());
     }

@@ -16,8 +16,8 @@ use crate::surveys::tell_survey;
 use crate::texts::cut_at;
 use crate::walks::tell_walks;
 use crate::{
-    areas, begun, endless, faults, held, labels, lists, numbers, paths, plans, refusals, resets, resumes,
-    stored, surveys, walks,
+    areas, begun, endless, faults, held, labels, lists, numbers, paths, plans, refusals, resets,
+    resumes, stored, surveys, walks,
 };
 use std::process::Abort;
 

@@ -116,6 +116,12 @@ pub fn first_changed<F: Tree, M: Manager>(
 {
     let mut firsts = FirstEffects::new(alloc);
     checked.cursor.go_to(checked.label.start);
-    gather_all(&mut checked.cursor, tree, &mut Parts::new(), &mut firsts, custom)?;
+    gather_all(
+        &mut checked.cursor,
+        tree,
+        &mut Parts::new(),
+        &mut firsts,
+        custom,
+    )?;
     Ok(firsts.least_changed())
 }
