@@ -123,11 +123,11 @@ removed-elsewhere path c d q made other = by_removed path c d made
 
 -- calls at own paths
 
-run_longer : (old new : State) → Run old new → length old.calls ≤ length new.calls
+pub run_longer : (old new : State) → Run old new → length old.calls ≤ length new.calls
 run_longer old new Still = omega arith
 run_longer old new (Call {mid} call run happened) = omega (arith, run_longer old mid run, length-append mid.calls (call ∷ []), ap length happened.listed)
 
-last_call : (xs ys : List ChangeCall) (a b : ChangeCall) → xs ++ a ∷ [] ≡ ys ++ b ∷ [] → (xs ≡ ys) × (a ≡ b)
+pub last_call : (xs ys : List ChangeCall) (a b : ChangeCall) → xs ++ a ∷ [] ≡ ys ++ b ∷ [] → (xs ≡ ys) × (a ≡ b)
 last_call [] [] a b e = (refl, cc)
 last_call [] (y ∷ ys) a b e = absurd (omega (arith, ap length e, length-append ys (b ∷ [])))
 last_call (x ∷ xs) [] a b e = absurd (omega (arith, ap length e, length-append xs (a ∷ [])))

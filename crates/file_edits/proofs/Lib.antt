@@ -1,4 +1,5 @@
 pub mod OwnLemmas
+pub mod SparingLemmas
 pub mod AnswerLemmas
 pub mod AskLemmas
 pub mod ReadLemmas

@@ -11,7 +11,7 @@ use Rattle.cluster_tree.specs.declared.tree.ChangeCall.{ChangeCall}
 use Rattle.cluster_tree.specs.declared.tree.TreeFault.{TreeFault}
 use Rattle.cluster_tree.proofs.OrderLemmas.{path_eq-own}
 use Rattle.cluster_tree.proofs.RunLemmas.{came_read, came_on}
-use Rattle.file_edits.specs.Own.{is_on, is_own, GoesOn, Same, More, OnOwn}
+use Rattle.file_edits.specs.Own.{is_on, is_own, GoesBy, GoesOn, Same, More, OnOwn}
 
 pub at-own : (path : PathValue) → path_eq path path ≡ true
 at-own path = path_eq-own path
@@ -26,13 +26,19 @@ still_on : (own more : PathValue → Bool) (o : Option PathValue) → ((q : Path
 still_on own more None w e = absurd cc
 still_on own more (Some path) w e = w path e
 
+pub goes-by_on : (may : ChangeCall → Bool) (a b c : List ChangeCall) → GoesBy may a b → GoesBy may b c → GoesBy may a c
+goes-by_on may a b c p Same = p
+goes-by_on may a b c p (More call on is listed) = More call (goes-by_on may a b _ p on) is listed
+
+pub goes-by_wider : (may more : ChangeCall → Bool) (a b : List ChangeCall) → ((call : ChangeCall) → may call ≡ true → more call ≡ true) → GoesBy may a b → GoesBy more a b
+goes-by_wider may more a b w Same = Same
+goes-by_wider may more a b w (More call on is listed) = More call (goes-by_wider may more a _ w on) (w call is) listed
+
 pub goes_on : (own : PathValue → Bool) (a b c : List ChangeCall) → GoesOn own a b → GoesOn own b c → GoesOn own a c
-goes_on own a b c p Same = p
-goes_on own a b c p (More call on is listed) = More call (goes_on own a b _ p on) is listed
+goes_on own a b c = goes-by_on (is_own own) a b c
 
 pub goes_wider : (own more : PathValue → Bool) (old new : List ChangeCall) → ((q : PathValue) → own q ≡ true → more q ≡ true) → GoesOn own old new → GoesOn more old new
-goes_wider own more old new w Same = Same
-goes_wider own more old new w (More call on is listed) = More call (goes_wider own more old _ w on) (still_on own more (changed_path call) w is) listed
+goes_wider own more old new w = goes-by_wider (is_own own) (is_own more) old new (λ call. still_on own more (changed_path call) w)
 
 -- more paths may be own
 pub own-wider : {F : Type 0} (calls : F → List ChangeCall) (own more : PathValue → Bool) (a b : F) → ((q : PathValue) → own q ≡ true → more q ≡ true) → OnOwn calls own a b → OnOwn calls more a b

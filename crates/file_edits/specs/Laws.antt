@@ -3,14 +3,16 @@ use Rattle.std.specs.Prelude.{◌≡◌, ◌≢◌, ◌⊎◌, ℕ, ◌<◌, Boo
 use Rattle.cluster_tree.specs.Apart.{is_held}
 use Rattle.cluster_tree.specs.PathValue.{PathValue, Holds, below}
 use Rattle.cluster_tree.specs.Contents.{Contents, FileEntry, FolderEntry, IsTree, entry_at, is_folder, parent}
-use Rattle.cluster_tree.specs.Run.{State, Run}
+use Rattle.cluster_tree.specs.Run.{Moment, State, Course, Run}
+use Rattle.cluster_tree.specs.Stops.{MayBeLeft, LeavesOnly}
 use Rattle.cluster_tree.specs.Tree.{bytes_at}
 use Rattle.cluster_tree.specs.declared.tree.ChangeCall.{ChangeCall}
 use Rattle.file_edits.specs.Alike.{Alike, AlikeAnswers, AsDeep, SameAnswers}
 use Rattle.file_edits.specs.Asking.{file_asked, folder_asked, size_asked, names_asked, read_asked}
 use Rattle.file_edits.specs.Clearing.{tree_removed}
 use Rattle.file_edits.specs.Edits.{file_cut, file_edited, file_removed, on_way, way_made}
-use Rattle.file_edits.specs.Own.{GoesOn}
+use Rattle.file_edits.specs.Own.{GoesBy, GoesOn}
+use Rattle.file_edits.specs.Sparing.{Piece, Shows, spares}
 
 -- an edited file is what the edit makes of its bytes
 abbrev pub EditedStands : Type 0
@@ -67,6 +69,22 @@ OwnInTurn = (own : PathValue → Bool) (old mid new : List ChangeCall) → GoesO
 -- and more paths may be own
 abbrev pub OwnIsWider : Type 0
 OwnIsWider = (own more : PathValue → Bool) (old new : List ChangeCall) → ((q : PathValue) → own q ≡ true → more q ≡ true) → GoesOn own old new → GoesOn more old new
+
+-- calls that spare a piece of a file, whatever they answered, leave its bytes
+abbrev pub SparedStays : Type 0
+SparedStays = (piece : Piece) (bytes : List ℕ) (old new : State) → Run old new → GoesBy (spares piece) old.calls new.calls → Shows piece bytes old.contents → Shows piece bytes new.contents
+
+-- and so does a stop at any moment, where all that a stop might leave before had them
+abbrev pub SparedAtAnyStop : Type 0
+SparedAtAnyStop = (piece : Piece) (bytes : List ℕ) (old new : Moment) → Course old new → GoesBy (spares piece) old.state.calls new.state.calls → Shows piece bytes old.state.contents → ((c : Contents) → MayBeLeft old.stops c → Shows piece bytes c) → LeavesOnly (Shows piece bytes) old.stops new.stops
+
+-- such calls after others are such calls together
+abbrev pub SparedInTurn : Type 0
+SparedInTurn = (piece : Piece) (old mid new : List ChangeCall) → GoesBy (spares piece) old mid → GoesBy (spares piece) mid new → GoesBy (spares piece) old new
+
+-- calls at own paths spare each piece of a file elsewhere
+abbrev pub OwnSpares : Type 0
+OwnSpares = (own : PathValue → Bool) (piece : Piece) (old new : List ChangeCall) → own piece.path ≡ false → GoesOn own old new → GoesBy (spares piece) old new
 
 -- an edit that makes alike files of alike ones leaves alike trees alike, and is refused in both or in neither
 abbrev pub EditedAlike : Type 0

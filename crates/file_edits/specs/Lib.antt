@@ -1,4 +1,5 @@
 pub mod Own
+pub mod Sparing
 pub mod Answers
 pub mod Asking
 pub mod Edits

@@ -12,10 +12,14 @@ is_on own (Some path) = own path
 abbrev pub is_own : (PathValue → Bool) → ChangeCall → Bool
 is_own own call = is_on own (changed_path call)
 
+-- the list went on by calls that each pass a test, or by none
+pub data GoesBy (may : ChangeCall → Bool) (old : List ChangeCall) : List ChangeCall → Type 0 where
+  Same : GoesBy may old old
+  More : {mid new : List ChangeCall} (call : ChangeCall) → GoesBy may old mid → may call ≡ true → new ≡ mid ++ call ∷ [] → GoesBy may old new
+
 -- the list went on by calls at own paths, or by none
-pub data GoesOn (own : PathValue → Bool) (old : List ChangeCall) : List ChangeCall → Type 0 where
-  Same : GoesOn own old old
-  More : {mid new : List ChangeCall} (call : ChangeCall) → GoesOn own old mid → is_own own call ≡ true → new ≡ mid ++ call ∷ [] → GoesOn own old new
+abbrev pub GoesOn : (PathValue → Bool) → List ChangeCall → List ChangeCall → Type 0
+GoesOn own = GoesBy (is_own own)
 
 -- the changing calls that came are each at an own path, and none is a sync: so a list that went on by such calls before still does
 abbrev pub OnOwn : {F : Type 0} → (F → List ChangeCall) → (PathValue → Bool) → F → F → Type 0

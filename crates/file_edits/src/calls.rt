@@ -1,5 +1,5 @@
 // The changing calls, each at its own path, where nothing is to refuse them.
-ghost use Rattle.std.specs.Prelude.{◌≡◌, ◌≢◌, ◌⊎◌, [], false, length, None, IsTrue, Ok, Err, IsErrOf, OnOk, IfErr};
+ghost use Rattle.std.specs.Prelude.{◌≡◌, ◌≢◌, ◌⊎◌, [], false, true, length, None, IsTrue, Ok, Err, IsErrOf, OnOk, IfErr};
 ghost use Rattle.std.specs.FinMap.{insert, remove};
 ghost use Rattle.cluster_tree.specs.PathOrder.{path_eq};
 ghost use Rattle.cluster_tree.specs.Contents.{FileEntry, FolderEntry};
@@ -9,8 +9,9 @@ ghost use Rattle.cluster_tree.specs.Causes.{Rose};
 ghost use Rattle.cluster_tree.specs.Frame.{Came};
 ghost use Rattle.file_edits.specs.Answers.{Does};
 ghost use Rattle.file_edits.specs.Own.{OnOwn};
+ghost use Rattle.file_edits.specs.Sparing.{Piece, Spares, spares};
 
-use cluster_tree::{FileFault, Path, Tree, TreeFault};
+use cluster_tree::{ChangeCall, FileFault, Path, Tree, TreeFault};
 use std::alloc::Global;
 
 // The answer of a changing call that nothing was to refuse: a refusal contradicts what was asked.
@@ -38,6 +39,7 @@ pub(crate) fn make_folder<F: Tree>(
     ensures frame { Came F.Tree tree.old tree.new }
     ensures own { IsTrue F.tells →
         OnOwn F.calls (λ q. path_eq q path.now) tree.old tree.new }
+    ensures spares { IsTrue F.tells → (piece : Piece) → Spares F.Tree piece tree.old tree.new }
     ensures read_fault { result ≢ Err FileFault.ReadFault }
     ensures write_fault { IsErrOf result FileFault.WriteFault →
         Rose (F.failed_changes tree.old) (F.failed_changes tree.new) }
@@ -53,6 +55,7 @@ pub(crate) fn make_file<F: Tree>(alloc: Global, tree: &mut F, path: &Path) -> Re
     ensures frame { Came F.Tree tree.old tree.new }
     ensures own { IsTrue F.tells →
         OnOwn F.calls (λ q. path_eq q path.now) tree.old tree.new }
+    ensures spares { IsTrue F.tells → (piece : Piece) → Spares F.Tree piece tree.old tree.new }
     ensures read_fault { result ≢ Err FileFault.ReadFault }
     ensures write_fault { IsErrOf result FileFault.WriteFault →
         Rose (F.failed_changes tree.old) (F.failed_changes tree.new) }
@@ -74,6 +77,8 @@ pub(crate) fn write<F: Tree>(
     ensures frame { Came F.Tree tree.old tree.new }
     ensures own { IsTrue F.tells →
         OnOwn F.calls (λ q. path_eq q path.now) tree.old tree.new }
+    ensures spares { IsTrue F.tells → (piece : Piece) → spares piece (ChangeCall.Write path.now at (length bytes.now)) ≡ true →
+        Spares F.Tree piece tree.old tree.new }
     ensures read_fault { result ≢ Err FileFault.ReadFault }
     ensures write_fault { IsErrOf result FileFault.WriteFault →
         Rose (F.failed_changes tree.old) (F.failed_changes tree.new) }
@@ -89,6 +94,8 @@ pub(crate) fn remove<F: Tree>(alloc: Global, tree: &mut F, path: &Path) -> Resul
     ensures frame { Came F.Tree tree.old tree.new }
     ensures own { IsTrue F.tells →
         OnOwn F.calls (λ q. path_eq q path.now) tree.old tree.new }
+    ensures spares { IsTrue F.tells → (piece : Piece) → spares piece (ChangeCall.Remove path.now) ≡ true →
+        Spares F.Tree piece tree.old tree.new }
     ensures read_fault { result ≢ Err FileFault.ReadFault }
     ensures write_fault { IsErrOf result FileFault.WriteFault →
         Rose (F.failed_changes tree.old) (F.failed_changes tree.new) }
@@ -109,6 +116,8 @@ pub(crate) fn cut<F: Tree>(
     ensures frame { Came F.Tree tree.old tree.new }
     ensures own { IsTrue F.tells →
         OnOwn F.calls (λ q. path_eq q path.now) tree.old tree.new }
+    ensures spares { IsTrue F.tells → (piece : Piece) → spares piece (ChangeCall.Cut path.now size) ≡ true →
+        Spares F.Tree piece tree.old tree.new }
     ensures read_fault { result ≢ Err FileFault.ReadFault }
     ensures write_fault { IsErrOf result FileFault.WriteFault →
         Rose (F.failed_changes tree.old) (F.failed_changes tree.new) }

@@ -1,5 +1,5 @@
 // Files that are edited in place, and made where nothing stands.
-ghost use Rattle.std.specs.Prelude.{◌≡◌, ◌≢◌, ◌<◌, ◌≤◌, length, IsTrue, IfOk, Ok, Err, IsErrOf};
+ghost use Rattle.std.specs.Prelude.{◌≡◌, ◌≢◌, ◌<◌, ◌≤◌, true, length, IsTrue, IfOk, Ok, Err, IsErrOf};
 ghost use Rattle.cluster_tree.specs.PathValue.{PathValue, Holds};
 ghost use Rattle.cluster_tree.specs.PathOrder.{path_eq};
 ghost use Rattle.cluster_tree.specs.Contents.{entry_at};
@@ -9,11 +9,12 @@ ghost use Rattle.cluster_tree.specs.Frame.{Came};
 ghost use Rattle.file_edits.specs.Answers.{Does};
 ghost use Rattle.file_edits.specs.Edits.{edited, file_edited, laid, on_way, padded};
 ghost use Rattle.file_edits.specs.Own.{OnOwn};
+ghost use Rattle.file_edits.specs.Sparing.{Piece, Spares, spares};
 
 use crate::asking::file_size;
 use crate::calls::{make_file, write};
 use crate::ways::make_way;
-use cluster_tree::{FileFault, Path, Tree};
+use cluster_tree::{ChangeCall, FileFault, Path, Tree};
 use std::alloc::Global;
 
 // As many zeros as are written at once.
@@ -37,6 +38,7 @@ pub fn ensure_file<F: Tree>(
         size_of (file_of (entry_at (F.contents tree.new) path.now)) ≡ Ok size) }
     ensures frame { Came F.Tree tree.old tree.new }
     ensures own { IsTrue F.tells → OnOwn F.calls (on_way root.now path.now) tree.old tree.new }
+    ensures spares { IsTrue F.tells → (piece : Piece) → Spares F.Tree piece tree.old tree.new }
     ensures read_fault { IsErrOf result FileFault.ReadFault →
         Rose (F.failed_reads tree.old) (F.failed_reads tree.new) }
     ensures write_fault { IsErrOf result FileFault.WriteFault →
@@ -67,6 +69,8 @@ fn pad_to<F: Tree>(
         Does (Ok (edited path.now (padded to) (F.contents tree.old))) (F.contents tree.new) result }
     ensures frame { Came F.Tree tree.old tree.new }
     ensures own { IsTrue F.tells → OnOwn F.calls (λ q. path_eq q path.now) tree.old tree.new }
+    ensures spares { IsTrue F.tells → (piece : Piece) → spares piece (ChangeCall.Cut path.now from) ≡ true →
+        Spares F.Tree piece tree.old tree.new }
     ensures read_fault { result ≢ Err FileFault.ReadFault }
     ensures write_fault { IsErrOf result FileFault.WriteFault →
         Rose (F.failed_changes tree.old) (F.failed_changes tree.new) }
@@ -101,6 +105,8 @@ pub fn lay<F: Tree>(
         (F.contents tree.new) result }
     ensures frame { Came F.Tree tree.old tree.new }
     ensures own { IsTrue F.tells → OnOwn F.calls (on_way root.now path.now) tree.old tree.new }
+    ensures spares { IsTrue F.tells → (piece : Piece) → spares piece (ChangeCall.Write path.now at (length bytes.now)) ≡ true →
+        Spares F.Tree piece tree.old tree.new }
     ensures read_fault { IsErrOf result FileFault.ReadFault →
         Rose (F.failed_reads tree.old) (F.failed_reads tree.new) }
     ensures write_fault { IsErrOf result FileFault.WriteFault →

@@ -1,5 +1,5 @@
 // What follows from the definitions, for callers: each function's contract is a law.
-ghost use Rattle.file_edits.specs.Laws.{CutAlike, CutElsewhere, CutOfNone, CutStands, EditedAlike, EditedElsewhere, EditedStands, FolderAlike, NamesAlike, OwnElsewhere, OwnInTurn, OwnIsWider, ReadAlike, RemovedAlike, RemovedElsewhere, RemovedIsGone, SizeAlike, TreeAlike, TreeAnswersAlike, TreeElsewhere, TreeIsGone, WayAlike, WayElsewhere, WayStands};
+ghost use Rattle.file_edits.specs.Laws.{CutAlike, CutElsewhere, CutOfNone, CutStands, EditedAlike, EditedElsewhere, EditedStands, FolderAlike, NamesAlike, OwnElsewhere, OwnInTurn, OwnIsWider, OwnSpares, ReadAlike, RemovedAlike, RemovedElsewhere, RemovedIsGone, SizeAlike, SparedAtAnyStop, SparedInTurn, SparedStays, TreeAlike, TreeAnswersAlike, TreeElsewhere, TreeIsGone, WayAlike, WayElsewhere, WayStands};
 
 /// What stands at a path, and at every other, after a file was edited, cut or removed there, or
 /// a folder with all that it holds, or after the folders on the way were made.
@@ -22,6 +22,15 @@ pub fn own_laws()
     ensures elsewhere { OwnElsewhere }
     ensures in_turn { OwnInTurn }
     ensures wider { OwnIsWider }
+{}
+
+/// Where changing calls each spare a piece of a file, it keeps its bytes, also after an error and
+/// after a stop.
+pub fn sparing_laws()
+    ensures stays { SparedStays }
+    ensures at_any_stop { SparedAtAnyStop }
+    ensures in_turn { SparedInTurn }
+    ensures own { OwnSpares }
 {}
 
 /// Trees that are alike below two roots stay alike, and each call answers the same of both.

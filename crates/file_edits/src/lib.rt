@@ -14,7 +14,7 @@ mod ways;
 pub use asking::{file_size, is_folder, name_at, names_of};
 pub use clearing::remove_tree;
 pub use editing::{ensure_file, lay};
-pub use laws::{alike_laws, edit_laws, own_laws};
+pub use laws::{alike_laws, edit_laws, own_laws, sparing_laws};
 pub use reading::read_or_zeros;
 pub use removing::remove_file;
 pub use shortening::shorten;

@@ -9,6 +9,7 @@ ghost use Rattle.file_edits.specs.Answers.{IsFree, Does};
 ghost use Rattle.file_edits.specs.Asking.{root_refusal};
 ghost use Rattle.file_edits.specs.Edits.{folder_made, way_made, on_way};
 ghost use Rattle.file_edits.specs.Own.{OnOwn};
+ghost use Rattle.file_edits.specs.Sparing.{Piece, Spares};
 
 use crate::asking::is_folder;
 use crate::calls::make_folder;
@@ -48,6 +49,7 @@ fn make_front<F: Tree>(
     ensures frame { Came F.Tree tree.old tree.new }
     ensures own { IsTrue F.tells →
         OnOwn F.calls (λ q. path_eq q (front parts path.now)) tree.old tree.new }
+    ensures spares { IsTrue F.tells → (piece : Piece) → Spares F.Tree piece tree.old tree.new }
     ensures read_fault { IsErrOf result FileFault.ReadFault →
         Rose (F.failed_reads tree.old) (F.failed_reads tree.new) }
     ensures write_fault { IsErrOf result FileFault.WriteFault →
@@ -74,6 +76,7 @@ pub fn make_way<F: Tree>(
         Does (way_made root.now path.now (F.contents tree.old)) (F.contents tree.new) result }
     ensures frame { Came F.Tree tree.old tree.new }
     ensures own { IsTrue F.tells → OnOwn F.calls (on_way root.now path.now) tree.old tree.new }
+    ensures spares { IsTrue F.tells → (piece : Piece) → Spares F.Tree piece tree.old tree.new }
     ensures read_fault { IsErrOf result FileFault.ReadFault →
         Rose (F.failed_reads tree.old) (F.failed_reads tree.new) }
     ensures write_fault { IsErrOf result FileFault.WriteFault →

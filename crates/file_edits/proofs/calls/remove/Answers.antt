@@ -1,5 +1,6 @@
 use Rattle.cluster_tree.specs.declared.tree.ChangeCall.TheVariants as call
 use Rattle.file_edits.proofs.OwnLemmas.{own-made, at-own}
+use Rattle.file_edits.proofs.SparingLemmas.{spared-made}
 use Rattle.file_edits.proofs.AnswerLemmas.{settled-exact}
 use Rattle.file_edits.proofs.calls.remove.Goals as goal
 
@@ -8,3 +9,6 @@ returns-clause-exact g c told none = settled-exact _ _ _ _ _ none (c.remove-done
 
 pub returns-clause-own : goal.returns-clause-own
 returns-clause-own g c told = own-made g.F.Tree.contents g.F.Tree.calls _ (call.Remove c.args.path.now) _ _ c.remove-done.result (at-own c.args.path.now) (c.remove-done.ensures.made told)
+
+pub returns-clause-spares : goal.returns-clause-spares
+returns-clause-spares g c told piece is = spared-made g.F.Tree piece (call.Remove c.args.path.now) _ _ c.remove-done.result is (c.remove-done.ensures.made told)

@@ -4,6 +4,7 @@ use Rattle.cluster_tree.specs.PathOrder.{path_eq}
 use Rattle.file_edits.proofs.OwnLemmas.{own-read, own-on, own-wider}
 use Rattle.file_edits.proofs.WayLemmas.{way-own}
 use Rattle.file_edits.proofs.EditLemmas.{new-unrefused}
+use Rattle.file_edits.proofs.SparingLemmas.{spared-on, spared-read}
 use Rattle.file_edits.proofs.editing.ensure_file.Goals as goal
 
 pub returns-in_err-make_file-in-None-clause-exact : goal.returns-in_err-make_file-in-None-clause-exact
@@ -25,3 +26,17 @@ returns-in_ok-make_file-in-None-clause-own g c told =
     own-on g.F.Tree.calls _ _ _ _ (own-read g.F.Tree _ _ _ c.file_size.ensures.frame)
     (own-on g.F.Tree.calls _ _ _ _ (c.make_way.ensures.own told)
     (own-wider g.F.Tree.calls (λ q. path_eq q c.args.path.now) _ _ _ (way-own c.args.root.now c.args.path.now) (c.make_file.ensures.own told)))
+
+pub returns-in_err-make_file-in-None-clause-spares : goal.returns-in_err-make_file-in-None-clause-spares
+returns-in_err-make_file-in-None-clause-spares g c told piece =
+    spared-on g.F.Tree piece _ _ _ (spared-read g.F.Tree piece _ _ c.file_size.ensures.frame)
+    (spared-on g.F.Tree piece _ _ _ (c.make_way.ensures.spares told piece) (c.make_file.ensures.spares told piece))
+
+pub returns-in_ok-make_file-in-None-clause-spares : goal.returns-in_ok-make_file-in-None-clause-spares
+returns-in_ok-make_file-in-None-clause-spares g c told piece =
+    spared-on g.F.Tree piece _ _ _ (spared-read g.F.Tree piece _ _ c.file_size.ensures.frame)
+    (spared-on g.F.Tree piece _ _ _ (c.make_way.ensures.spares told piece) (c.make_file.ensures.spares told piece))
+
+pub returns-in_err-make_way-in-None-clause-spares : goal.returns-in_err-make_way-in-None-clause-spares
+returns-in_err-make_way-in-None-clause-spares g c told piece =
+    spared-on g.F.Tree piece _ _ _ (spared-read g.F.Tree piece _ _ c.file_size.ensures.frame) (c.make_way.ensures.spares told piece)

@@ -6,6 +6,7 @@ use Rattle.file_edits.proofs.AnswerLemmas.{does-unchanged}
 use Rattle.file_edits.proofs.OwnLemmas.{own-on, own-wider}
 use Rattle.file_edits.proofs.WayLemmas.{way-own}
 use Rattle.file_edits.proofs.EditLemmas.{edited-stays, edited-unchanged, laid-exact}
+use Rattle.file_edits.proofs.SparingLemmas.{padded-spares, spared-on}
 use Rattle.file_edits.proofs.editing.lay.Goals as goal
 
 pub returns-in_err-there-clause-exact : goal.returns-in_err-there-clause-exact
@@ -33,3 +34,16 @@ returns-clause-own g c told =
 pub returns-clause-changed : goal.returns-clause-changed
 returns-clause-changed g c told p =
     does-unchanged _ _ c.write.result (returns-clause-exact g c told) (edited-unchanged c.args.root.now c.args.path.now (laid c.args.size c.args.at c.args.bytes.now) (g.F.Tree.contents c.args.tree.now)) p
+
+pub returns-in_err-pad_to-clause-spares : goal.returns-in_err-pad_to-clause-spares
+returns-in_err-pad_to-clause-spares g c told piece is =
+    padded-spares g.F.Tree piece c.args.path.now _ _ _ _ (c.ensure_file.ensures.spares told piece) (c.in_ok-there.ensures.size told) (c.pad_to.ensures.spares told piece)
+
+pub returns-clause-spares : goal.returns-clause-spares
+returns-clause-spares g c told piece is =
+    spared-on g.F.Tree piece _ _ _
+    (padded-spares g.F.Tree piece c.args.path.now _ _ _ _ (c.ensure_file.ensures.spares told piece) (c.in_ok-there.ensures.size told) (c.pad_to.ensures.spares told piece))
+    (c.write.ensures.spares told piece is)
+
+pub returns-in_err-there-clause-spares : goal.returns-in_err-there-clause-spares
+returns-in_err-there-clause-spares g c told piece is = c.ensure_file.ensures.spares told piece

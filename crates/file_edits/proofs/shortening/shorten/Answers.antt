@@ -3,6 +3,7 @@ use Rattle.std.proofs.lemmas.Result.{err_from_is_err_and}
 use Rattle.file_edits.proofs.OwnLemmas.{own-read, own-on}
 use Rattle.file_edits.proofs.AnswerLemmas.{handed-on}
 use Rattle.file_edits.proofs.CutLemmas.{cut-refused, cut-whole, cut-longer}
+use Rattle.file_edits.proofs.SparingLemmas.{spared-on, spared-read}
 use Rattle.file_edits.proofs.shortening.shorten.Goals as goal
 
 pub returns-in_err-file_size-clause-exact : goal.returns-in_err-file_size-clause-exact
@@ -22,3 +23,6 @@ returns-clause-exact g c told =
 
 pub returns-clause-own : goal.returns-clause-own
 returns-clause-own g c told = own-on g.F.Tree.calls _ _ _ _ (own-read g.F.Tree _ _ _ c.file_size.ensures.frame) (c.cut.ensures.own told)
+
+pub returns-clause-spares : goal.returns-clause-spares
+returns-clause-spares g c told piece is = spared-on g.F.Tree piece _ _ _ (spared-read g.F.Tree piece _ _ c.file_size.ensures.frame) (c.cut.ensures.spares told piece is)

@@ -8,6 +8,7 @@ use Rattle.file_edits.specs.Edits.{folders_made}
 use Rattle.file_edits.proofs.AnswerLemmas.{does-unchanged}
 use Rattle.file_edits.proofs.OwnLemmas.{own-read, own-on, own-wider, came-read, came-on}
 use Rattle.file_edits.proofs.WayLemmas.{way-root, way-begun, way-more, way-refused, way-end, way-front, way-unchanged, root-above, made-above}
+use Rattle.file_edits.proofs.SparingLemmas.{spared-on, spared-read}
 use Rattle.file_edits.proofs.ways.make_way.Goals as goal
 
 pub returns-in_err-check_root-clause-exact : goal.returns-in_err-check_root-clause-exact
@@ -24,6 +25,7 @@ loop-parts-init g c =
     record {
       frame = came-read g.F.Tree _ _ c.check_root.ensures.frame;
       own = λ told. own-read g.F.Tree _ _ _ c.check_root.ensures.frame;
+      spares = λ told piece. spared-read g.F.Tree piece _ _ c.check_root.ensures.frame;
       meant = λ told.
           ap (λ (m : _). folders_made (length c.args.path.now.parts - (m + 1)) (m + 1) c.args.path.now new) len
           ∙ ap (λ (x : Contents). folders_made (length c.args.path.now.parts - (length c.args.root.now.parts + 1)) (length c.args.root.now.parts + 1) c.args.path.now x) same
@@ -62,6 +64,7 @@ loop-parts-preserved g c =
       own = λ told.
           own-on g.F.Tree.calls _ _ _ _ (c.loop-parts.invariant.own told)
           (own-wider g.F.Tree.calls (λ q. path_eq q (front c.loop-parts.parts c.args.path.now)) _ _ _ (λ q is. way-front c.args.root.now c.args.path.now c.loop-parts.parts q low high is) (c.make_front.ensures.own told));
+      spares = λ told piece. spared-on g.F.Tree piece _ _ _ (c.loop-parts.invariant.spares told piece) (c.make_front.ensures.spares told piece);
       meant = λ told.
           sym (way-more n (length path.parts) path (g.F.Tree.contents c.loop-parts.tree) (g.F.Tree.contents c.make_front.new.tree) high (c.in_ok-make_front.ensures.exact told (c.loop-parts.invariant.above told)))
           ∙ c.loop-parts.invariant.meant told;
@@ -70,3 +73,6 @@ loop-parts-preserved g c =
 
 pub returns-clause-exact : goal.returns-clause-exact
 returns-clause-exact g c told = sym (c.loop-parts.invariant.meant told) ∙ way-end c.loop-parts.parts (length c.args.path.now.parts) c.args.path.now (g.F.Tree.contents c.loop-parts.tree) (omega arith)
+
+pub returns-in_err-make_front-clause-spares : goal.returns-in_err-make_front-clause-spares
+returns-in_err-make_front-clause-spares g c told piece = spared-on g.F.Tree piece _ _ _ (c.loop-parts.invariant.spares told piece) (c.make_front.ensures.spares told piece)
