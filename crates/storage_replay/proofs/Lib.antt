@@ -7,3 +7,4 @@ pub mod LengthLemmas
 pub mod MapLemmas
 pub mod OwnLemmas
 pub mod ReadLemmas
+pub mod SparingLemmas

@@ -29,7 +29,7 @@ or_then false b c next e = next e
 
 -- a file in its folder
 
-last-below : (folder : PathValue) (name : List ℕ) → last_part (below folder (name ∷ [])) ≡ name
+pub last-below : (folder : PathValue) (name : List ℕ) → last_part (below folder (name ∷ [])) ≡ name
 last-below folder name = last folder.parts name
   where
     last : (parts : List (List ℕ)) (name : List ℕ) → last_part (below folder (name ∷ [])) ≡ name

@@ -5,3 +5,4 @@ pub mod Blocks
 pub mod Cutting
 pub mod MapBits
 pub mod Changes
+pub mod Sparing

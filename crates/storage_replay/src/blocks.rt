@@ -1,5 +1,5 @@
 // Blocks that are read and written.
-ghost use Rattle.std.specs.Prelude.{◌≡◌, ◌≢◌, ◌≤◌, ◌<◌, ◌*◌, ◌/◌, ◌%◌, ◌^◌, ◌-◌, length, replicate, IsTrue, Err, IsErrOf};
+ghost use Rattle.std.specs.Prelude.{◌≡◌, ◌≢◌, ◌≤◌, ◌<◌, ◌*◌, ◌/◌, ◌%◌, ◌^◌, ◌-◌, true, length, replicate, IsTrue, Err, IsErrOf};
 ghost use Rattle.std.specs.List.{list_all};
 ghost use Rattle.cluster_tree.specs.PathValue.{PathValue, Holds};
 ghost use Rattle.cluster_tree.specs.Causes.{MeetsInto, Rose};
@@ -8,16 +8,18 @@ ghost use Rattle.file_edits.specs.Answers.{Does, IsFree};
 ghost use Rattle.file_edits.specs.Asking.{read_asked};
 ghost use Rattle.file_edits.specs.Edits.{file_edited, laid, on_way};
 ghost use Rattle.file_edits.specs.Own.{OnOwn};
+ghost use Rattle.file_edits.specs.Sparing.{Piece, Spares, spares};
 ghost use Rattle.relation_files.specs.Paths.{relation_file};
 ghost use Rattle.storage_replay.specs.Blocks.{block_in_file, block_laid, block_put, file_filled, files_filled, grown};
 ghost use Rattle.storage_replay.specs.Files.{AreFit, is_of_relation};
+ghost use Rattle.storage_replay.specs.Sparing.{EndsABlock, block_write};
 ghost use Rattle.storage_replay.specs.Reading.{ReadsBlock, block_from_file, block_read, found_in};
 
 use crate::files::Files;
 use crate::found::Found;
 use crate::lengths::{BLOCK, has_block};
 use block_refs::{BlockName, Fork, RelName};
-use cluster_tree::{FileFault, Path, Tree};
+use cluster_tree::{ChangeCall, FileFault, Path, Tree};
 use file_edits::{ensure_file, lay, read_or_zeros};
 use page_layout::Page;
 use relation_files::relation_file;
@@ -123,6 +125,9 @@ fn lay_zeros<F: Tree>(
         (F.contents tree.new) result }
     ensures frame { Came F.Tree tree.old tree.new }
     ensures own { IsTrue F.tells → OnOwn F.calls (on_way root.now path.now) tree.old tree.new }
+    ensures spares { IsTrue F.tells → (piece : Piece) →
+        spares piece (ChangeCall.Write path.now at 8192) ≡ true →
+        Spares F.Tree piece tree.old tree.new }
     ensures read_fault { IsErrOf result FileFault.ReadFault →
         Rose (F.failed_reads tree.old) (F.failed_reads tree.new) }
     ensures write_fault { IsErrOf result FileFault.WriteFault →
@@ -147,6 +152,9 @@ fn grow_file<F: Tree>(
         (F.contents tree.new) result }
     ensures frame { Came F.Tree tree.old tree.new }
     ensures own { IsTrue F.tells → OnOwn F.calls (on_way root.now path.now) tree.old tree.new }
+    ensures spares { IsTrue F.tells → (piece : Piece) →
+        EndsABlock piece →
+        Spares F.Tree piece tree.old tree.new }
     ensures read_fault { IsErrOf result FileFault.ReadFault →
         Rose (F.failed_reads tree.old) (F.failed_reads tree.new) }
     ensures write_fault { IsErrOf result FileFault.WriteFault →
@@ -177,6 +185,9 @@ fn fill_file<F: Tree>(
     ensures frame { Came F.Tree tree.old tree.new }
     ensures own { IsTrue F.tells →
         OnOwn F.calls (is_of_relation at.now.root rel) tree.old tree.new }
+    ensures spares { IsTrue F.tells → (piece : Piece) →
+        EndsABlock piece →
+        Spares F.Tree piece tree.old tree.new }
     ensures read_fault { IsErrOf result FileFault.ReadFault →
         Rose (F.failed_reads tree.old) (F.failed_reads tree.new) }
     ensures write_fault { IsErrOf result FileFault.WriteFault →
@@ -203,6 +214,9 @@ fn fill_files<F: Tree>(
     ensures frame { Came F.Tree tree.old tree.new }
     ensures own { IsTrue F.tells →
         OnOwn F.calls (is_of_relation at.now.root rel) tree.old tree.new }
+    ensures spares { IsTrue F.tells → (piece : Piece) →
+        EndsABlock piece →
+        Spares F.Tree piece tree.old tree.new }
     ensures read_fault { IsErrOf result FileFault.ReadFault →
         Rose (F.failed_reads tree.old) (F.failed_reads tree.new) }
     ensures write_fault { IsErrOf result FileFault.WriteFault →
@@ -231,6 +245,10 @@ fn put_block<F: Tree>(
         (F.contents tree.new) result }
     ensures frame { Came F.Tree tree.old tree.new }
     ensures own { IsTrue F.tells → OnOwn F.calls (on_way root.now path.now) tree.old tree.new }
+    ensures spares { IsTrue F.tells → (piece : Piece) →
+        EndsABlock piece →
+        spares piece (ChangeCall.Write path.now (place * 8192) (length page.now)) ≡ true →
+        Spares F.Tree piece tree.old tree.new }
     ensures read_fault { IsErrOf result FileFault.ReadFault →
         Rose (F.failed_reads tree.old) (F.failed_reads tree.new) }
     ensures write_fault { IsErrOf result FileFault.WriteFault →
@@ -256,6 +274,11 @@ fn put_in_file<F: Tree>(
     ensures frame { Came F.Tree tree.old tree.new }
     ensures own { IsTrue F.tells →
         OnOwn F.calls (is_of_relation at.now.root name.rel) tree.old tree.new }
+    ensures spares { IsTrue F.tells → (piece : Piece) →
+        EndsABlock piece →
+        spares piece (ChangeCall.Write (relation_file at.now.root name.rel name.fork
+        (name.block / at.now.per_file)) (name.block % at.now.per_file * 8192) (length page.now)) ≡ true →
+        Spares F.Tree piece tree.old tree.new }
     ensures read_fault { IsErrOf result FileFault.ReadFault →
         Rose (F.failed_reads tree.old) (F.failed_reads tree.new) }
     ensures write_fault { IsErrOf result FileFault.WriteFault →
@@ -289,6 +312,10 @@ pub fn write_block<F: Tree>(
     ensures frame { Came F.Tree tree.old tree.new }
     ensures own { IsTrue F.tells →
         OnOwn F.calls (is_of_relation at.now.root name.rel) tree.old tree.new }
+    ensures spares { IsTrue F.tells → (piece : Piece) →
+        EndsABlock piece →
+        spares piece (block_write at.now.root at.now.per_file name) ≡ true →
+        Spares F.Tree piece tree.old tree.new }
     ensures read_fault { IsErrOf result FileFault.ReadFault →
         Rose (F.failed_reads tree.old) (F.failed_reads tree.new) }
     ensures write_fault { IsErrOf result FileFault.WriteFault →

@@ -1,5 +1,5 @@
 // Forks that are cut, and files that are swept from a folder.
-ghost use Rattle.std.specs.Prelude.{◌≡◌, ◌≢◌, ◌≤◌, ◌<◌, length, true, IsTrue, Err, IsErrOf};
+ghost use Rattle.std.specs.Prelude.{◌≡◌, ◌≢◌, ◌≤◌, ◌<◌, length, false, true, IsTrue, Err, IsErrOf};
 ghost use Rattle.std.specs.List.{list_all};
 ghost use Rattle.cluster_tree.specs.PathValue.{PathValue, is_part};
 ghost use Rattle.cluster_tree.specs.PathOrder.{path_eq};
@@ -9,16 +9,18 @@ ghost use Rattle.file_edits.specs.Answers.{Does};
 ghost use Rattle.file_edits.specs.Clearing.{in_turn};
 ghost use Rattle.file_edits.specs.Edits.{file_cut};
 ghost use Rattle.file_edits.specs.Own.{OnOwn};
+ghost use Rattle.file_edits.specs.Sparing.{Piece, Spares, spares};
 ghost use Rattle.relation_files.specs.Paths.{relation_file};
 ghost use Rattle.relation_files.specs.Reading.{file_named};
 ghost use Rattle.storage_replay.specs.Cutting.{entry_swept, file_swept, files_cut, files_swept, fork_cut, is_longer, name_swept, same_fork, swept};
+ghost use Rattle.storage_replay.specs.Sparing.{is_swept, is_swept_in, keeps_piece};
 ghost use Rattle.storage_replay.specs.Files.{AreFit, is_file_in, is_of_relation};
 
 use crate::files::Files;
 use crate::lengths::{BLOCK, length};
 use crate::sweep::Sweep;
 use block_refs::{Fork, RelName};
-use cluster_tree::{FileFault, Names, Path, Tree};
+use cluster_tree::{ChangeCall, FileFault, Names, Path, Tree};
 use file_edits::{name_at, names_of, remove_file, shorten};
 use relation_files::{FileName, relation_file, relation_folder};
 use std::alloc::Global;
@@ -89,6 +91,9 @@ fn sweep_entry<F: Tree>(
         (F.contents tree.old)) (F.contents tree.new) result }
     ensures frame { Came F.Tree tree.old tree.new }
     ensures own { IsTrue F.tells → OnOwn F.calls (is_file_in folder.now relation) tree.old tree.new }
+    ensures spares { IsTrue F.tells → (piece : Piece) →
+        is_swept_in folder.now sweep relation piece.path ≡ false →
+        Spares F.Tree piece tree.old tree.new }
     ensures read_fault { IsErrOf result FileFault.ReadFault →
         Rose (F.failed_reads tree.old) (F.failed_reads tree.new) }
     ensures write_fault { IsErrOf result FileFault.WriteFault →
@@ -117,6 +122,9 @@ fn sweep_names<F: Tree>(
         names.now (F.contents tree.old)) (F.contents tree.new) result }
     ensures frame { Came F.Tree tree.old tree.new }
     ensures own { IsTrue F.tells → OnOwn F.calls (is_file_in folder.now relation) tree.old tree.new }
+    ensures spares { IsTrue F.tells → (piece : Piece) →
+        is_swept_in folder.now sweep relation piece.path ≡ false →
+        Spares F.Tree piece tree.old tree.new }
     ensures read_fault { IsErrOf result FileFault.ReadFault →
         Rose (F.failed_reads tree.old) (F.failed_reads tree.new) }
     ensures write_fault { IsErrOf result FileFault.WriteFault →
@@ -142,6 +150,9 @@ pub(crate) fn sweep_files<F: Tree>(
         (F.contents tree.old)) (F.contents tree.new) result }
     ensures frame { Came F.Tree tree.old tree.new }
     ensures own { IsTrue F.tells → OnOwn F.calls (is_of_relation root.now rel) tree.old tree.new }
+    ensures spares { IsTrue F.tells → (piece : Piece) →
+        is_swept root.now sweep rel piece.path ≡ false →
+        Spares F.Tree piece tree.old tree.new }
     ensures read_fault { IsErrOf result FileFault.ReadFault →
         Rose (F.failed_reads tree.old) (F.failed_reads tree.new) }
     ensures write_fault { IsErrOf result FileFault.WriteFault →
@@ -179,6 +190,9 @@ fn cut_file<F: Tree>(
     ensures frame { Came F.Tree tree.old tree.new }
     ensures own { IsTrue F.tells →
         OnOwn F.calls (is_of_relation at.now.root rel) tree.old tree.new }
+    ensures spares { IsTrue F.tells → (piece : Piece) →
+        spares piece (ChangeCall.Cut (relation_file at.now.root rel fork file) size) ≡ true →
+        Spares F.Tree piece tree.old tree.new }
     ensures read_fault { IsErrOf result FileFault.ReadFault →
         Rose (F.failed_reads tree.old) (F.failed_reads tree.new) }
     ensures write_fault { IsErrOf result FileFault.WriteFault →
@@ -204,6 +218,9 @@ fn cut_files<F: Tree>(
     ensures frame { Came F.Tree tree.old tree.new }
     ensures own { IsTrue F.tells →
         OnOwn F.calls (is_of_relation at.now.root rel) tree.old tree.new }
+    ensures spares { IsTrue F.tells → (piece : Piece) →
+        keeps_piece at.now.root at.now.per_file rel fork blocks piece ≡ true →
+        Spares F.Tree piece tree.old tree.new }
     ensures read_fault { IsErrOf result FileFault.ReadFault →
         Rose (F.failed_reads tree.old) (F.failed_reads tree.new) }
     ensures write_fault { IsErrOf result FileFault.WriteFault →
@@ -231,6 +248,9 @@ pub(crate) fn cut_fork<F: Tree>(
     ensures frame { Came F.Tree tree.old tree.new }
     ensures own { IsTrue F.tells →
         OnOwn F.calls (is_of_relation at.now.root rel) tree.old tree.new }
+    ensures spares { IsTrue F.tells → (piece : Piece) →
+        keeps_piece at.now.root at.now.per_file rel fork blocks piece ≡ true →
+        Spares F.Tree piece tree.old tree.new }
     ensures read_fault { IsErrOf result FileFault.ReadFault →
         Rose (F.failed_reads tree.old) (F.failed_reads tree.new) }
     ensures write_fault { IsErrOf result FileFault.WriteFault →

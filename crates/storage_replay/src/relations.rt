@@ -1,11 +1,13 @@
 // Forks that are made and cut, and relations that are dropped.
-ghost use Rattle.std.specs.Prelude.{◌≡◌, ◌≢◌, ◌≤◌, length, IsTrue, Err, IsErrOf};
+ghost use Rattle.std.specs.Prelude.{◌≡◌, ◌≢◌, ◌≤◌, ◌||◌, not, false, true, length, IsTrue, Err, IsErrOf};
 ghost use Rattle.cluster_tree.specs.PathValue.{PathValue};
 ghost use Rattle.cluster_tree.specs.Causes.{Rose};
 ghost use Rattle.cluster_tree.specs.Frame.{Came};
 ghost use Rattle.file_edits.specs.Answers.{Does};
 ghost use Rattle.file_edits.specs.Own.{OnOwn};
+ghost use Rattle.file_edits.specs.Sparing.{Piece, Spares};
 ghost use Rattle.storage_replay.specs.Changes.{created, cuts_main, cuts_map, main_by, relation_dropped, truncated};
+ghost use Rattle.storage_replay.specs.Sparing.{is_of_fork, is_swept, keeps_piece};
 ghost use Rattle.storage_replay.specs.Files.{AreFit, is_of_relation};
 
 use crate::cutting::{cut_fork, sweep_files};
@@ -35,6 +37,7 @@ pub fn create<F: Tree>(
     ensures frame { Came F.Tree tree.old tree.new }
     ensures own { IsTrue F.tells →
         OnOwn F.calls (is_of_relation at.now.root rel) tree.old tree.new }
+    ensures spares { IsTrue F.tells → (piece : Piece) → Spares F.Tree piece tree.old tree.new }
     ensures read_fault { IsErrOf result FileFault.ReadFault →
         Rose (F.failed_reads tree.old) (F.failed_reads tree.new) }
     ensures write_fault { IsErrOf result FileFault.WriteFault →
@@ -75,6 +78,10 @@ fn cut_main<F: Tree>(
     ensures frame { Came F.Tree tree.old tree.new }
     ensures own { IsTrue F.tells →
         OnOwn F.calls (is_of_relation at.now.root rel) tree.old tree.new }
+    ensures spares { IsTrue F.tells → (piece : Piece) →
+        (not (cuts_main flags) || keeps_piece at.now.root at.now.per_file rel
+        (Fork.Main) blocks piece) ≡ true →
+        Spares F.Tree piece tree.old tree.new }
     ensures read_fault { IsErrOf result FileFault.ReadFault →
         Rose (F.failed_reads tree.old) (F.failed_reads tree.new) }
     ensures write_fault { IsErrOf result FileFault.WriteFault →
@@ -111,6 +118,11 @@ pub fn truncate<F: Tree>(
     ensures frame { Came F.Tree tree.old tree.new }
     ensures own { IsTrue F.tells →
         OnOwn F.calls (is_of_relation at.now.root rel) tree.old tree.new }
+    ensures spares { IsTrue F.tells → (piece : Piece) →
+        (not (cuts_main flags) || keeps_piece at.now.root at.now.per_file rel
+        (Fork.Main) blocks piece) ≡ true →
+        is_of_fork at.now.root rel (Fork.Visibility) piece.path ≡ false →
+        Spares F.Tree piece tree.old tree.new }
     ensures read_fault { IsErrOf result FileFault.ReadFault →
         Rose (F.failed_reads tree.old) (F.failed_reads tree.new) }
     ensures write_fault { IsErrOf result FileFault.WriteFault →
@@ -140,6 +152,9 @@ pub fn drop_relation<F: Tree>(
     ensures frame { Came F.Tree tree.old tree.new }
     ensures own { IsTrue F.tells →
         OnOwn F.calls (is_of_relation at.now.root rel) tree.old tree.new }
+    ensures spares { IsTrue F.tells → (piece : Piece) →
+        is_swept at.now.root (Sweep.Remove) rel piece.path ≡ false →
+        Spares F.Tree piece tree.old tree.new }
     ensures read_fault { IsErrOf result FileFault.ReadFault →
         Rose (F.failed_reads tree.old) (F.failed_reads tree.new) }
     ensures write_fault { IsErrOf result FileFault.WriteFault →

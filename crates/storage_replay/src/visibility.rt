@@ -1,11 +1,14 @@
 // Bits of the visibility map.
-ghost use Rattle.std.specs.Prelude.{◌≡◌, ◌≢◌, ◌≤◌, ◌<◌, ◌*◌, ◌^◌, length, IsTrue, Err, IsErrOf};
+ghost use Rattle.std.specs.Prelude.{◌≡◌, ◌≢◌, ◌≤◌, ◌<◌, ◌*◌, ◌^◌, false, length, IsTrue, Err, IsErrOf};
 ghost use Rattle.cluster_tree.specs.PathValue.{PathValue, Holds};
 ghost use Rattle.cluster_tree.specs.Causes.{Rose};
 ghost use Rattle.cluster_tree.specs.Frame.{Came};
 ghost use Rattle.file_edits.specs.Answers.{Does};
 ghost use Rattle.file_edits.specs.Edits.{file_edited, on_way};
 ghost use Rattle.file_edits.specs.Own.{OnOwn};
+ghost use Rattle.file_edits.specs.Sparing.{Piece, Spares};
+ghost use Rattle.cluster_tree.specs.PathOrder.{path_eq};
+ghost use Rattle.storage_replay.specs.Sparing.{is_of_fork};
 ghost use Rattle.storage_replay.specs.Files.{AreFit, is_of_relation};
 ghost use Rattle.storage_replay.specs.MapBits.{bits_edited, fill_pages, map_at, map_byte, map_cut, map_cut_in_page, map_edited, map_in_file, map_page, map_pair, new_byte, zeros_behind};
 
@@ -124,6 +127,9 @@ fn edit_bits<F: Tree>(
         (F.contents tree.new) result }
     ensures frame { Came F.Tree tree.old tree.new }
     ensures own { IsTrue F.tells → OnOwn F.calls (on_way root.now path.now) tree.old tree.new }
+    ensures spares { IsTrue F.tells → (piece : Piece) →
+        path_eq piece.path path.now ≡ false →
+        Spares F.Tree piece tree.old tree.new }
     ensures read_fault { IsErrOf result FileFault.ReadFault →
         Rose (F.failed_reads tree.old) (F.failed_reads tree.new) }
     ensures write_fault { IsErrOf result FileFault.WriteFault →
@@ -154,6 +160,9 @@ fn edit_in_file<F: Tree>(
     ensures frame { Came F.Tree tree.old tree.new }
     ensures own { IsTrue F.tells →
         OnOwn F.calls (is_of_relation at.now.root rel) tree.old tree.new }
+    ensures spares { IsTrue F.tells → (piece : Piece) →
+        is_of_fork at.now.root rel (Fork.Visibility) piece.path ≡ false →
+        Spares F.Tree piece tree.old tree.new }
     ensures read_fault { IsErrOf result FileFault.ReadFault →
         Rose (F.failed_reads tree.old) (F.failed_reads tree.new) }
     ensures write_fault { IsErrOf result FileFault.WriteFault →
@@ -180,6 +189,9 @@ pub(crate) fn edit_map<F: Tree>(
     ensures frame { Came F.Tree tree.old tree.new }
     ensures own { IsTrue F.tells →
         OnOwn F.calls (is_of_relation at.now.root rel) tree.old tree.new }
+    ensures spares { IsTrue F.tells → (piece : Piece) →
+        is_of_fork at.now.root rel (Fork.Visibility) piece.path ≡ false →
+        Spares F.Tree piece tree.old tree.new }
     ensures read_fault { IsErrOf result FileFault.ReadFault →
         Rose (F.failed_reads tree.old) (F.failed_reads tree.new) }
     ensures write_fault { IsErrOf result FileFault.WriteFault →
@@ -214,6 +226,9 @@ pub fn map_bits<F: Tree>(
     ensures frame { Came F.Tree tree.old tree.new }
     ensures own { IsTrue F.tells →
         OnOwn F.calls (is_of_relation at.now.root rel) tree.old tree.new }
+    ensures spares { IsTrue F.tells → (piece : Piece) →
+        is_of_fork at.now.root rel (Fork.Visibility) piece.path ≡ false →
+        Spares F.Tree piece tree.old tree.new }
     ensures read_fault { IsErrOf result FileFault.ReadFault →
         Rose (F.failed_reads tree.old) (F.failed_reads tree.new) }
     ensures write_fault { IsErrOf result FileFault.WriteFault →
@@ -244,6 +259,9 @@ fn cut_in_page<F: Tree>(
     ensures frame { Came F.Tree tree.old tree.new }
     ensures own { IsTrue F.tells →
         OnOwn F.calls (is_of_relation at.now.root rel) tree.old tree.new }
+    ensures spares { IsTrue F.tells → (piece : Piece) →
+        is_of_fork at.now.root rel (Fork.Visibility) piece.path ≡ false →
+        Spares F.Tree piece tree.old tree.new }
     ensures read_fault { IsErrOf result FileFault.ReadFault →
         Rose (F.failed_reads tree.old) (F.failed_reads tree.new) }
     ensures write_fault { IsErrOf result FileFault.WriteFault →
@@ -270,6 +288,9 @@ pub(crate) fn cut_map<F: Tree>(
     ensures frame { Came F.Tree tree.old tree.new }
     ensures own { IsTrue F.tells →
         OnOwn F.calls (is_of_relation at.now.root rel) tree.old tree.new }
+    ensures spares { IsTrue F.tells → (piece : Piece) →
+        is_of_fork at.now.root rel (Fork.Visibility) piece.path ≡ false →
+        Spares F.Tree piece tree.old tree.new }
     ensures read_fault { IsErrOf result FileFault.ReadFault →
         Rose (F.failed_reads tree.old) (F.failed_reads tree.new) }
     ensures write_fault { IsErrOf result FileFault.WriteFault →

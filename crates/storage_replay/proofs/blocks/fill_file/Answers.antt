@@ -12,3 +12,6 @@ returns-clause-exact g c told =
 pub returns-clause-own : goal.returns-clause-own
 returns-clause-own g c told =
     own-at g.F.Tree.calls c.args.at.now.root c.in_ok-path.path c.args.rel c.args.fork c.args.file _ _ c.in_ok-path.ensures.value (search rules) (search rules) (c.grow_file.ensures.own told)
+
+pub returns-clause-spares : goal.returns-clause-spares
+returns-clause-spares g c told piece ends = c.grow_file.ensures.spares told piece ends

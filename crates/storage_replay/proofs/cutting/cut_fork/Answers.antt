@@ -3,6 +3,7 @@ use Rattle.std.proofs.lemmas.Result.{err_from_is_err_and}
 use Rattle.file_edits.proofs.OwnLemmas.{own-read, own-on}
 use Rattle.file_edits.proofs.AnswerLemmas.{handed-on}
 use Rattle.storage_replay.proofs.CutLemmas.{fork-refused, fork-short, fork-longer}
+use Rattle.file_edits.proofs.SparingLemmas.{spared-on, spared-read}
 use Rattle.storage_replay.proofs.cutting.cut_fork.Goals as goal
 
 pub returns-in_err-there-clause-exact : goal.returns-in_err-there-clause-exact
@@ -23,3 +24,6 @@ returns-clause-exact g c told =
 pub returns-clause-own : goal.returns-clause-own
 returns-clause-own g c told =
     own-on g.F.Tree.calls _ _ _ _ (own-read g.F.Tree _ _ _ c.length.ensures.frame) (c.cut_files.ensures.own told)
+
+pub returns-clause-spares : goal.returns-clause-spares
+returns-clause-spares g c told piece keeps = spared-on g.F.Tree piece _ _ _ (spared-read g.F.Tree piece _ _ c.length.ensures.frame) (c.cut_files.ensures.spares told piece keeps)

@@ -6,6 +6,8 @@ use Rattle.file_edits.proofs.OwnLemmas.{own-wider}
 use Rattle.storage_replay.specs.Files.{is_file_in}
 use Rattle.storage_replay.proofs.CutLemmas.{entry-kept, entry-goes, swept-number}
 use Rattle.storage_replay.proofs.OwnLemmas.{named-in}
+use Rattle.file_edits.proofs.SparingLemmas.{spared-own}
+use Rattle.storage_replay.proofs.SparingLemmas.{unswept-apart}
 use Rattle.storage_replay.proofs.cutting.sweep_entry.Goals as goal
 
 pub below-requires : goal.below-requires
@@ -25,3 +27,6 @@ returns-clause-own g c told =
     own-wider g.F.Tree.calls (λ q. path_eq q c.in_ok-path.path) (is_file_in c.args.folder.now c.args.relation) _ _
     (λ q is. named-in c.args.folder.now q c.args.relation c.args.name.now (swept-number c.args.sweep c.args.relation c.args.name.now (sym c.if-not-name_swept.ensures)) (ap (path_eq q) (sym (c.in_ok-path.ensures ∙ ap (below c.args.folder.now) (part_kept c.args.name.now c.requires.part))) ∙ is))
     (c.sweep_file.ensures.own told)
+
+pub returns-clause-spares : goal.returns-clause-spares
+returns-clause-spares g c told piece away = spared-own g.F.Tree (λ q. path_eq q c.in_ok-path.path) piece _ _ (unswept-apart c.args.folder.now c.in_ok-path.path piece.path c.args.sweep c.args.relation c.args.name.now (sym c.if-not-name_swept.ensures) (c.in_ok-path.ensures ∙ ap (below c.args.folder.now) (part_kept c.args.name.now c.requires.part)) away) c.sweep_file.ensures.frame (c.sweep_file.ensures.own told)

@@ -7,6 +7,8 @@ use Rattle.storage_replay.specs.Files.{is_file_in, is_of_relation}
 use Rattle.file_edits.proofs.AnswerLemmas.{handed-on}
 use Rattle.storage_replay.proofs.CutLemmas.{sweep-refused, sweep-listed}
 use Rattle.storage_replay.proofs.OwnLemmas.{in-relation}
+use Rattle.file_edits.proofs.SparingLemmas.{spared-on, spared-read}
+use Rattle.storage_replay.specs.Sparing.{is_swept_in}
 use Rattle.storage_replay.proofs.cutting.sweep_files.Goals as goal
 
 pub sweep_names-requires-clause-room : goal.sweep_names-requires-clause-room
@@ -28,3 +30,6 @@ returns-clause-own g c told =
     own-on g.F.Tree.calls _ _ _ _ (own-read g.F.Tree _ _ _ c.names_of.ensures.frame)
     (own-wider g.F.Tree.calls (is_file_in c.in_ok-folder.folder c.args.rel.relation) (is_of_relation c.args.root.now c.args.rel) _ _
     (λ q is. in-relation c.args.root.now c.args.rel q (ap (λ f. is_file_in f c.args.rel.relation q) (sym c.in_ok-folder.ensures.value) ∙ is)) (c.sweep_names.ensures.own told))
+
+pub returns-clause-spares : goal.returns-clause-spares
+returns-clause-spares g c told piece away = spared-on g.F.Tree piece _ _ _ (spared-read g.F.Tree piece _ _ c.names_of.ensures.frame) (c.sweep_names.ensures.spares told piece (ap (λ (f : PathValue). is_swept_in f c.args.sweep c.args.rel.relation piece.path) c.in_ok-folder.ensures.value ∙ away))

@@ -5,6 +5,8 @@ use Rattle.storage_replay.specs.MapBits.{bits_edited, zeros_behind}
 use Rattle.file_edits.proofs.AnswerLemmas.{handed-on}
 use Rattle.file_edits.proofs.LaidLemmas.{read-refused}
 use Rattle.storage_replay.proofs.EditLemmas.{bits-exact, byte-zeros}
+use Rattle.file_edits.proofs.SparingLemmas.{spared-on, spared-read}
+use Rattle.storage_replay.proofs.SparingLemmas.{write-apart}
 use Rattle.storage_replay.proofs.visibility.edit_bits.Goals as goal
 
 pub returns-in_err-read_or_zeros-clause-exact : goal.returns-in_err-read_or_zeros-clause-exact
@@ -21,3 +23,6 @@ returns-clause-exact g c told =
 
 pub returns-clause-own : goal.returns-clause-own
 returns-clause-own g c told = own-on g.F.Tree.calls _ _ _ _ (own-read g.F.Tree _ _ _ c.read_or_zeros.ensures.frame) (c.lay.ensures.own told)
+
+pub returns-clause-spares : goal.returns-clause-spares
+returns-clause-spares g c told piece apart = spared-on g.F.Tree piece _ _ _ (spared-read g.F.Tree piece _ _ c.read_or_zeros.ensures.frame) (c.lay.ensures.spares told piece (write-apart piece c.args.path.now _ _ apart))
