@@ -1,3 +1,4 @@
 pub mod ApartLemmas
 pub mod OwnLemmas
+pub mod SparingLemmas
 pub mod DoneLemmas

@@ -64,7 +64,7 @@ held_in folder above q held e =
 below-top : (root : PathValue) (top : List ℕ) (more : List (List ℕ)) → Holds (below root (top ∷ [])) (below root (top ∷ more))
 below-top root top more = subst (Holds (below root (top ∷ []))) (same_path _ _ refl (append_assoc root.parts (top ∷ []) more)) (holds-below (below root (top ∷ [])) more)
 
-file-top : (root : PathValue) (top name : List ℕ) (more : List (List ℕ)) → Holds (below root (top ∷ [])) (below (below root (top ∷ more)) (name ∷ []))
+pub file-top : (root : PathValue) (top name : List ℕ) (more : List (List ℕ)) → Holds (below root (top ∷ [])) (below (below root (top ∷ more)) (name ∷ []))
 file-top root top name more =
     subst (Holds (below root (top ∷ []))) (sym (same_path _ _ refl (append_assoc root.parts (top ∷ more) (name ∷ [])))) (below-top root top (more ++ name ∷ []))
 
@@ -79,7 +79,7 @@ at_folder root top more q t e =
     (held_way root top (below root (top ∷ more)) q (below-top root top more))
     (λ both. held_in (below root (top ∷ [])) (below root (top ∷ more)) q (below-top root top more) (and_parts _ _ both).0) e
 
-at_area : (root : PathValue) (top : List ℕ) (more : List (List ℕ)) (q : PathValue) → (on_way root (below root (top ∷ more)) q || lies_in (below root (top ∷ more)) q) ≡ true → is_at root top q ≡ true
+pub at_area : (root : PathValue) (top : List ℕ) (more : List (List ℕ)) (q : PathValue) → (on_way root (below root (top ∷ more)) q || lies_in (below root (top ∷ more)) q) ≡ true → is_at root top q ≡ true
 at_area root top more q e =
     either (on_way root (below root (top ∷ more)) q) (lies_in (below root (top ∷ more)) q)
     (held_way root top (below root (top ∷ more)) q (below-top root top more))

@@ -1,4 +1,5 @@
 pub mod Own
+pub mod Touched
 pub mod MapClears
 pub mod Effect
 pub mod Done

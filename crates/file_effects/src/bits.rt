@@ -9,6 +9,7 @@ ghost use Rattle.storage_replay.specs.Files.{AreFit};
 ghost use Rattle.file_effects.specs.Done.{bits_cleared, for_each};
 ghost use Rattle.file_effects.specs.MapClears.{all_listed, bits_number, listed};
 ghost use Rattle.file_effects.specs.Own.{is_replayed};
+ghost use Rattle.file_effects.specs.Touched.{SparesBlocks, no_block_taken};
 
 use crate::clearing::{ClearedBits, Clearing, Clears};
 use cluster_tree::{FileFault, Tree};
@@ -37,6 +38,8 @@ fn clear_one<F: Tree>(
         (listed clearing) (F.contents tree.old)) (F.contents tree.new) result }
     ensures frame { Came F.Tree tree.old tree.new }
     ensures own { IsTrue F.tells → OnOwn F.calls (is_replayed at.now.root) tree.old tree.new }
+    ensures spares { IsTrue F.tells → SparesBlocks F.Tree at.now.root at.now.per_file
+        no_block_taken tree.old tree.new }
     ensures read_fault { IsErrOf result FileFault.ReadFault →
         Rose (F.failed_reads tree.old) (F.failed_reads tree.new) }
     ensures write_fault { IsErrOf result FileFault.WriteFault →
@@ -64,6 +67,8 @@ pub(crate) fn clear_bits<F: Tree>(
         (all_listed clears) (F.contents tree.old)) (F.contents tree.new) result }
     ensures frame { Came F.Tree tree.old tree.new }
     ensures own { IsTrue F.tells → OnOwn F.calls (is_replayed at.now.root) tree.old tree.new }
+    ensures spares { IsTrue F.tells → SparesBlocks F.Tree at.now.root at.now.per_file
+        no_block_taken tree.old tree.new }
     ensures read_fault { IsErrOf result FileFault.ReadFault →
         Rose (F.failed_reads tree.old) (F.failed_reads tree.new) }
     ensures write_fault { IsErrOf result FileFault.WriteFault →

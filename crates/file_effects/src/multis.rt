@@ -8,6 +8,7 @@ ghost use Rattle.file_edits.specs.Own.{OnOwn};
 ghost use Rattle.storage_replay.specs.Files.{AreFit};
 ghost use Rattle.file_effects.specs.Done.{multis_cut, page_before};
 ghost use Rattle.file_effects.specs.Own.{is_replayed};
+ghost use Rattle.file_effects.specs.Touched.{SparesBlocks, no_block_taken};
 
 use cluster_tree::{FileFault, Tree};
 use record_layouts::MultiXactTruncate;
@@ -38,6 +39,8 @@ pub(crate) fn cut_multis<F: Tree>(
         (F.contents tree.new) result }
     ensures frame { Came F.Tree tree.old tree.new }
     ensures own { IsTrue F.tells → OnOwn F.calls (is_replayed at.now.root) tree.old tree.new }
+    ensures spares { IsTrue F.tells → SparesBlocks F.Tree at.now.root at.now.per_file
+        no_block_taken tree.old tree.new }
     ensures read_fault { IsErrOf result FileFault.ReadFault →
         Rose (F.failed_reads tree.old) (F.failed_reads tree.new) }
     ensures write_fault { IsErrOf result FileFault.WriteFault →

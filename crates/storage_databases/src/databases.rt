@@ -1,5 +1,5 @@
 // The folders of databases.
-ghost use Rattle.std.specs.Prelude.{◌≡◌, ◌≢◌, ◌≤◌, ◌<◌, length, IsTrue, Err, IsErrOf, IfOk};
+ghost use Rattle.std.specs.Prelude.{◌≡◌, ◌≢◌, ◌≤◌, ◌<◌, false, length, IsTrue, Err, IsErrOf, IfOk};
 ghost use Rattle.cluster_tree.specs.Apart.{is_held};
 ghost use Rattle.cluster_tree.specs.PathValue.{PathValue, Holds};
 ghost use Rattle.cluster_tree.specs.Causes.{Rose};
@@ -7,6 +7,8 @@ ghost use Rattle.cluster_tree.specs.Frame.{Came};
 ghost use Rattle.file_edits.specs.Answers.{Does};
 ghost use Rattle.file_edits.specs.Edits.{on_way};
 ghost use Rattle.file_edits.specs.Own.{OnOwn};
+ghost use Rattle.file_edits.specs.Sparing.{Piece, Spares};
+ghost use Rattle.cluster_tree.specs.PathOrder.{path_eq};
 ghost use Rattle.storage_databases.specs.Databases.{database_dropped, database_folder, database_made, version_file};
 
 use cluster_tree::{FileFault, OutOfMemory, Path, Tree};
@@ -42,6 +44,9 @@ pub fn make_database<F: Tree>(
     ensures frame { Came F.Tree tree.old tree.new }
     ensures own { IsTrue F.tells →
         OnOwn F.calls (on_way root.now (version_file root.now database)) tree.old tree.new }
+    ensures spares { IsTrue F.tells → (piece : Piece) →
+        path_eq piece.path (version_file root.now database) ≡ false →
+        Spares F.Tree piece tree.old tree.new }
     ensures read_fault { IsErrOf result FileFault.ReadFault →
         Rose (F.failed_reads tree.old) (F.failed_reads tree.new) }
     ensures write_fault { IsErrOf result FileFault.WriteFault →

@@ -1,5 +1,5 @@
 // Relation maps.
-ghost use Rattle.std.specs.Prelude.{◌≡◌, ◌≢◌, ◌≤◌, ◌<◌, length, IsTrue, Err, IsErrOf, IfOk, is_some};
+ghost use Rattle.std.specs.Prelude.{◌≡◌, ◌≢◌, ◌≤◌, ◌<◌, ℕ, false, length, IsTrue, Err, IsErrOf, IfOk, is_some};
 ghost use Rattle.block_refs.specs.Parts.{ArePartsOf};
 ghost use Rattle.cluster_tree.specs.PathValue.{PathValue, Holds, below};
 ghost use Rattle.cluster_tree.specs.Causes.{Rose};
@@ -7,6 +7,8 @@ ghost use Rattle.cluster_tree.specs.Frame.{Came};
 ghost use Rattle.file_edits.specs.Answers.{Does};
 ghost use Rattle.file_edits.specs.Edits.{file_edited, on_way};
 ghost use Rattle.file_edits.specs.Own.{OnOwn};
+ghost use Rattle.file_edits.specs.Sparing.{Piece, Spares};
+ghost use Rattle.cluster_tree.specs.PathOrder.{path_eq};
 ghost use Rattle.storage_databases.specs.RelationMap.{is_of_map, map_file, map_parts, map_written, update_in};
 
 use block_refs::Parts;
@@ -54,6 +56,8 @@ fn write_whole<F: Tree>(
         (F.contents tree.old)) (F.contents tree.new) result }
     ensures frame { Came F.Tree tree.old tree.new }
     ensures own { IsTrue F.tells → OnOwn F.calls (on_way root.now path.now) tree.old tree.new }
+    ensures spares { IsTrue F.tells → (piece : Piece) → path_eq piece.path path.now ≡ false →
+        Spares F.Tree piece tree.old tree.new }
     ensures read_fault { IsErrOf result FileFault.ReadFault →
         Rose (F.failed_reads tree.old) (F.failed_reads tree.new) }
     ensures write_fault { IsErrOf result FileFault.WriteFault →
@@ -78,6 +82,9 @@ fn write_map<F: Tree>(
     ensures frame { Came F.Tree tree.old tree.new }
     ensures own { IsTrue F.tells →
         OnOwn F.calls (on_way root.now (map_file root.now database)) tree.old tree.new }
+    ensures spares { IsTrue F.tells → (piece : Piece) →
+        path_eq piece.path (map_file root.now database) ≡ false →
+        Spares F.Tree piece tree.old tree.new }
     ensures read_fault { IsErrOf result FileFault.ReadFault →
         Rose (F.failed_reads tree.old) (F.failed_reads tree.new) }
     ensures write_fault { IsErrOf result FileFault.WriteFault →
@@ -110,6 +117,9 @@ pub fn write_relation_map<F: Tree>(
     ensures frame { Came F.Tree tree.old tree.new }
     ensures own { IsTrue F.tells →
         OnOwn F.calls (is_of_map root.now (update_in rec.now parts.now)) tree.old tree.new }
+    ensures spares { IsTrue F.tells → (piece : Piece) →
+        ((database : ℕ) → path_eq piece.path (map_file root.now database) ≡ false) →
+        Spares F.Tree piece tree.old tree.new }
     ensures read_fault { IsErrOf result FileFault.ReadFault →
         Rose (F.failed_reads tree.old) (F.failed_reads tree.new) }
     ensures write_fault { IsErrOf result FileFault.WriteFault →

@@ -6,6 +6,9 @@ use Rattle.slru_replay.specs.declared.area.Area.TheVariants.{Offsets, Members}
 use Rattle.file_effects.specs.Own.{is_replayed}
 use Rattle.file_effects.proofs.DoneLemmas.{members-then, offsets-refused}
 use Rattle.file_effects.proofs.OwnLemmas.{area-replayed}
+use Rattle.storage_replay.specs.Sparing.{piece_of}
+use Rattle.file_edits.proofs.SparingLemmas.{spared-on, spared-own}
+use Rattle.file_effects.proofs.SparingLemmas.{area-away}
 use Rattle.file_effects.proofs.multis.cut_multis.Goals as goal
 
 pub returns-in_err-cut_before-clause-exact : goal.returns-in_err-cut_before-clause-exact
@@ -27,3 +30,9 @@ returns-clause-own g c told =
     own-on g.F.Tree.calls _ _ _ _
     (own-wider g.F.Tree.calls (is_of_area c.args.at.now.root Offsets) (is_replayed c.args.at.now.root) _ _ (area-replayed c.args.at.now.root Offsets) (c.cut_before.ensures.own told))
     (own-wider g.F.Tree.calls (is_of_area c.args.at.now.root Members) (is_replayed c.args.at.now.root) _ _ (area-replayed c.args.at.now.root Members) (c.cut_before-2.ensures.own told))
+
+pub returns-in_err-cut_before-clause-spares : goal.returns-in_err-cut_before-clause-spares
+returns-in_err-cut_before-clause-spares g c told name is free = spared-own g.F.Tree (is_of_area c.args.at.now.root Offsets) (piece_of c.args.at.now.root c.args.at.now.per_file name) _ _ (area-away c.args.at.now.root c.args.at.now.per_file c.requires.fit.some name is Offsets) c.cut_before.ensures.frame (c.cut_before.ensures.own told)
+
+pub returns-clause-spares : goal.returns-clause-spares
+returns-clause-spares g c told name is free = spared-on g.F.Tree (piece_of c.args.at.now.root c.args.at.now.per_file name) _ _ _ (spared-own g.F.Tree (is_of_area c.args.at.now.root Offsets) (piece_of c.args.at.now.root c.args.at.now.per_file name) _ _ (area-away c.args.at.now.root c.args.at.now.per_file c.requires.fit.some name is Offsets) c.cut_before.ensures.frame (c.cut_before.ensures.own told)) (spared-own g.F.Tree (is_of_area c.args.at.now.root Members) (piece_of c.args.at.now.root c.args.at.now.per_file name) _ _ (area-away c.args.at.now.root c.args.at.now.per_file c.requires.fit.some name is Members) c.cut_before-2.ensures.frame (c.cut_before-2.ensures.own told))

@@ -5,6 +5,10 @@ use Rattle.file_edits.specs.Edits.{on_way}
 use Rattle.file_edits.specs.Own.{OnOwn}
 use Rattle.file_edits.proofs.AnswerLemmas.{handed-on}
 use Rattle.storage_databases.proofs.WholeLemmas.{made-refused, made-there, made-new}
+use Rattle.storage_databases.proofs.SparingLemmas.{apart-write}
+use Rattle.file_edits.proofs.SparingLemmas.{spared-on, spared-read}
+use Rattle.cluster_tree.specs.PathOrder.{path_eq}
+use Rattle.cluster_tree.specs.PathValue.{PathValue}
 use Rattle.storage_databases.proofs.databases.make_database.Goals as goal
 
 pub returns-in_err-found-clause-exact : goal.returns-in_err-found-clause-exact
@@ -26,3 +30,6 @@ pub returns-clause-own : goal.returns-clause-own
 returns-clause-own g c told =
     own-on g.F.Tree.calls _ _ _ _ (own-read g.F.Tree _ _ _ c.file_size.ensures.frame)
     (subst (λ p. OnOwn g.F.Tree.calls (on_way c.args.root.now p) c.file_size.new.tree c.lay.new.tree) c.in_ok-path.ensures.value (c.lay.ensures.own told))
+
+pub returns-clause-spares : goal.returns-clause-spares
+returns-clause-spares g c told piece away = spared-on g.F.Tree piece _ _ _ (spared-read g.F.Tree piece _ _ c.file_size.ensures.frame) (c.lay.ensures.spares told piece (apart-write piece c.in_ok-path.path 0 3 (ap (λ (p : PathValue). path_eq piece.path p) c.in_ok-path.ensures.value ∙ away)))

@@ -35,3 +35,9 @@ returns-in_ok-write_map-in-Some-clause-own g c told =
     let some : update_in c.args.rec.now c.args.parts.now ≡ Some c.in-Some.update = ap relmap_update_of (sym c.main_bytes.ensures.value) ∙ sym c.read.ensures ∙ c.in-Some.is in
     own-wider g.F.Tree.calls (on_way c.args.root.now (map_file c.args.root.now c.in-Some.update.database)) (is_of_map c.args.root.now (update_in c.args.rec.now c.args.parts.now)) _ _
     (map-own c.args.root.now (update_in c.args.rec.now c.args.parts.now) c.in-Some.update (g.F.Tree.contents c.args.tree.now) some) (c.write_map.ensures.own told)
+
+pub returns-in_err-write_map-in-Some-clause-spares : goal.returns-in_err-write_map-in-Some-clause-spares
+returns-in_err-write_map-in-Some-clause-spares g c told piece away = c.write_map.ensures.spares told piece (away c.in-Some.update.database)
+
+pub returns-in_ok-write_map-in-Some-clause-spares : goal.returns-in_ok-write_map-in-Some-clause-spares
+returns-in_ok-write_map-in-Some-clause-spares g c told piece away = c.write_map.ensures.spares told piece (away c.in-Some.update.database)

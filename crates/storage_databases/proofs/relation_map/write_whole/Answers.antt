@@ -6,6 +6,8 @@ use Rattle.file_edits.proofs.OwnLemmas.{own-on, own-wider}
 use Rattle.file_edits.proofs.WayLemmas.{way-own}
 use Rattle.file_edits.proofs.AnswerLemmas.{handed-on}
 use Rattle.storage_databases.proofs.WholeLemmas.{whole-exact, whole-refused}
+use Rattle.storage_databases.proofs.SparingLemmas.{apart-write, apart-cut}
+use Rattle.file_edits.proofs.SparingLemmas.{spared-on}
 use Rattle.storage_databases.proofs.relation_map.write_whole.Goals as goal
 
 pub returns-in_err-lay-clause-exact : goal.returns-in_err-lay-clause-exact
@@ -22,3 +24,9 @@ pub returns-clause-own : goal.returns-clause-own
 returns-clause-own g c told =
     own-on g.F.Tree.calls _ _ _ _ (c.lay.ensures.own told)
     (own-wider g.F.Tree.calls (λ q. path_eq q c.args.path.now) (on_way c.args.root.now c.args.path.now) _ _ (way-own c.args.root.now c.args.path.now) (c.shorten.ensures.own told))
+
+pub returns-in_err-lay-clause-spares : goal.returns-in_err-lay-clause-spares
+returns-in_err-lay-clause-spares g c told piece away = c.lay.ensures.spares told piece (apart-write piece c.args.path.now _ _ away)
+
+pub returns-clause-spares : goal.returns-clause-spares
+returns-clause-spares g c told piece away = spared-on g.F.Tree piece _ _ _ (c.lay.ensures.spares told piece (apart-write piece c.args.path.now _ _ away)) (c.shorten.ensures.spares told piece (apart-cut piece c.args.path.now _ away))
