@@ -10,6 +10,8 @@ ghost use Rattle.file_edits.specs.Own.{OnOwn};
 ghost use Rattle.storage_replay.specs.Files.{AreFit};
 ghost use Rattle.block_replay.specs.Faults.{IsFreeFault};
 ghost use Rattle.file_effects.specs.Own.{is_replayed};
+ghost use Rattle.file_effects.specs.Touched.{SparesBlocks};
+ghost use Rattle.storage_laws.specs.Names.{same_block};
 ghost use Rattle.block_replay.specs.Blocks.{redone};
 ghost use Rattle.block_replay.specs.Pages.{image_at, image_put, older_put, redone_put};
 ghost use Rattle.rmgr_hooks.specs.Custom.{handed_in};
@@ -44,6 +46,8 @@ pub(crate) fn put_image<F: Tree>(
         (F.contents tree.new) result }
     ensures frame { Came F.Tree tree.old tree.new }
     ensures own { IsTrue F.tells → OnOwn F.calls (is_replayed at.now.root) tree.old tree.new }
+    ensures spares { IsTrue F.tells → SparesBlocks F.Tree at.now.root at.now.per_file
+        (same_block block.now.name) tree.old tree.new }
     ensures read_fault { IsErrOf result (RecordFault.File FileFault.ReadFault) →
         Rose (F.failed_reads tree.old) (F.failed_reads tree.new) }
     ensures write_fault { IsErrOf result (RecordFault.File FileFault.WriteFault) →
@@ -78,6 +82,8 @@ fn put_redone<F: Tree, M: Manager>(
         (F.contents tree.new) result }
     ensures frame { Came F.Tree tree.old tree.new }
     ensures own { IsTrue F.tells → OnOwn F.calls (is_replayed at.now.root) tree.old tree.new }
+    ensures spares { IsTrue F.tells → SparesBlocks F.Tree at.now.root at.now.per_file
+        (same_block block.now.name) tree.old tree.new }
     ensures read_fault { IsErrOf result (RecordFault.File FileFault.ReadFault) →
         Rose (F.failed_reads tree.old) (F.failed_reads tree.new) }
     ensures write_fault { IsErrOf result (RecordFault.File FileFault.WriteFault) →
@@ -109,6 +115,8 @@ pub(crate) fn put_made<F: Tree, M: Manager>(
         (F.contents tree.new) result }
     ensures frame { Came F.Tree tree.old tree.new }
     ensures own { IsTrue F.tells → OnOwn F.calls (is_replayed at.now.root) tree.old tree.new }
+    ensures spares { IsTrue F.tells → SparesBlocks F.Tree at.now.root at.now.per_file
+        (same_block block.now.name) tree.old tree.new }
     ensures read_fault { IsErrOf result (RecordFault.File FileFault.ReadFault) →
         Rose (F.failed_reads tree.old) (F.failed_reads tree.new) }
     ensures write_fault { IsErrOf result (RecordFault.File FileFault.WriteFault) →
@@ -140,6 +148,8 @@ pub(crate) fn put_changed<F: Tree, M: Manager>(
         (F.contents tree.new) result }
     ensures frame { Came F.Tree tree.old tree.new }
     ensures own { IsTrue F.tells → OnOwn F.calls (is_replayed at.now.root) tree.old tree.new }
+    ensures spares { IsTrue F.tells → SparesBlocks F.Tree at.now.root at.now.per_file
+        (same_block block.now.name) tree.old tree.new }
     ensures read_fault { IsErrOf result (RecordFault.File FileFault.ReadFault) →
         Rose (F.failed_reads tree.old) (F.failed_reads tree.new) }
     ensures write_fault { IsErrOf result (RecordFault.File FileFault.WriteFault) →

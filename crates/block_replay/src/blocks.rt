@@ -9,6 +9,8 @@ ghost use Rattle.file_edits.specs.Own.{OnOwn};
 ghost use Rattle.storage_replay.specs.Files.{AreFit};
 ghost use Rattle.block_replay.specs.Faults.{IsFreeFault};
 ghost use Rattle.file_effects.specs.Own.{is_replayed};
+ghost use Rattle.file_effects.specs.Touched.{SparesBlocks};
+ghost use Rattle.block_replay.specs.Touched.{writes_at, writes_block, writes_placed};
 ghost use Rattle.std.specs.List.{slice_get};
 ghost use Rattle.record_effects.specs.Acts.{act_on};
 ghost use Rattle.replay_profile.specs.Names.{are_known};
@@ -52,6 +54,9 @@ fn replay_block<F: Tree, M: Manager>(
         (record { files = F.contents tree.new; skipped = skipped.new }) result }
     ensures frame { Came F.Tree tree.old tree.new }
     ensures own { IsTrue F.tells → OnOwn F.calls (is_replayed at.now.root) tree.old tree.new }
+    ensures spares { IsTrue F.tells → SparesBlocks F.Tree at.now.root at.now.per_file
+        (writes_at (handed_in M.Manager redo.now.custom) redo.now.rec.now
+        redo.now.parts.now block.now) tree.old tree.new }
     ensures read_fault { IsErrOf result (RecordFault.File FileFault.ReadFault) →
         Rose (F.failed_reads tree.old) (F.failed_reads tree.new) }
     ensures write_fault { IsErrOf result (RecordFault.File FileFault.WriteFault) →
@@ -89,6 +94,10 @@ fn replay_at<F: Tree, M: Manager>(
         (record { files = F.contents tree.new; skipped = skipped.new }) result }
     ensures frame { Came F.Tree tree.old tree.new }
     ensures own { IsTrue F.tells → OnOwn F.calls (is_replayed at.now.root) tree.old tree.new }
+    ensures spares { IsTrue F.tells → SparesBlocks F.Tree at.now.root at.now.per_file
+        (writes_placed (handed_in M.Manager redo.now.custom) redo.now.rec.now
+        redo.now.parts.now
+        (slice_get redo.now.parts.now.blocks index)) tree.old tree.new }
     ensures read_fault { IsErrOf result (RecordFault.File FileFault.ReadFault) →
         Rose (F.failed_reads tree.old) (F.failed_reads tree.new) }
     ensures write_fault { IsErrOf result (RecordFault.File FileFault.WriteFault) →
@@ -131,6 +140,8 @@ pub fn replay_blocks<F: Tree, M: Manager>(
         (record { files = F.contents tree.new; skipped = skipped.new }) result }
     ensures frame { Came F.Tree tree.old tree.new }
     ensures own { IsTrue F.tells → OnOwn F.calls (is_replayed at.now.root) tree.old tree.new }
+    ensures spares { IsTrue F.tells → SparesBlocks F.Tree at.now.root at.now.per_file
+        (writes_block (handed_in M.Manager custom.entry) rec.now parts.now) tree.old tree.new }
     ensures read_fault { IsErrOf result (RecordFault.File FileFault.ReadFault) →
         Rose (F.failed_reads tree.old) (F.failed_reads tree.new) }
     ensures write_fault { IsErrOf result (RecordFault.File FileFault.WriteFault) →

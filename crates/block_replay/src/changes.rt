@@ -11,6 +11,8 @@ ghost use Rattle.storage_pages.specs.MapPage.{visible_map};
 ghost use Rattle.storage_replay.specs.Files.{AreFit};
 ghost use Rattle.block_replay.specs.Faults.{IsFreeFault};
 ghost use Rattle.file_effects.specs.Own.{is_replayed};
+ghost use Rattle.file_effects.specs.Touched.{SparesBlocks, no_block_taken};
+ghost use Rattle.storage_laws.specs.Names.{same_block};
 ghost use Rattle.block_replay.specs.Blocks.{change_at, change_skipped, changed, map_changed};
 ghost use Rattle.block_replay.specs.Pages.{older_put, redone_put};
 ghost use Rattle.rmgr_hooks.specs.Custom.{handed_in};
@@ -47,6 +49,8 @@ fn put_map<F: Tree>(
         (F.contents tree.new) result }
     ensures frame { Came F.Tree tree.old tree.new }
     ensures own { IsTrue F.tells → OnOwn F.calls (is_replayed at.now.root) tree.old tree.new }
+    ensures spares { IsTrue F.tells → SparesBlocks F.Tree at.now.root at.now.per_file
+        (same_block name) tree.old tree.new }
     ensures read_fault { IsErrOf result (RecordFault.File FileFault.ReadFault) →
         Rose (F.failed_reads tree.old) (F.failed_reads tree.new) }
     ensures write_fault { IsErrOf result (RecordFault.File FileFault.WriteFault) →
@@ -77,6 +81,8 @@ fn put_older_map<F: Tree>(
         (F.contents tree.new) result }
     ensures frame { Came F.Tree tree.old tree.new }
     ensures own { IsTrue F.tells → OnOwn F.calls (is_replayed at.now.root) tree.old tree.new }
+    ensures spares { IsTrue F.tells → SparesBlocks F.Tree at.now.root at.now.per_file
+        (same_block name) tree.old tree.new }
     ensures read_fault { IsErrOf result (RecordFault.File FileFault.ReadFault) →
         Rose (F.failed_reads tree.old) (F.failed_reads tree.new) }
     ensures write_fault { IsErrOf result (RecordFault.File FileFault.WriteFault) →
@@ -109,6 +115,8 @@ pub(crate) fn set_map_bits<F: Tree>(
         (F.contents tree.new) result }
     ensures frame { Came F.Tree tree.old tree.new }
     ensures own { IsTrue F.tells → OnOwn F.calls (is_replayed at.now.root) tree.old tree.new }
+    ensures spares { IsTrue F.tells → SparesBlocks F.Tree at.now.root at.now.per_file
+        (same_block name) tree.old tree.new }
     ensures read_fault { IsErrOf result (RecordFault.File FileFault.ReadFault) →
         Rose (F.failed_reads tree.old) (F.failed_reads tree.new) }
     ensures write_fault { IsErrOf result (RecordFault.File FileFault.WriteFault) →
@@ -135,6 +143,8 @@ fn skip<F: Tree>(
         (record { files = F.contents tree.new; skipped = skipped.new }) result }
     ensures frame { Came F.Tree tree.old tree.new }
     ensures own { IsTrue F.tells → OnOwn F.calls (is_replayed at.now.root) tree.old tree.new }
+    ensures spares { IsTrue F.tells → SparesBlocks F.Tree at.now.root at.now.per_file
+        no_block_taken tree.old tree.new }
     ensures read_fault { IsErrOf result (RecordFault.File FileFault.ReadFault) →
         Rose (F.failed_reads tree.old) (F.failed_reads tree.new) }
     ensures write_fault { IsErrOf result (RecordFault.File FileFault.WriteFault) →
@@ -170,6 +180,8 @@ fn change_found<F: Tree, M: Manager>(
         (record { files = F.contents tree.new; skipped = skipped.new }) result }
     ensures frame { Came F.Tree tree.old tree.new }
     ensures own { IsTrue F.tells → OnOwn F.calls (is_replayed at.now.root) tree.old tree.new }
+    ensures spares { IsTrue F.tells → SparesBlocks F.Tree at.now.root at.now.per_file
+        (same_block block.now.name) tree.old tree.new }
     ensures read_fault { IsErrOf result (RecordFault.File FileFault.ReadFault) →
         Rose (F.failed_reads tree.old) (F.failed_reads tree.new) }
     ensures write_fault { IsErrOf result (RecordFault.File FileFault.WriteFault) →
@@ -204,6 +216,8 @@ pub(crate) fn change<F: Tree, M: Manager>(
         (record { files = F.contents tree.new; skipped = skipped.new }) result }
     ensures frame { Came F.Tree tree.old tree.new }
     ensures own { IsTrue F.tells → OnOwn F.calls (is_replayed at.now.root) tree.old tree.new }
+    ensures spares { IsTrue F.tells → SparesBlocks F.Tree at.now.root at.now.per_file
+        (same_block block.now.name) tree.old tree.new }
     ensures read_fault { IsErrOf result (RecordFault.File FileFault.ReadFault) →
         Rose (F.failed_reads tree.old) (F.failed_reads tree.new) }
     ensures write_fault { IsErrOf result (RecordFault.File FileFault.WriteFault) →

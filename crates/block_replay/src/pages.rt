@@ -14,6 +14,8 @@ ghost use Rattle.storage_replay.specs.Reading.{ReadsBlock, block_read};
 ghost use Rattle.block_replay.specs.Blocks.{redone};
 ghost use Rattle.block_replay.specs.Faults.{IsFreeFault, Leaves, of_redo};
 ghost use Rattle.file_effects.specs.Own.{is_replayed};
+ghost use Rattle.file_effects.specs.Touched.{SparesBlocks};
+ghost use Rattle.storage_laws.specs.Names.{same_block};
 ghost use Rattle.block_replay.specs.Pages.{image_at, image_left, page_put};
 ghost use Rattle.rmgr_hooks.specs.Custom.{handed_in};
 
@@ -97,6 +99,8 @@ pub(crate) fn put_page<F: Tree>(
         name page.now (F.contents tree.old)) (F.contents tree.new) result }
     ensures frame { Came F.Tree tree.old tree.new }
     ensures own { IsTrue F.tells → OnOwn F.calls (is_replayed at.now.root) tree.old tree.new }
+    ensures spares { IsTrue F.tells → SparesBlocks F.Tree at.now.root at.now.per_file
+        (same_block name) tree.old tree.new }
     ensures read_fault { IsErrOf result (RecordFault.File FileFault.ReadFault) →
         Rose (F.failed_reads tree.old) (F.failed_reads tree.new) }
     ensures write_fault { IsErrOf result (RecordFault.File FileFault.WriteFault) →
