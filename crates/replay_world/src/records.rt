@@ -10,6 +10,8 @@ ghost use Rattle.file_edits.specs.Own.{OnOwn};
 ghost use Rattle.storage_replay.specs.Files.{AreFit};
 ghost use Rattle.block_replay.specs.Faults.{IsFreeFault};
 ghost use Rattle.file_effects.specs.Own.{is_replayed};
+ghost use Rattle.file_effects.specs.Touched.{SparesBlocks};
+ghost use Rattle.replay_world.specs.Touched.{touches};
 ghost use Rattle.replay_profile.specs.Profile.{is_in_profile};
 ghost use Rattle.replay_world.specs.Records.{first_block, name_or_none, record_after, short_refusal};
 ghost use Rattle.replay_world.specs.World.{world_of};
@@ -89,6 +91,9 @@ pub fn replay_record<F: Tree, M: Manager>(
     ensures frame { Came F.Tree tree.old tree.new }
     ensures own { IsTrue F.tells →
         OnOwn F.calls (is_replayed world.old.files.root) tree.old tree.new }
+    ensures spares { IsTrue F.tells → SparesBlocks F.Tree world.old.files.root
+        world.old.files.per_file (touches (handed_in M.Manager custom.entry) rec.now parts.now)
+        tree.old tree.new }
     ensures read_fault { IsErrOf result (RecordFault.File FileFault.ReadFault) →
         Rose (F.failed_reads tree.old) (F.failed_reads tree.new) }
     ensures write_fault { IsErrOf result (RecordFault.File FileFault.WriteFault) →
