@@ -26,7 +26,7 @@ taken_by : (rec : LogRecord) (parts p : PartsView) (b : Bool) → cond b (Ok p) 
 taken_by rec parts p true e = cc
 taken_by rec parts p false e = absurd cc
 
-parts_taken : (custom : Option Extension) (rec : LogRecord) (parts : PartsView) → judged custom rec ≡ Ok parts → parts_or_none (record_parts rec) ≡ parts
+pub parts_taken : (custom : Option Extension) (rec : LogRecord) (parts : PartsView) → judged custom rec ≡ Ok parts → parts_or_none (record_parts rec) ≡ parts
 parts_taken custom rec parts e =
     elim (record_parts rec) as (λ r. judged_by custom rec r ≡ Ok parts → parts_or_none r ≡ parts)
     [ Ok p ↦ λ is. taken_by rec parts p (is_in_profile custom rec p) is | Err f ↦ λ is. absurd cc ] e

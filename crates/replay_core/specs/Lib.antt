@@ -5,3 +5,4 @@ pub mod Stages
 pub mod Went
 pub mod Within
 pub mod Stops
+pub mod Sparing

@@ -9,6 +9,7 @@ ghost use Rattle.clusters.specs.declared.fault.ClusterFault.TheVariants as clust
 ghost use Rattle.replay_start.specs.Checked.{Start, start_of};
 ghost use Rattle.replay_start.specs.declared.fault.ReplayFault.{ReplayFault};
 ghost use Rattle.replay_core.specs.Replayed.{after_replay};
+ghost use Rattle.replay_core.specs.Sparing.{LeavesUntouched};
 ghost use Rattle.replay_core.specs.Stops.{IsDurable, IsLeftByReplay};
 ghost use Rattle.replay_core.specs.Went.{IsAfter, IsCause, Went};
 ghost use Rattle.replay_core.specs.Within.{LeavesMark, LogStays, StaysWithin};
@@ -45,6 +46,9 @@ pub fn replay<F: Tree>(alloc: Global, tree: &mut F, root: &Path) -> Result<Repla
         (IsLeftByReplay None root.now (moment_of F.Tree tree.old))
         (F.stops tree.old) (F.stops tree.new) }
     ensures synced { IsTrue F.tells → OnOk result (IsDurable (moment_of F.Tree tree.new)) }
+    ensures spares { IsTrue F.tells → (s : Start) →
+        start_of None (F.contents tree.old) root.now ≡ Ok s → LeavesUntouched None root.now s
+        (moment_of F.Tree tree.old) (moment_of F.Tree tree.new) }
     ensures frame { Came F.Tree tree.old tree.new }
     ensures read_fault { IsErrOf result (ReplayFault.Cluster cluster.ReadFault) →
         Rose (F.failed_reads tree.old) (F.failed_reads tree.new) }

@@ -1,5 +1,5 @@
 // The public call that replays.
-ghost use Rattle.std.specs.Prelude.{◌≡◌, ◌≢◌, ◌⊎◌, ◌≤◌, ◌<◌, ◌^◌, [], length, Err, Ok, IfErr, IfOk, IsErrOf, IsTrue, OnOk, is_ok};
+ghost use Rattle.std.specs.Prelude.{◌≡◌, ◌≢◌, ◌⊎◌, ◌≤◌, ◌<◌, ◌^◌, [], true, length, Err, Ok, IfErr, IfOk, IsErrOf, IsTrue, OnOk, is_ok};
 ghost use Rattle.cluster_tree.specs.Causes.{Rose};
 ghost use Rattle.cluster_tree.specs.Contents.{Contents};
 ghost use Rattle.cluster_tree.specs.Frame.{Came, moment_of};
@@ -9,7 +9,11 @@ ghost use Rattle.cluster_tree.specs.Stops.{LeavesOnly};
 ghost use Rattle.clusters.specs.Roots.{wal_folder};
 ghost use Rattle.control_file.specs.Admission.{IsControl};
 ghost use Rattle.file_edits.specs.Own.{OnOwn};
+ghost use Rattle.file_edits.specs.Sparing.{Piece, Spares};
 ghost use Rattle.file_effects.specs.Own.{is_replayed};
+ghost use Rattle.file_effects.specs.Touched.{SparesBlocks};
+ghost use Rattle.replay_world.specs.Touched.{touched_by};
+ghost use Rattle.replay_core.specs.Sparing.{LeavesUntouched};
 ghost use Rattle.marked_runs.specs.Moments.{StandsMarked};
 ghost use Rattle.storage_replay.specs.Files.{AreFit};
 ghost use Rattle.wal_base.specs.Segment.{bytes_of};
@@ -85,6 +89,9 @@ fn replay_log<F: Tree, M: Manager>(
     ensures frame { Came F.Tree tree.old tree.new }
     ensures own { IsTrue F.tells →
         OnOwn F.calls (is_replayed world.old.files.root) tree.old tree.new }
+    ensures spares { IsTrue F.tells → SparesBlocks F.Tree world.old.files.root
+        world.old.files.per_file (touched_by (handed_in M.Manager custom.entry)
+        (records_in checked.old (F.contents tree.old))) tree.old tree.new }
     ensures read_fault { IsErrOf result (ReplayFault.Cluster cluster.ReadFault) →
         Rose (F.failed_reads tree.old) (F.failed_reads tree.new) }
     ensures write_fault { IsErrOf result ReplayFault.WriteFault →
@@ -129,6 +136,8 @@ fn finish<F: Tree>(
         (world_of (F.contents tree.old) world))) (F.stops tree.old) (F.stops tree.new) }
     ensures synced { IsTrue F.tells → OnOk result (IsDurable (moment_of F.Tree tree.new)) }
     ensures frame { Came F.Tree tree.old tree.new }
+    ensures spares { IsTrue F.tells → (piece : Piece) →
+        is_replayed world.files.root piece.path ≡ true → Spares F.Tree piece tree.old tree.new }
     ensures read_fault { result ≢ Err (ReplayFault.Cluster cluster.ReadFault) }
     ensures write_fault { IsErrOf result ReplayFault.WriteFault →
         Rose (F.failed_changes tree.old) (F.failed_changes tree.new) }
@@ -179,6 +188,9 @@ fn replay_marked<F: Tree, M: Manager>(
         (F.stops tree.old) (F.stops tree.new) }
     ensures synced { IsTrue F.tells → OnOk result (IsDurable (moment_of F.Tree tree.new)) }
     ensures frame { Came F.Tree tree.old tree.new }
+    ensures spares { IsTrue F.tells → SparesBlocks F.Tree world.files.root
+        world.files.per_file (touched_by (handed_in M.Manager custom.entry)
+        (records_in checked (F.contents tree.old))) tree.old tree.new }
     ensures read_fault { IsErrOf result (ReplayFault.Cluster cluster.ReadFault) →
         Rose (F.failed_reads tree.old) (F.failed_reads tree.new) }
     ensures write_fault { IsErrOf result ReplayFault.WriteFault →
@@ -259,6 +271,9 @@ fn replay_checked<F: Tree, M: Manager>(
         (F.stops tree.old) (F.stops tree.new) }
     ensures synced { IsTrue F.tells → OnOk result (IsDurable (moment_of F.Tree tree.new)) }
     ensures frame { Came F.Tree tree.old tree.new }
+    ensures spares { IsTrue F.tells → SparesBlocks F.Tree root.now
+        checked.control.relseg (touched_by (handed_in M.Manager custom.entry)
+        (records_in checked (F.contents tree.old))) tree.old tree.new }
     ensures read_fault { IsErrOf result (ReplayFault.Cluster cluster.ReadFault) →
         Rose (F.failed_reads tree.old) (F.failed_reads tree.new) }
     ensures write_fault { IsErrOf result ReplayFault.WriteFault →
@@ -323,6 +338,11 @@ pub fn replay_with<F: Tree, M: Manager>(
         (IsLeftByReplay (handed_in M.Manager custom.entry) root.now (moment_of F.Tree tree.old))
         (F.stops tree.old) (F.stops tree.new) }
     ensures synced { IsTrue F.tells → OnOk result (IsDurable (moment_of F.Tree tree.new)) }
+    // and each block that no record touches has its page through all of that
+    ensures spares { IsTrue F.tells → (s : Start) →
+        start_of (handed_in M.Manager custom.entry) (F.contents tree.old) root.now ≡ Ok s →
+        LeavesUntouched (handed_in M.Manager custom.entry) root.now s
+        (moment_of F.Tree tree.old) (moment_of F.Tree tree.new) }
     ensures frame { Came F.Tree tree.old tree.new }
     ensures read_fault { IsErrOf result (ReplayFault.Cluster cluster.ReadFault) →
         Rose (F.failed_reads tree.old) (F.failed_reads tree.new) }

@@ -1,5 +1,5 @@
 // The second reading of the log: each record is replayed.
-ghost use Rattle.std.specs.Prelude.{◌≡◌, ◌≢◌, ◌⊎◌, ◌+◌, ◌-◌, ◌≤◌, ◌<◌, ◌^◌, Err, IfErr, IfOk, IsErrOf, IsTrue, None, Ok};
+ghost use Rattle.std.specs.Prelude.{◌≡◌, ◌≢◌, ◌⊎◌, ◌+◌, ◌-◌, ◌≤◌, ◌<◌, ◌^◌, false, Err, IfErr, IfOk, IsErrOf, IsTrue, None, Ok};
 ghost use Rattle.block_refs.specs.Parts.{ArePartsOf};
 ghost use Rattle.cluster_tree.specs.Causes.{Rose};
 ghost use Rattle.cluster_tree.specs.Frame.{Came};
@@ -8,6 +8,9 @@ ghost use Rattle.clusters.specs.Roots.{wal_folder};
 ghost use Rattle.control_file.specs.Admission.{IsControl};
 ghost use Rattle.file_edits.specs.Own.{OnOwn};
 ghost use Rattle.file_effects.specs.Own.{is_replayed};
+ghost use Rattle.file_effects.specs.Touched.{SparesBlocks};
+ghost use Rattle.block_refs.specs.declared.names.BlockName.{BlockName};
+ghost use Rattle.replay_world.specs.Touched.{touched_by};
 ghost use Rattle.replay_profile.specs.Profile.{first_outside, judged};
 ghost use Rattle.replay_profile.specs.declared.fault.ProfileFault.{ProfileFault};
 ghost use Rattle.storage_replay.specs.Files.{AreFit};
@@ -121,6 +124,14 @@ fn replay_next<F: Tree, M: Manager>(
     ensures frame { Came F.Tree tree.old tree.new }
     ensures own { IsTrue F.tells →
         OnOwn F.calls (is_replayed world.old.files.root) tree.old tree.new }
+    ensures spares { IsTrue F.tells → SparesBlocks F.Tree world.old.files.root
+        world.old.files.per_file (touched_by (handed_in M.Manager custom.entry)
+        (to_come cursor.old (F.contents tree.old)).records) tree.old tree.new }
+    ensures fewer { IsTrue F.tells → result ≡ Ok Turn.More → (name : BlockName) →
+        touched_by (handed_in M.Manager custom.entry)
+        (to_come cursor.old (F.contents tree.old)).records name ≡ false →
+        touched_by (handed_in M.Manager custom.entry)
+        (to_come cursor.new (F.contents tree.new)).records name ≡ false }
     ensures read_fault { IsErrOf result (ReplayFault.Cluster cluster.ReadFault) →
         Rose (F.failed_reads tree.old) (F.failed_reads tree.new) }
     ensures write_fault { IsErrOf result ReplayFault.WriteFault →
@@ -172,6 +183,9 @@ pub(crate) fn replay_all<F: Tree, M: Manager>(
     ensures frame { Came F.Tree tree.old tree.new }
     ensures own { IsTrue F.tells →
         OnOwn F.calls (is_replayed world.old.files.root) tree.old tree.new }
+    ensures spares { IsTrue F.tells → SparesBlocks F.Tree world.old.files.root
+        world.old.files.per_file (touched_by (handed_in M.Manager custom.entry)
+        (to_come cursor.old (F.contents tree.old)).records) tree.old tree.new }
     ensures read_fault { IsErrOf result (ReplayFault.Cluster cluster.ReadFault) →
         Rose (F.failed_reads tree.old) (F.failed_reads tree.new) }
     ensures write_fault { IsErrOf result ReplayFault.WriteFault →

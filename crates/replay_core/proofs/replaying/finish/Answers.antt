@@ -9,6 +9,7 @@ use Rattle.replay_core.specs.Faults.{IsFree}
 use Rattle.replay_core.specs.Went.{Closing, Replaying}
 use Rattle.replay_core.proofs.JoinLemmas.{changed-of, closed-ok, closing-ran, free-of, none-least}
 use Rattle.replay_core.proofs.StopLemmas.{closed-left, still-left}
+use Rattle.replay_core.proofs.SparingLemmas.{closing-spares}
 use Rattle.replay_core.proofs.replaying.finish.Goals as goal
 
 pub returns-in-Some-clause-went : goal.returns-in-Some-clause-went
@@ -66,3 +67,15 @@ returns-clause-stops g c told marked =
     closed-left c.args.world.files.root c.args.tli c.args.count.records c.args.count.end.0 (world_of (g.F.Tree.contents c.args.tree.now) c.args.world) c.control_left.result _ _
     (sym c.least.ensures ∙ none-least c.least.result c.in_default.not-Some) c.control_left.ensures.value
     (c.in-Err.ensures.stops told c.args.world.files.root c.requires.paths (c.requires.stand told) marked)
+
+pub returns-in-Ok-clause-spares : goal.returns-in-Ok-clause-spares
+returns-in-Ok-clause-spares g c told piece is =
+    let left = control_left c.args.tli c.args.count.end.0 c.args.world.control in
+    let ran = closing-ran g.F.Tree c.args.world.files.root c.args.paths left c.control_left.result _ _ _ c.requires.paths c.control_left.ensures.value told (c.requires.stand told) c.in-Ok.ensures.performs in
+    closing-spares c.args.world.files.root piece is g.F.Tree left _ _ _ c.in-Ok.ensures.frame ran.runs
+
+pub returns-clause-spares : goal.returns-clause-spares
+returns-clause-spares g c told piece is =
+    let left = control_left c.args.tli c.args.count.end.0 c.args.world.control in
+    let ran = closing-ran g.F.Tree c.args.world.files.root c.args.paths left c.control_left.result _ _ _ c.requires.paths c.control_left.ensures.value told (c.requires.stand told) c.in-Err.ensures.performs in
+    closing-spares c.args.world.files.root piece is g.F.Tree left _ _ _ c.in-Err.ensures.frame ran.runs

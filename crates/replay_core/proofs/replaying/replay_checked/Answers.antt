@@ -18,6 +18,13 @@ use Rattle.replay_core.proofs.JoinLemmas.{about-changed, about-read, begun-ran, 
 use Rattle.replay_core.proofs.StartedLemmas.{mark-unrefused, under-mark}
 use Rattle.replay_core.proofs.StopLemmas.{begun-left, begun-then, begun-unrefused, nothing-left}
 use Rattle.replay_core.specs.Within.{LeavesMark}
+use Rattle.storage_replay.specs.Sparing.{piece_of}
+use Rattle.file_edits.specs.Sparing.{Spares}
+use Rattle.file_edits.proofs.SparingLemmas.{spared-on}
+use Rattle.replay_world.specs.Touched.{touched_by}
+use Rattle.replay_start.specs.Checked.{Start}
+use Rattle.std.proofs.Common.{ℕ, ◌<◌}
+use Rattle.replay_core.proofs.SparingLemmas.{beginning-spares, block-replayed}
 use Rattle.replay_core.proofs.replaying.replay_checked.Goals as goal
 
 pub returns-in_err-paths-clause-went : goal.returns-in_err-paths-clause-went
@@ -143,3 +150,31 @@ returns-in-Err-clause-stops g c told =
     let none = mark-unrefused _ before c.args.root.now c.args.checked (g.met.F.Tree.is_tree told c.args.tree.now) (c.requires.checked told) in
     let is = c.in_ok-paths.ensures.paths.mark in
     begun-left g.F.Tree c.args.root.now c.in_ok-paths.paths.mark _ c.args.tree.now c.begin_mark.new.tree is (c.in-Err.ensures.stops told (begun-unrefused before c.args.root.now c.in_ok-paths.paths.mark is none))
+
+pub returns-in-Ok-clause-spares : goal.returns-in-Ok-clause-spares
+returns-in-Ok-clause-spares g c told name is free =
+    let before = g.F.Tree.contents c.args.tree.now in
+    let root = c.args.root.now in
+    let piece = piece_of root c.args.checked.control.relseg name in
+    let some : 0 < c.args.checked.control.relseg = subst (λ n. 0 < n) c.in_ok-world.ensures.per_file c.in_ok-world.ensures.fit.some in
+    let none = mark-unrefused _ before root c.args.checked (g.met.F.Tree.is_tree told c.args.tree.now) (c.requires.checked told) in
+    let ran = begun-ran g.F.Tree root c.in_ok-paths.paths.mark _ _ _ c.in_ok-paths.ensures.paths.mark told none c.in-Ok.ensures.carries in
+    let begins = beginning-spares root piece (block-replayed root c.args.checked.control.relseg name some is) g.F.Tree c.args.tree.now c.begin_mark.new.tree _ c.in-Ok.ensures.frame ran.runs in
+    let after = g.F.Tree.contents c.begin_mark.new.tree in
+    let under = under-mark _ before after root c.args.checked (c.requires.checked told) c.requires.folder (ran.runs.after refl) in
+    let world = c.in_ok-world.world in
+    let rest = c.replay_marked.ensures.spares told name is (ap (λ (s : Start). touched_by (handed_in g.M.Manager c.args.custom) s.records name) under.start ∙ free) in
+    spared-on g.F.Tree piece _ _ _ begins
+    (subst (λ (n : ℕ). Spares g.F.Tree (piece_of root n name) c.begin_mark.new.tree c.replay_marked.new.tree) c.in_ok-world.ensures.per_file
+    (subst (λ p. Spares g.F.Tree (piece_of p world.files.per_file name) c.begin_mark.new.tree c.replay_marked.new.tree) c.in_ok-world.ensures.root rest))
+
+pub returns-in-Err-clause-spares : goal.returns-in-Err-clause-spares
+returns-in-Err-clause-spares g c told name is free =
+    let before = g.F.Tree.contents c.args.tree.now in
+    let root = c.args.root.now in
+    let piece = piece_of root c.args.checked.control.relseg name in
+    let some : 0 < c.args.checked.control.relseg = subst (λ n. 0 < n) c.in_ok-world.ensures.per_file c.in_ok-world.ensures.fit.some in
+    let none = mark-unrefused _ before root c.args.checked (g.met.F.Tree.is_tree told c.args.tree.now) (c.requires.checked told) in
+    let ran = begun-ran g.F.Tree root c.in_ok-paths.paths.mark _ _ _ c.in_ok-paths.ensures.paths.mark told none c.in-Err.ensures.carries in
+    let begins = beginning-spares root piece (block-replayed root c.args.checked.control.relseg name some is) g.F.Tree c.args.tree.now c.begin_mark.new.tree _ c.in-Err.ensures.frame ran.runs in
+    begins

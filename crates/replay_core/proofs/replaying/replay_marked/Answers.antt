@@ -16,6 +16,11 @@ use Rattle.replay_core.specs.Went.{RanRecords, Replaying, WentOn}
 use Rattle.replay_core.proofs.JoinLemmas.{ran-records, still-stand, went-broken}
 use Rattle.replay_core.proofs.WithinLemmas.{mark-left, mark-on}
 use Rattle.replay_core.proofs.StopLemmas.{records-left, records-stand, records-then, replayed-meant}
+use Rattle.storage_replay.specs.Sparing.{piece_of}
+use Rattle.file_edits.proofs.SparingLemmas.{spared-on}
+use Rattle.file_effects.specs.Own.{is_replayed}
+use Rattle.std.proofs.Common.{◌∙◌}
+use Rattle.replay_core.proofs.SparingLemmas.{block-replayed}
 use Rattle.replay_core.proofs.replaying.replay_marked.Goals as goal
 
 pub returns-in_err-count-clause-went : goal.returns-in_err-count-clause-went
@@ -78,3 +83,13 @@ returns-clause-stops g c told marked =
     records-then g.F.Tree root old late c.replay_log.ensures.frame (c.replay_log.ensures.own told) marked _ (closed_or root c.timeline-tli.result count.records count.end.0 v) new c.finish.ensures.frame
     (replayed-meant _ root (start_in c.args.checked (g.F.Tree.contents old)) w v c.timeline-tli.result count.records count.end.0 each c.timeline-tli.ensures all.1 all.2)
     (subst (λ p. LeavesOnly (IsMarkedOrDone p (closed_or p c.timeline-tli.result count.records count.end.0 v)) (g.F.Tree.stops late) (g.F.Tree.stops new)) same left)
+
+pub returns-in_err-count-clause-spares : goal.returns-in_err-count-clause-spares
+returns-in_err-count-clause-spares g c told name is free =
+    c.replay_log.ensures.spares told name is free
+
+pub returns-clause-spares : goal.returns-clause-spares
+returns-clause-spares g c told name is free =
+    let same = ap (λ (f : Files). f.root) c.replay_log.ensures.files in
+    spared-on g.F.Tree (piece_of c.args.world.files.root c.args.world.files.per_file name) _ _ _ (c.replay_log.ensures.spares told name is free)
+    (c.finish.ensures.spares told (piece_of c.args.world.files.root c.args.world.files.per_file name) (ap (λ p. is_replayed p (piece_of c.args.world.files.root c.args.world.files.per_file name).path) same ∙ block-replayed c.args.world.files.root c.args.world.files.per_file name c.requires.fit.some is))

@@ -9,6 +9,15 @@ use Rattle.replay_core.proofs.JoinLemmas.{after-of, done-of, refused-of, went-no
 use Rattle.replay_core.proofs.StartedLemmas.{checked-by}
 use Rattle.replay_core.proofs.StopLemmas.{checked-left, reads-moment, refused-left}
 use Rattle.replay_core.proofs.WithinLemmas.{then_within, went-log, went-within}
+use Rattle.storage_replay.specs.Sparing.{piece_of}
+use Rattle.file_edits.proofs.SparingLemmas.{spared-on, spared-read}
+use Rattle.replay_core.proofs.SparingLemmas.{spared-stays}
+use Rattle.std.proofs.Common.{◌≡◌, Ok, subst}
+use Rattle.replay_core.specs.Sparing.{LeavesUntouched}
+use Rattle.replay_start.specs.Checked.{Start, start_of}
+use Rattle.cluster_tree.specs.Frame.{moment_of}
+use Rattle.cluster_tree.specs.Contents.{Contents}
+use Rattle.cluster_tree.proofs.RunLemmas.{came_on, came_read}
 use Rattle.replay_core.proofs.replaying.replay_with.Goals as goal
 
 pub returns-in_err-checked-clause-went : goal.returns-in_err-checked-clause-went
@@ -77,3 +86,23 @@ returns-clause-stops g c told =
     let checked = checked-by _ before after c.args.root.now c.in_ok-checked.checked c.check.ensures.reads.same (c.in_ok-checked.ensures.exact told) (c.in_ok-checked.ensures.knows told) in
     let meant = sym (after-of _ after c.args.root.now (start_in c.in_ok-checked.checked after) checked.start) ∙ ap (λ x. after_replay (handed_in g.M.Manager c.args.custom) x c.args.root.now) c.check.ensures.reads.same in
     checked-left g.F.Tree c.args.root.now (after_replay (handed_in g.M.Manager c.args.custom) before c.args.root.now) _ c.args.tree.now c.check.new.tree c.replay_checked.new.tree c.check.ensures.reads meant (c.replay_checked.ensures.stops told)
+
+pub returns-in_err-checked-clause-spares : goal.returns-in_err-checked-clause-spares
+returns-in_err-checked-clause-spares g c told s start name page is free stands =
+    spared-stays g.F.Tree c.args.root.now s.control.relseg name page c.args.tree.now c.check.new.tree (came_read g.F.Tree c.args.tree.now c.check.new.tree c.check.ensures.reads) (spared-read g.F.Tree (piece_of c.args.root.now s.control.relseg name) _ _ c.check.ensures.reads) stands
+
+pub returns-clause-spares : goal.returns-clause-spares
+returns-clause-spares g c told s start =
+    let before = g.F.Tree.contents c.args.tree.now in
+    let after = g.F.Tree.contents c.check.new.tree in
+    let root = c.args.root.now in
+    let custom = handed_in g.M.Manager c.args.custom in
+    let checked = checked-by _ before after root c.in_ok-checked.checked c.check.ensures.reads.same (c.in_ok-checked.ensures.exact told) (c.in_ok-checked.ensures.knows told) in
+    let own = start_in c.in_ok-checked.checked after in
+    let both : Ok own ≡ Ok s = sym checked.start ∙ ap (λ (x : Contents). start_of custom x root) c.check.ensures.reads.same ∙ start in
+    let same : own ≡ s = cc both in
+    subst (λ (x : Start). LeavesUntouched custom root x (moment_of g.F.Tree c.args.tree.now) (moment_of g.F.Tree c.replay_checked.new.tree)) same
+    (λ name page is free stands.
+    spared-stays g.F.Tree root own.control.relseg name page c.args.tree.now c.replay_checked.new.tree
+    (came_on g.F.Tree _ _ _ (came_read g.F.Tree _ _ c.check.ensures.reads) c.replay_checked.ensures.frame)
+    (spared-on g.F.Tree (piece_of root own.control.relseg name) _ _ _ (spared-read g.F.Tree (piece_of root own.control.relseg name) _ _ c.check.ensures.reads) (c.replay_checked.ensures.spares told name is free)) stands)

@@ -11,6 +11,11 @@ use Rattle.replay_world.specs.World.{world_of}
 use Rattle.replay_core.specs.Steps.{AreReplayed, BreaksOff, Replays}
 use Rattle.replay_core.proofs.LogStays.{elsewhere, knows_stays, to_come_stays}
 use Rattle.replay_core.proofs.RunLemmas.{none_left, one_more, one_refused}
+use Rattle.storage_replay.specs.Sparing.{piece_of}
+use Rattle.file_edits.proofs.SparingLemmas.{spared-on, spared-read}
+use Rattle.replay_core.proofs.SparingLemmas.{untouched-record, untouched-rest}
+use Rattle.replay_world.specs.Touched.{touched_by}
+use Rattle.std.proofs.Common.{false}
 use Rattle.replay_core.proofs.running.replay_next.Goals as goal
 
 pub returns-in-End-clause-step : goal.returns-in-End-clause-step
@@ -65,3 +70,37 @@ returns-clause-knows g c = λ told.
     knows_stays root c.next_unchanged.new.self (g.F.Tree.contents c.next_unchanged.new.tree) (g.F.Tree.contents c.replay_record.new.tree) (ap (λ (l : LogPath). l.folder) c.in_ok-next_unchanged.ensures.log ∙ c.requires.folder)
     (elsewhere g.F.Tree root c.next_unchanged.new.tree c.replay_record.new.tree c.replay_record.ensures.frame (c.replay_record.ensures.own told))
     (c.in_ok-next_unchanged.ensures.knows told (c.requires.knows told))
+
+pub returns-in-Err-clause-spares : goal.returns-in-Err-clause-spares
+returns-in-Err-clause-spares g c told name is free =
+    let contents = g.F.Tree.contents c.args.tree.now in
+    let rec = c.unwrap-rec.result.now in
+    let there : c.next_unchanged.new.self.current ≡ Some rec = search rules in
+    let step = record_step c.args.cursor.now c.next_unchanged.new.self _ contents rec c.in-Record.is there (c.in_ok-next_unchanged.ensures.step told (c.requires.knows told) c.requires.opened) in
+    spared-on g.F.Tree (piece_of c.args.world.now.files.root c.args.world.now.files.per_file name) _ _ _ (spared-read g.F.Tree (piece_of c.args.world.now.files.root c.args.world.now.files.per_file name) _ _ c.in_ok-next_unchanged.ensures.reads)
+    (c.replay_record.ensures.spares told name is (untouched-record (handed_in g.M.Manager c.args.custom) rec (to_come c.args.cursor.now contents).records (to_come c.next_unchanged.new.self contents).records name step free c.judge_again.new.parts c.in_ok-judge_again.ensures.parts))
+
+pub returns-clause-spares : goal.returns-clause-spares
+returns-clause-spares g c told name is free =
+    let contents = g.F.Tree.contents c.args.tree.now in
+    let rec = c.unwrap-rec.result.now in
+    let there : c.next_unchanged.new.self.current ≡ Some rec = search rules in
+    let step = record_step c.args.cursor.now c.next_unchanged.new.self _ contents rec c.in-Record.is there (c.in_ok-next_unchanged.ensures.step told (c.requires.knows told) c.requires.opened) in
+    spared-on g.F.Tree (piece_of c.args.world.now.files.root c.args.world.now.files.per_file name) _ _ _ (spared-read g.F.Tree (piece_of c.args.world.now.files.root c.args.world.now.files.per_file name) _ _ c.in_ok-next_unchanged.ensures.reads)
+    (c.replay_record.ensures.spares told name is (untouched-record (handed_in g.M.Manager c.args.custom) rec (to_come c.args.cursor.now contents).records (to_come c.next_unchanged.new.self contents).records name step free c.judge_again.new.parts c.in_ok-judge_again.ensures.parts))
+
+pub returns-clause-fewer : goal.returns-clause-fewer
+returns-clause-fewer g c told more name free =
+    let contents = g.F.Tree.contents c.args.tree.now in
+    let rec = c.unwrap-rec.result.now in
+    let there : c.next_unchanged.new.self.current ≡ Some rec = search rules in
+    let step = record_step c.args.cursor.now c.next_unchanged.new.self _ contents rec c.in-Record.is there (c.in_ok-next_unchanged.ensures.step told (c.requires.knows told) c.requires.opened) in
+    let files = c.args.world.now.files in
+    let cursor = c.next_unchanged.new.self in
+    let new = g.F.Tree.contents c.replay_record.new.tree in
+    let stays : to_come cursor contents ≡ to_come cursor new =
+    ap (to_come cursor) (sym c.in_ok-next_unchanged.ensures.reads.same)
+    ∙ to_come_stays files.root cursor (g.F.Tree.contents c.next_unchanged.new.tree) new (ap (λ (l : LogPath). l.folder) c.in_ok-next_unchanged.ensures.log ∙ c.requires.folder)
+    (elsewhere g.F.Tree files.root c.next_unchanged.new.tree c.replay_record.new.tree c.replay_record.ensures.frame (c.replay_record.ensures.own told)) in
+    subst (λ (l : Log). touched_by (handed_in g.M.Manager c.args.custom) l.records name ≡ false) stays
+    (untouched-rest (handed_in g.M.Manager c.args.custom) rec (to_come c.args.cursor.now contents).records (to_come cursor contents).records name step free)
