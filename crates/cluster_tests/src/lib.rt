@@ -8,6 +8,8 @@ mod begun;
 #[cfg(test)]
 mod controls;
 #[cfg(test)]
+mod copies;
+#[cfg(test)]
 mod endless;
 #[cfg(test)]
 mod faults;

@@ -1,6 +1,7 @@
 //! Runs the rows of texts. README.md has their forms.
 use crate::areas::tell_areas;
 use crate::begun::tell_begun;
+use crate::copies::tell_copies;
 use crate::endless::tell_endless;
 use crate::faults::tell_faults;
 use crate::held::tell_held;
@@ -16,8 +17,8 @@ use crate::surveys::tell_survey;
 use crate::texts::cut_at;
 use crate::walks::tell_walks;
 use crate::{
-    areas, begun, endless, faults, held, labels, lists, numbers, paths, plans, refusals, resets,
-    resumes, stored, surveys, walks,
+    areas, begun, copies, endless, faults, held, labels, lists, numbers, paths, plans, refusals,
+    resets, resumes, stored, surveys, walks,
 };
 use std::process::Abort;
 
@@ -62,7 +63,7 @@ const RESUMES: [&str; 9] = [
 ];
 
 /// The texts of rows of lists in the marks of replays.
-const LISTS: [&str; 11] = [
+const LISTS: [&str; 12] = [
     lists::KINDS,
     lists::TAKEN,
     lists::FORMS,
@@ -74,6 +75,7 @@ const LISTS: [&str; 11] = [
     begun::MARKS,
     begun::COPIES,
     begun::FAILING,
+    copies::STOPS,
 ];
 
 /// The texts of rows of resets.
@@ -116,6 +118,10 @@ fn tell<R: AllocGlobal + Abort>(rt: &R, out: &mut String, row: &str) {
         "held" => tell_held(rt, out, words),
         "areas" => tell_areas(rt, out, words),
         "begun" => tell_begun(rt, out, words),
+        "copies" => {
+            let (verb, calls) = cut_at(words, " ");
+            tell_copies(rt, out, verb, calls);
+        }
         "replay" | "listed" | "depth" => tell_lists(rt, out, verb, words),
         _ => tell_rewind(rt, out, verb, words),
     }

@@ -1,0 +1,11 @@
+pub mod MarkLemmas
+pub mod PieceLemmas
+pub mod PathLemmas
+pub mod FolderLemmas
+pub mod CopyLemmas
+pub mod ClearLemmas
+pub mod ListLemmas
+pub mod FillLemmas
+pub mod BeginLemmas
+pub mod EndLemmas
+pub mod TellLemmas

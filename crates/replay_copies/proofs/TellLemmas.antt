@@ -1,0 +1,131 @@
+-- What a mark that was laid tells.
+use Rattle.std.proofs.Common.{◌≡◌, ℕ, suc, ◌<◌, ◌&&◌, Bool, true, false, if◌then◌else◌, List, [], ◌∷◌, ◌++◌, length, codes, nat_eq, nat_lt, bytes_eq, None, Some, Ok, refl, ap, sym, ◌∙◌, true≢false, arith}
+use Rattle.std.proofs.lemmas.Bool.Decides.{nat_tests}
+use Rattle.std.proofs.lemmas.List.Elements.{All-head, All-tail}
+use Rattle.std.specs.Cmp.Lexicographic.{same_text}
+use Rattle.std.specs.List.{All, starts_with}
+use Rattle.std.proofs.lemmas.List.{length-append}
+use Rattle.std.specs.Prelude.{option_map}
+use Rattle.cluster_tree.specs.Causes.{given, unless}
+use Rattle.cluster_tree.specs.Contents.{Contents, FileEntry, entry_at}
+use Rattle.cluster_tree.specs.PathValue.{PathValue}
+use Rattle.cluster_tree.specs.Tree.{bytes_in, file_of}
+use Rattle.clusters.specs.WholeFile.{all_of}
+use Rattle.gated_marks.specs.Gates.{IsComplete, plus, whole_mark}
+use Rattle.layout.specs.Splice.{splice}
+use Rattle.mark_lines.specs.Words.{line}
+use Rattle.replay_list.specs.Lines.{files_behind, listed_lines}
+use Rattle.replay_list.specs.Mark.{is_complete, is_open, mark_told}
+use Rattle.replay_list.specs.Reading.{listed_in}
+use Rattle.replay_list.specs.Text.{list_text}
+use Rattle.replay_list.specs.declared.listed.Listed.{Listed}
+use Rattle.replay_list.specs.declared.listed.Listed.TheVariants.{Folder, Page, File}
+use Rattle.replay_list.specs.declared.mark.ReplayMark.TheVariants as mark
+use Rattle.replay_list.proofs.LawLemmas.{all_read}
+use Rattle.stored_replay.specs.Marks.{own_bytes}
+use Rattle.stored_replay.specs.Shadows.{first_lost, is_sized, lost_of, or_later, shadow_at}
+use Rattle.stored_replay.specs.declared.fault.StoredReplayFault.TheVariants as fault
+use Rattle.stored_replay.proofs.ShadowLemmas.{lost-none}
+use Rattle.stored_replay.specs.Stored.{Begun, HadEnded, NotBegun, or_bad, told_as, told_in, with_copies}
+use Rattle.replay_copies.specs.Ended.{ended_gate, with_gate}
+use Rattle.replay_copies.specs.Laid.{AreCopied, IsFound, IsReady, mark_head, mark_of, whole_gate}
+use Rattle.replay_copies.specs.Laws.{EndedIsTold, LaidIsTold, ShutIsNotBegun}
+
+-- ---- bytes
+
+-- the head once its gates are open
+abbrev opened : List ℕ
+opened = codes "pg_walreplay 2\n+-\n"
+
+abbrev both : List ℕ
+both = codes "pg_walreplay 2\n++\n"
+
+opened-is : splice mark_head whole_gate (plus ∷ []) ≡ opened
+unfolding splice
+opened-is = refl
+
+both-is : (text : List ℕ) → splice (opened ++ text) ended_gate (plus ∷ []) ≡ both ++ text
+unfolding splice
+both-is text = refl
+
+longer : (n : ℕ) → 18 < n → nat_lt 18 n ≡ true
+longer n more = grind (arith, nat_tests)
+
+opened-told : (text : List ℕ) → 0 < length text → mark_told (opened ++ text) ≡ mark.Complete
+opened-told text some =
+    ap (λ b. if (b && true && true) && false then mark.Ended else if b && true && true then mark.Complete else mark.NotComplete) (longer (length (opened ++ text)) (omega (arith, some, length-append opened text)))
+
+both-told : (text : List ℕ) → 0 < length text → mark_told (both ++ text) ≡ mark.Ended
+both-told text some =
+    ap (λ b. if (b && true && true) && true then mark.Ended else if b && true && true then mark.Complete else mark.NotComplete) (longer (length (both ++ text)) (omega (arith, some, length-append both text)))
+
+text-some : (root : PathValue) (listed : List Listed) → 0 < length (list_text root listed)
+text-some root listed = omega (arith, length-append (listed_lines root 0 listed) (line (codes "end" ∷ [])))
+
+-- ---- copies
+
+lost-next : (c : Contents) (root : PathValue) (files : ℕ) (one : Listed) (more : List Listed) → first_lost c root files (one ∷ more) ≡ or_later (lost_of c root files one) (first_lost c root (files_behind files one) more)
+unfolding first_lost
+lost-next c root files one more = refl
+
+none-lost : (root : PathValue) (c d : Contents) (files : ℕ) (listed : List Listed) → All (IsFound c) listed → AreCopied root c d files listed → first_lost d root files listed ≡ None
+none-lost root c d files [] found copied = lost-none d root files
+none-lost root c d files (Folder path ∷ more) found copied = lost-next d root files (Folder path) more ∙ none-lost root c d files more (All-tail (IsFound c) _ more found) copied.1
+none-lost root c d files (Page path size ∷ more) found copied = lost-next d root files (Page path size) more ∙ none-lost root c d files more (All-tail (IsFound c) _ more found) copied.1
+none-lost root c d files (File path size ∷ more) found copied =
+    lost-next d root files (File path size) more
+    ∙ ap (λ b. or_later (if b then None else Some (shadow_at root files)) (first_lost d root (suc files) more)) (ap (is_sized size) copied.0 ∙ All-head (IsFound c) (File path size) more found)
+    ∙ none-lost root c d (suc files) more (All-tail (IsFound c) _ more found) copied.1
+
+-- ---- what is told
+
+list-read : (root : PathValue) (listed : List Listed) (c d : Contents) → IsReady root listed c → listed_in root (list_text root listed) ≡ Ok listed
+list-read root listed c d ready = all_read root listed ready.list
+
+whole-is : (text : List ℕ) → whole_mark mark_head whole_gate text ≡ opened ++ text
+whole-is text = ap (λ h. h ++ text) opened-is
+
+told-by : (d : Contents) (root : PathValue) (bytes : List ℕ) → entry_at d (mark_of root) ≡ Some (FileEntry bytes) → told_in d root (own_bytes d root) ≡ told_as d root bytes (mark_told bytes)
+told-by d root bytes is = ap (λ o. told_in d root (all_of (file_of o))) is
+
+pub laid-told : LaidIsTold
+laid-told root listed c d ready laid =
+    let text = list_text root listed in
+    told-by d root (opened ++ text) (laid.mark ∙ ap (λ b. Some (FileEntry b)) (whole-is text))
+    ∙ ap (told_as d root (opened ++ text)) (opened-told text (text-some root listed))
+    ∙ ap (λ r. given (or_bad root r) (with_copies d root)) (list-read root listed c d ready)
+    ∙ ap (λ o. unless (option_map fault.ShadowDiffers o) (Ok (Begun listed))) (none-lost root c d 0 listed ready.found laid.copies.copied)
+
+pub ended-told : EndedIsTold
+ended-told root listed c d e ready laid is =
+    let text = list_text root listed in
+    let gate : with_gate root d plus ≡ both ++ text = ap (λ o. splice (bytes_in o) ended_gate (plus ∷ [])) laid.mark ∙ ap (λ b. splice b ended_gate (plus ∷ [])) (whole-is text) ∙ both-is text in
+    told-by e root (both ++ text) (is ∙ ap (λ b. Some (FileEntry b)) gate)
+    ∙ ap (told_as e root (both ++ text)) (both-told text (text-some root listed))
+    ∙ ap (λ r. given (or_bad root r) (λ l. Ok HadEnded)) (list-read root listed c d ready)
+
+-- ---- a mark that is shut
+
+and-three : (a b c : Bool) → (a && b && c) ≡ true → (a ≡ true) × (b ≡ true) × (c ≡ true)
+and-three true true c e = (refl, refl, e)
+and-three true false c e = absurd (true≢false (sym e))
+and-three false b c e = absurd (true≢false (sym e))
+
+complete-is : (bytes : List ℕ) → is_complete bytes ≡ true → IsComplete mark_head whole_gate bytes
+complete-is bytes e =
+    let (long, first, gate) = and-three (nat_lt 18 (length bytes)) (starts_with nat_eq bytes (codes "pg_walreplay 2\n")) (is_open 15 bytes) e in
+    record {
+      front = sym (same_text _ _ (sym first));
+      is_open = grind (arith, nat_tests);
+      longer = grind (arith, nat_tests);
+    }
+
+told-cases : (c : Contents) (root : PathValue) (bytes : List ℕ) (old whole ended : Bool) → (whole ≡ true → ⊥)
+    → told_as c root bytes (if old then mark.Version1 else if whole && ended then mark.Ended else if whole then mark.Complete else mark.NotComplete) ≡ Ok NotBegun
+told-cases c root bytes true whole ended never = refl
+told-cases c root bytes false true ended never = absurd (never refl)
+told-cases c root bytes false false ended never = refl
+
+pub shut-not_begun : ShutIsNotBegun
+shut-not_begun root c bytes shut =
+    told-cases c root bytes (bytes_eq bytes (codes "pg_walreplay 1\n")) (is_complete bytes) (is_open 16 bytes) (λ e. shut (complete-is bytes e))

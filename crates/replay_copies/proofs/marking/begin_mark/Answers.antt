@@ -1,0 +1,6 @@
+use Rattle.replay_copies.proofs.MarkLemmas.{off-head}
+use Rattle.replay_copies.specs.Laid.{mark_head}
+use Rattle.replay_copies.proofs.marking.begin_mark.Goals as goal
+
+pub returns-clause-elsewhere : goal.returns-clause-elsewhere
+returns-clause-elsewhere g c = λ told none p other. (c.lay_head-done.ensures.carries told none).runs.elsewhere p (off-head (g.F.Tree.contents c.args.tree.now) c.args.mark.now p mark_head other)

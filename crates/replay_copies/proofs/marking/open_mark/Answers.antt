@@ -1,0 +1,5 @@
+use Rattle.replay_copies.proofs.MarkLemmas.{off-gate}
+use Rattle.replay_copies.proofs.marking.open_mark.Goals as goal
+
+pub returns-clause-elsewhere : goal.returns-clause-elsewhere
+returns-clause-elsewhere g c = λ told none p other. (c.open_gate-done.ensures.carries told none).runs.elsewhere p (off-gate c.args.mark.now p c.args.gate other)

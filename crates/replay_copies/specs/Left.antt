@@ -1,0 +1,20 @@
+-- What a stop leaves while the mark and the copies are laid. Own: "What a stop may leave", "The shadows of a replay".
+use Rattle.std.specs.Prelude.{◌≡◌, ◌⊎◌, List, Err}
+use Rattle.cluster_tree.specs.Contents.{Contents}
+use Rattle.cluster_tree.specs.PathValue.{PathValue}
+use Rattle.cluster_tree.specs.Tree.{bytes_at}
+use Rattle.cluster_tree.specs.declared.file_fault.FileFault.{FileFault}
+use Rattle.file_edits.specs.Answers.{IsFree}
+use Rattle.file_edits.specs.Clearing.{tree_removed}
+use Rattle.replay_list.specs.declared.listed.Listed.{Listed}
+use Rattle.stored_replay.specs.Shadows.{shadow_folder}
+use Rattle.replay_copies.specs.Laid.{IsLaid, IsShut, SameElsewhere, mark_of}
+
+-- as before but for mark and copies, and the mark holds no whole list, or all is laid
+pub record IsBeginLeft (root : PathValue) (listed : List Listed) (old new : Contents) : Type 0 where
+  pub elsewhere : SameElsewhere root old new
+  pub told : IsShut (bytes_at new (mark_of root)) ⊎ IsLaid root listed old new
+
+-- what is refused: a free answer, or the folder of copies can't be removed
+abbrev pub IsKept : PathValue → Contents → FileFault → Type 0
+IsKept root c e = IsFree e ⊎ (tree_removed (shadow_folder root) c ≡ Err e)

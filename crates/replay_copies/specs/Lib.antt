@@ -1,0 +1,5 @@
+pub mod Laid
+pub mod Left
+pub mod Copying
+pub mod Ended
+pub mod Laws
