@@ -57,12 +57,12 @@ one_files c d e = cc
 
 -- what isn't of the map changes no page of it
 
-none_so : (a b : Bool) → (a && b && false) ≡ false
+pub none_so : (a b : Bool) → (a && b && false) ≡ false
 none_so true true = refl
 none_so true false = refl
 none_so false b = refl
 
-no_map_page : (gone left image acts fresh map : Bool) → map ≡ false
+pub no_map_page : (gone left image acts fresh map : Bool) → map ≡ false
     → (if gone then act.Gone else if left then act.Nothing else if image then act.Image else if acts then (if fresh then act.Make else act.Change) else if map then act.MapPage else act.Nothing) ≡ act.MapPage → ⊥
 no_map_page true left image acts fresh map none e = absurd cc
 no_map_page false true image acts fresh map none e = absurd cc

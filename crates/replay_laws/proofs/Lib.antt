@@ -18,3 +18,4 @@ pub mod CheckedLemmas
 pub mod ConvergeLemmas
 pub mod RefusedLemmas
 pub mod RefusalLemmas
+pub mod TouchedLemmas

@@ -4,3 +4,4 @@ pub mod Log
 pub mod Laws
 pub mod Converging
 pub mod Refusals
+pub mod Touched
