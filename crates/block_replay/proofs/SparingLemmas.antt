@@ -1,6 +1,6 @@
 -- Which blocks of main forks a record's references leave.
-use Rattle.std.proofs.Common.{◌≡◌, ◌≢◌, ℕ, zero, suc, ◌+◌, ◌*◌, ◌/◌, ◌%◌, ◌<◌, ◌≤◌, ◌^◌, ◌-◌, ◌==◌, Bool, true, false, not, ◌&&◌, ◌||◌, nat_le, List, [], ◌∷◌, Option, None, Some, option_map, refl, ap, sym, ◌∙◌, true≢false, arith}
-use Rattle.std.specs.List.{list_any, slice_get}
+use Rattle.std.proofs.Common.{◌≡◌, ◌≢◌, ℕ, zero, suc, ◌+◌, ◌*◌, ◌/◌, ◌%◌, ◌<◌, ◌^◌, ◌-◌, ◌==◌, Bool, true, false, not, ◌&&◌, ◌||◌, nat_le, List, [], ◌∷◌, Option, None, Some, refl, ap, sym, ◌∙◌, true≢false, arith}
+use Rattle.std.specs.List.{slice_get}
 use Rattle.std.proofs.lemmas.Bool.{or_left, or_right}
 use Rattle.std.proofs.lemmas.Bool.Decides.{nat_tests}
 use Rattle.block_refs.specs.Parts.{PartsView}
@@ -12,7 +12,6 @@ use Rattle.cluster_tree.specs.PathValue.{PathValue}
 use Rattle.cluster_tree.proofs.OrderLemmas.{path_eq-same}
 use Rattle.file_edits.specs.Sparing.{spares}
 use Rattle.file_effects.specs.Touched.{IsOfMain}
-use Rattle.record_effects.specs.Acts.{act_on}
 use Rattle.record_effects.specs.declared.acts.Act.{Act}
 use Rattle.relation_files.specs.Paths.{relation_file}
 use Rattle.rmgr_hooks.specs.Custom.{Extension}

@@ -1,29 +1,27 @@
 -- Changing calls that spare a piece of a file leave its bytes.
-use Rattle.std.proofs.Common.{◌≡◌, ◌≢◌, ◌⊎◌, ℕ, zero, suc, ◌+◌, ◌-◌, ◌≤◌, Bool, true, false, not, ◌||◌, nat_le, List, [], ◌∷◌, ◌++◌, length, take, drop, Option, None, Some, Result, Ok, Err, is_some, refl, ap, sym, subst, ◌∙◌, inl, inr, ⊎_elim, true≢false, arith, rules, append_assoc, append-nil}
+use Rattle.std.proofs.Common.{◌≡◌, ◌≢◌, ℕ, zero, suc, ◌+◌, ◌-◌, ◌≤◌, Bool, true, false, not, ◌||◌, nat_le, List, [], ◌∷◌, ◌++◌, length, take, drop, Option, None, Some, Result, Ok, Err, is_some, refl, ap, sym, subst, ◌∙◌, inl, inr, true≢false, arith, append_assoc, append-nil}
 use Rattle.std.proofs.lemmas.Grind.{common_steps}
 use Rattle.std.proofs.lemmas.Bool.{or_right}
 use Rattle.std.proofs.lemmas.Bool.Decides.{nat_tests}
 use Rattle.std.proofs.lemmas.List.{length-append}
 use Rattle.cluster_tree.specs.PathValue.{PathValue}
 use Rattle.cluster_tree.specs.PathOrder.{path_eq}
-use Rattle.cluster_tree.specs.Contents.{Contents, Entry, FolderEntry, FileEntry, LinkEntry, entry_at, is_file, parent}
+use Rattle.cluster_tree.specs.Contents.{Contents, Entry, FolderEntry, FileEntry, LinkEntry, entry_at, is_file}
 use Rattle.cluster_tree.specs.Frame.{Reads, Came, state_of}
-use Rattle.cluster_tree.specs.Laws.{changed_path}
 use Rattle.cluster_tree.specs.Run.{Moment, State, Run, Course, Still, Call, Makes}
 use Rattle.cluster_tree.specs.Stops.{MayBeLeft, LeavesOnly}
-use Rattle.cluster_tree.specs.Step.{Step, TornBytes, CutBytes}
+use Rattle.cluster_tree.specs.Step.{Step}
 use Rattle.cluster_tree.specs.Tree.{bytes_in, bytes_at, file_of, make_refusal, size_of}
 use Rattle.cluster_tree.specs.declared.tree.Tree.{Ghosts}
 use Rattle.cluster_tree.specs.declared.tree.ChangeCall.{ChangeCall}
 use Rattle.cluster_tree.specs.declared.tree.ChangeCall.TheVariants as call
 use Rattle.cluster_tree.specs.declared.tree.TreeFault.{TreeFault}
-use Rattle.cluster_tree.specs.declared.tree.TreeFault.TheVariants as fault
 use Rattle.cluster_tree.proofs.ContentsLemmas.{entry-put}
 use Rattle.cluster_tree.proofs.Images.{Each, KeptBy, holds_first, holds_run, leaves_only}
 use Rattle.cluster_tree.proofs.OrderLemmas.{path_eq-own, path_eq-same}
 use Rattle.cluster_tree.proofs.RunLemmas.{run_of}
 use Rattle.cluster_tree.proofs.StepLemmas.{step-elsewhere}
-use Rattle.file_edits.specs.Own.{is_on, is_own, GoesBy, GoesOn, Same, More, OnOwn}
+use Rattle.file_edits.specs.Own.{is_own, GoesBy, GoesOn, Same, More, OnOwn}
 use Rattle.file_edits.specs.Sparing.{Piece, spares, Shows, Spared, Spares}
 use Rattle.file_edits.proofs.EditLemmas.{size_is}
 use Rattle.file_edits.proofs.LawLemmas.{last_call, run_longer}

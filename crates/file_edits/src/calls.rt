@@ -77,7 +77,8 @@ pub(crate) fn write<F: Tree>(
     ensures frame { Came F.Tree tree.old tree.new }
     ensures own { IsTrue F.tells →
         OnOwn F.calls (λ q. path_eq q path.now) tree.old tree.new }
-    ensures spares { IsTrue F.tells → (piece : Piece) → spares piece (ChangeCall.Write path.now at (length bytes.now)) ≡ true →
+    ensures spares { IsTrue F.tells → (piece : Piece) →
+        spares piece (ChangeCall.Write path.now at (length bytes.now)) ≡ true →
         Spares F.Tree piece tree.old tree.new }
     ensures read_fault { result ≢ Err FileFault.ReadFault }
     ensures write_fault { IsErrOf result FileFault.WriteFault →
@@ -94,7 +95,8 @@ pub(crate) fn remove<F: Tree>(alloc: Global, tree: &mut F, path: &Path) -> Resul
     ensures frame { Came F.Tree tree.old tree.new }
     ensures own { IsTrue F.tells →
         OnOwn F.calls (λ q. path_eq q path.now) tree.old tree.new }
-    ensures spares { IsTrue F.tells → (piece : Piece) → spares piece (ChangeCall.Remove path.now) ≡ true →
+    ensures spares { IsTrue F.tells → (piece : Piece) →
+        spares piece (ChangeCall.Remove path.now) ≡ true →
         Spares F.Tree piece tree.old tree.new }
     ensures read_fault { result ≢ Err FileFault.ReadFault }
     ensures write_fault { IsErrOf result FileFault.WriteFault →
@@ -116,7 +118,8 @@ pub(crate) fn cut<F: Tree>(
     ensures frame { Came F.Tree tree.old tree.new }
     ensures own { IsTrue F.tells →
         OnOwn F.calls (λ q. path_eq q path.now) tree.old tree.new }
-    ensures spares { IsTrue F.tells → (piece : Piece) → spares piece (ChangeCall.Cut path.now size) ≡ true →
+    ensures spares { IsTrue F.tells → (piece : Piece) →
+        spares piece (ChangeCall.Cut path.now size) ≡ true →
         Spares F.Tree piece tree.old tree.new }
     ensures read_fault { result ≢ Err FileFault.ReadFault }
     ensures write_fault { IsErrOf result FileFault.WriteFault →

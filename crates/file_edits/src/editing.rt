@@ -69,7 +69,8 @@ fn pad_to<F: Tree>(
         Does (Ok (edited path.now (padded to) (F.contents tree.old))) (F.contents tree.new) result }
     ensures frame { Came F.Tree tree.old tree.new }
     ensures own { IsTrue F.tells → OnOwn F.calls (λ q. path_eq q path.now) tree.old tree.new }
-    ensures spares { IsTrue F.tells → (piece : Piece) → spares piece (ChangeCall.Cut path.now from) ≡ true →
+    ensures spares { IsTrue F.tells → (piece : Piece) →
+        spares piece (ChangeCall.Cut path.now from) ≡ true →
         Spares F.Tree piece tree.old tree.new }
     ensures read_fault { result ≢ Err FileFault.ReadFault }
     ensures write_fault { IsErrOf result FileFault.WriteFault →
@@ -105,7 +106,8 @@ pub fn lay<F: Tree>(
         (F.contents tree.new) result }
     ensures frame { Came F.Tree tree.old tree.new }
     ensures own { IsTrue F.tells → OnOwn F.calls (on_way root.now path.now) tree.old tree.new }
-    ensures spares { IsTrue F.tells → (piece : Piece) → spares piece (ChangeCall.Write path.now at (length bytes.now)) ≡ true →
+    ensures spares { IsTrue F.tells → (piece : Piece) →
+        spares piece (ChangeCall.Write path.now at (length bytes.now)) ≡ true →
         Spares F.Tree piece tree.old tree.new }
     ensures read_fault { IsErrOf result FileFault.ReadFault →
         Rose (F.failed_reads tree.old) (F.failed_reads tree.new) }

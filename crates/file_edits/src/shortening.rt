@@ -26,7 +26,8 @@ pub fn shorten<F: Tree>(
         Does (file_cut path.now size (F.contents tree.old)) (F.contents tree.new) result }
     ensures frame { Came F.Tree tree.old tree.new }
     ensures own { IsTrue F.tells → OnOwn F.calls (λ q. path_eq q path.now) tree.old tree.new }
-    ensures spares { IsTrue F.tells → (piece : Piece) → spares piece (ChangeCall.Cut path.now size) ≡ true →
+    ensures spares { IsTrue F.tells → (piece : Piece) →
+        spares piece (ChangeCall.Cut path.now size) ≡ true →
         Spares F.Tree piece tree.old tree.new }
     ensures read_fault { IsErrOf result FileFault.ReadFault →
         Rose (F.failed_reads tree.old) (F.failed_reads tree.new) }

@@ -1,11 +1,10 @@
 -- Which blocks of main forks the calls on files spare.
-use Rattle.std.proofs.Common.{◌≡◌, ◌≢◌, ◌⊎◌, ℕ, zero, suc, ◌+◌, ◌*◌, ◌/◌, ◌%◌, ◌<◌, ◌≤◌, ◌^◌, ◌==◌, Bool, true, false, not, cond, ◌&&◌, ◌||◌, nat_le, nat_lt, List, [], ◌∷◌, ◌++◌, length, codes, decimal, Option, None, Some, refl, ap, sym, ◌∙◌, subst, inl, inr, ⊎_elim, true≢false, append_assoc, arith}
-use Rattle.std.specs.List.{list_any, slice_get}
+use Rattle.std.proofs.Common.{◌≡◌, ◌≢◌, ◌⊎◌, ℕ, zero, suc, ◌+◌, ◌*◌, ◌/◌, ◌%◌, ◌<◌, ◌^◌, ◌==◌, Bool, true, false, not, cond, ◌&&◌, ◌||◌, nat_le, nat_lt, List, [], ◌∷◌, length, codes, decimal, None, Some, refl, ap, sym, ◌∙◌, inl, inr, ⊎_elim, true≢false, arith}
+use Rattle.std.specs.List.{slice_get}
 use Rattle.std.proofs.lemmas.Bool.{and_parts}
 use Rattle.std.proofs.lemmas.Bool.Decides.{nat_tests}
 use Rattle.std.proofs.lemmas.List.{append_cancel_left}
 use Rattle.block_refs.specs.declared.names.BlockName.{BlockName}
-use Rattle.block_refs.specs.declared.names.Fork.{Fork}
 use Rattle.block_refs.specs.declared.names.Fork.TheVariants.{Main, Visibility}
 use Rattle.block_refs.specs.declared.names.RelName.{RelName}
 use Rattle.cluster_tree.specs.Apart.{is_held}
@@ -15,7 +14,7 @@ use Rattle.cluster_tree.specs.PathOrder.{path_eq}
 use Rattle.cluster_tree.specs.PathValue.{PathValue, below}
 use Rattle.cluster_tree.proofs.HoldLemmas.{holds-held}
 use Rattle.cluster_tree.proofs.OrderLemmas.{path_eq-same}
-use Rattle.file_edits.specs.Sparing.{Piece, spares}
+use Rattle.file_edits.specs.Sparing.{spares}
 use Rattle.relation_files.specs.Names.{name_of}
 use Rattle.relation_files.specs.Paths.{database_parts, folder_parts, global_parts, relation_file, relation_folder}
 use Rattle.relation_files.specs.Reading.{file_named}
@@ -27,14 +26,14 @@ use Rattle.slru_replay.specs.declared.area.Area.{Area}
 use Rattle.slru_replay.specs.declared.area.Area.TheVariants.{Status, Offsets, Members}
 use Rattle.storage_databases.specs.Databases.{database_folder, version_file}
 use Rattle.storage_databases.specs.RelationMap.{map_file, map_parts}
-use Rattle.storage_laws.specs.Names.{IsBlock, IsRel, in_fork, is_in_database, same_files, same_folder}
+use Rattle.storage_laws.specs.Names.{IsRel, in_fork, is_in_database, same_files, same_folder}
 use Rattle.storage_laws.proofs.DatabaseLemmas.{held_database}
 use Rattle.storage_laws.proofs.FileLemmas.{file-named, file-same, folder-same, fork-own, fork-is, named-same}
-use Rattle.storage_laws.proofs.NumberLemmas.{and-both, eq-is, eq-yes, file-before, file-least, its-place, IsAt}
+use Rattle.storage_laws.proofs.NumberLemmas.{and-both, eq-is, eq-yes, file-before, file-least, its-place}
 use Rattle.storage_laws.proofs.SweepLemmas.{parent-is}
 use Rattle.storage_replay.specs.Changes.{cuts_main}
 use Rattle.storage_replay.specs.Cutting.{file_swept, name_swept, same_fork}
-use Rattle.storage_replay.specs.Sparing.{EndsABlock, block_cut, file_of_fork, is_of_fork, is_swept, keeps_piece, piece_of}
+use Rattle.storage_replay.specs.Sparing.{block_cut, file_of_fork, is_of_fork, is_swept, keeps_piece, piece_of}
 use Rattle.storage_replay.specs.declared.sweep.Sweep.{Sweep}
 use Rattle.storage_replay.specs.declared.sweep.Sweep.TheVariants.{Remove, Empty}
 use Rattle.storage_replay.proofs.OwnLemmas.{last-below}

@@ -1,5 +1,5 @@
 -- A replay spares each block of a main fork that no record touches.
-use Rattle.std.proofs.Common.{Option, ◌≡◌, ◌≢◌, ◌∙◌, ℕ, ◌+◌, ◌-◌, ◌*◌, ◌/◌, ◌%◌, ◌<◌, ◌≤◌, ◌^◌, ◌==◌, nat_lt, nat_le, Bool, true, false, not, cond, ◌&&◌, ◌||◌, List, [], ◌∷◌, ◌++◌, length, take, drop, map, None, Some, is_some, Ok, refl, sym, ap, subst, true≢false, append_assoc, append-nil, arith}
+use Rattle.std.proofs.Common.{Option, ◌≡◌, ◌≢◌, ◌∙◌, ℕ, ◌+◌, ◌-◌, ◌*◌, ◌/◌, ◌%◌, ◌<◌, ◌^◌, ◌==◌, nat_lt, nat_le, Bool, true, false, not, cond, ◌&&◌, ◌||◌, List, [], ◌∷◌, ◌++◌, length, take, drop, map, None, Some, Ok, refl, sym, ap, subst, true≢false, append_assoc, append-nil, arith}
 use Rattle.std.specs.Prelude.{if◌then◌else◌}
 use Rattle.std.proofs.lemmas.Bool.Decides.{nat_tests}
 use Rattle.block_refs.specs.Outcomes.{record_parts}
@@ -30,7 +30,6 @@ use Rattle.marked_runs.specs.Runs.{Runs}
 use Rattle.replay_profile.specs.Profile.{judged, parts_or_none}
 use Rattle.replay_world.specs.Touched.{touched_by, touches}
 use Rattle.rmgr_hooks.specs.Custom.{Extension}
-use Rattle.storage_laws.specs.States.{block_in, whole_block}
 use Rattle.storage_laws.proofs.NumberLemmas.{file-least}
 use Rattle.storage_replay.specs.Sparing.{piece_of}
 use Rattle.storage_replay.proofs.OwnLemmas.{file-own}

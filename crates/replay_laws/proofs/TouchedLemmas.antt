@@ -1,6 +1,6 @@
 -- What a record touches it has an effect on.
-use Rattle.std.proofs.Common.{Option, ◌≡◌, ◌≢◌, ◌∙◌, ℕ, zero, suc, ◌<◌, ◌/◌, ◌%◌, ◌*◌, ◌^◌, ◌==◌, ◌&&◌, ◌||◌, nat_le, Bool, true, false, List, [], ◌∷◌, None, Some, Ok, inl, inr, refl, ap, ap₂, sym, subst, true≢false, arith}
-use Rattle.std.specs.Prelude.{if◌then◌else◌, bit_and, is_some}
+use Rattle.std.proofs.Common.{Option, ◌≡◌, ◌≢◌, ◌∙◌, ℕ, zero, suc, ◌/◌, ◌%◌, ◌*◌, ◌==◌, ◌&&◌, ◌||◌, nat_le, Bool, true, false, List, [], ◌∷◌, None, Some, inl, inr, refl, ap, ap₂, sym, subst, true≢false, arith}
+use Rattle.std.specs.Prelude.{bit_and, is_some}
 use Rattle.std.specs.List.{AllByRecursion, list_any, slice_get}
 use Rattle.std.specs.Option.{option_map_or}
 use Rattle.std.proofs.lemmas.Bool.{and_right}
@@ -34,7 +34,6 @@ use Rattle.record_layouts.specs.Operation.{operation_of}
 use Rattle.record_layouts.specs.Storage.{storage_create_of, storage_truncate_of}
 use Rattle.record_layouts.specs.declared.clog.ClogOp.{ClogOp}
 use Rattle.record_layouts.specs.declared.clog.ClogOp.TheVariants as clog
-use Rattle.record_layouts.specs.declared.database.DatabaseDrop.{DatabaseDrop}
 use Rattle.record_layouts.specs.declared.database.DatabaseOp.{DatabaseOp}
 use Rattle.record_layouts.specs.declared.database.DatabaseOp.TheVariants as database
 use Rattle.record_layouts.specs.declared.multixact.MultiXactOp.{MultiXactOp}
@@ -48,19 +47,20 @@ use Rattle.record_layouts.specs.declared.storage.StorageOp.TheVariants as storag
 use Rattle.record_layouts.specs.declared.storage.StorageTruncate.{StorageTruncate}
 use Rattle.record_layouts.specs.declared.transaction.TransactionOp.{TransactionOp}
 use Rattle.record_layouts.specs.declared.transaction.TransactionOp.TheVariants as transaction
-use Rattle.replay_law.specs.Effect.{Effect, Nothing, FullPageImage, Init, Change, Gone}
+use Rattle.replay_law.specs.Effect.{Effect, Nothing, Change, Gone}
 use Rattle.replay_profile.specs.Fields.{takes_database, takes_fields, takes_storage, takes_transaction}
-use Rattle.replay_profile.specs.Names.{is_block, is_rel}
+use Rattle.replay_profile.specs.Names.{is_rel}
 use Rattle.replay_world.specs.Touched.{touched_by, touches}
 use Rattle.storage_laws.specs.FileLaws.{IsProper}
-use Rattle.storage_laws.specs.Names.{is_in_database, same_block, same_files}
+use Rattle.storage_laws.specs.Names.{is_in_database, same_block}
 use Rattle.storage_laws.proofs.NumberLemmas.{by_test}
 use Rattle.storage_replay.specs.Changes.{cuts_main}
 use Rattle.wal_records.specs.Reading.{LogRecord}
 use Rattle.replay_laws.specs.Held.{IsMainBlock}
 use Rattle.replay_laws.specs.Log.{AreTaken, IsTaken, steps}
-use Rattle.replay_laws.specs.Touched.{HaveNoEffect}
+use Rattle.replay_laws.specs.Touched.{HaveNoEffect, StartTouchesByEffect}
 use Rattle.replay_laws.proofs.BlockLemmas.{no_map_page, none_so}
+use Rattle.replay_laws.proofs.CheckedLemmas.{start-taken}
 use Rattle.replay_laws.proofs.FieldLemmas.{IsKnown, cut-known, drop-known, end-known}
 use Rattle.replay_laws.proofs.LogLemmas.{first-taken}
 use Rattle.replay_laws.proofs.NameLemmas.{AreOwn, block-same, name-is, rel-same}
@@ -195,3 +195,6 @@ log-touches custom start [] name are is none = refl
 log-touches custom start (rec ∷ records) name are is none =
     let taken = first-taken custom start rec records are in
     ap₂ (λ a b. a || b) (touches-effect custom rec _ name taken.0 is none.0) (log-touches custom rec.end records name taken.1 is none.1)
+
+pub start-touches : StartTouchesByEffect
+start-touches custom c root start name bytes is main none = log-touches custom start.label.start.0 start.records name (start-taken custom c root start bytes is) main none

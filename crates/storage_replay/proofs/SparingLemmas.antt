@@ -4,7 +4,6 @@ use Rattle.std.proofs.lemmas.Bool.{and_parts, or_right}
 use Rattle.std.proofs.lemmas.Bool.Decides.{nat_tests}
 use Rattle.block_refs.specs.declared.names.Fork.{Fork}
 use Rattle.block_refs.specs.declared.names.RelName.{RelName}
-use Rattle.block_refs.specs.Names.{fork_number}
 use Rattle.cluster_tree.specs.Contents.{Contents, entry_at}
 use Rattle.cluster_tree.specs.Folders.{lies_in, last_part}
 use Rattle.cluster_tree.specs.PathValue.{PathValue, below}

@@ -277,7 +277,8 @@ fn put_in_file<F: Tree>(
     ensures spares { IsTrue F.tells → (piece : Piece) →
         EndsABlock piece →
         spares piece (ChangeCall.Write (relation_file at.now.root name.rel name.fork
-        (name.block / at.now.per_file)) (name.block % at.now.per_file * 8192) (length page.now)) ≡ true →
+        (name.block / at.now.per_file)) (name.block % at.now.per_file * 8192)
+        (length page.now)) ≡ true →
         Spares F.Tree piece tree.old tree.new }
     ensures read_fault { IsErrOf result FileFault.ReadFault →
         Rose (F.failed_reads tree.old) (F.failed_reads tree.new) }

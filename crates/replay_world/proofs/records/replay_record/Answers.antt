@@ -1,4 +1,4 @@
-use Rattle.std.proofs.Common.{◌≡◌, ◌||◌, Bool, true, false, refl, sym, true≢false}
+use Rattle.std.proofs.Common.{◌≡◌, ◌||◌, Bool, true, false, refl, true≢false}
 use Rattle.file_edits.proofs.SparingLemmas.{spared-on}
 use Rattle.storage_replay.specs.Sparing.{piece_of}
 use Rattle.replay_world.proofs.records.replay_record.Goals as goal
