@@ -2,3 +2,4 @@ pub mod Again
 pub mod Files
 pub mod Laws
 pub mod FileLaws
+pub mod Standing
