@@ -3,3 +3,4 @@ pub mod ReferenceLemmas
 pub mod AgainLemmas
 pub mod FileLemmas
 pub mod EndLemmas
+pub mod UnchangedLemmas

@@ -3,3 +3,4 @@ pub mod Files
 pub mod Laws
 pub mod FileLaws
 pub mod Standing
+pub mod Unchanged

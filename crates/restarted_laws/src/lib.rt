@@ -5,8 +5,10 @@ mod files;
 mod records;
 mod replays;
 mod standing;
+mod unchanged;
 
 pub use files::{records_end_with_same_files, replays_end_with_same_files};
 pub use records::records_end_the_same;
 pub use replays::replays_end_the_same;
 pub use standing::unchanged_blocks_stand;
+pub use unchanged::unchanged_first_are_again;
