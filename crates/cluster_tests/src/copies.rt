@@ -56,7 +56,11 @@ fn list<R: AllocGlobal + Abort>(rt: &R) -> Vec<Listed> {
 }
 
 /// The bytes of a file, none where there is none.
-fn bytes_in<R: AllocGlobal + Abort>(rt: &R, tree: &mut MemoryTree, path: &str) -> Vec<u8> {
+pub(crate) fn bytes_in<R: AllocGlobal + Abort>(
+    rt: &R,
+    tree: &mut MemoryTree,
+    path: &str,
+) -> Vec<u8> {
     let file = path_of(rt, path);
     let size = tree.size(&file).unwrap_or(0);
     let mut bytes = vec![in rt.alloc(); 0; size as usize].expect(rt, "no memory");
@@ -127,7 +131,7 @@ fn kind_of<R: AllocGlobal + Abort>(rt: &R, tree: &mut MemoryTree) -> &'static st
 }
 
 /// Tells a kind that wasn't told before.
-fn tell_kind<R: Abort>(rt: &R, out: &mut String, kind: &str) {
+pub(crate) fn tell_kind<R: Abort>(rt: &R, out: &mut String, kind: &str) {
     if out.contains(kind) {
         return;
     }

@@ -34,6 +34,8 @@ mod refusals;
 #[cfg(test)]
 mod resets;
 #[cfg(test)]
+mod restored;
+#[cfg(test)]
 mod resumes;
 #[cfg(test)]
 mod rows;

@@ -11,6 +11,7 @@ use crate::numbers::tell_numbers;
 use crate::paths::tell_path;
 use crate::plans::tell_plan;
 use crate::resets::tell_reset;
+use crate::restored::tell_restored;
 use crate::resumes::tell_resumes;
 use crate::stored::tell_stored;
 use crate::surveys::tell_survey;
@@ -18,7 +19,7 @@ use crate::texts::cut_at;
 use crate::walks::tell_walks;
 use crate::{
     areas, begun, copies, endless, faults, held, labels, lists, numbers, paths, plans, refusals,
-    resets, resumes, stored, surveys, walks,
+    resets, restored, resumes, stored, surveys, walks,
 };
 use std::process::Abort;
 
@@ -63,7 +64,7 @@ const RESUMES: [&str; 9] = [
 ];
 
 /// The texts of rows of lists in the marks of replays.
-const LISTS: [&str; 12] = [
+const LISTS: [&str; 14] = [
     lists::KINDS,
     lists::TAKEN,
     lists::FORMS,
@@ -76,6 +77,8 @@ const LISTS: [&str; 12] = [
     begun::COPIES,
     begun::FAILING,
     copies::STOPS,
+    restored::BACK,
+    restored::IN_THE_WAY,
 ];
 
 /// The texts of rows of resets.
@@ -118,6 +121,7 @@ fn tell<R: AllocGlobal + Abort>(rt: &R, out: &mut String, row: &str) {
         "held" => tell_held(rt, out, words),
         "areas" => tell_areas(rt, out, words),
         "begun" => tell_begun(rt, out, words),
+        "restored" | "unrestored" => tell_restored(rt, out, verb, words),
         "copies" => {
             let (verb, calls) = cut_at(words, " ");
             tell_copies(rt, out, verb, calls);

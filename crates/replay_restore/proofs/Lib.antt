@@ -1,0 +1,12 @@
+mod AnswerLemmas
+mod PieceLemmas
+mod PageLemmas
+mod FillLemmas
+mod KindLemmas
+mod FreeLemmas
+mod InsideLemmas
+mod BlockLemmas
+mod AreaLemmas
+mod ClosedLemmas
+mod ReadyLemmas
+mod RestoreLemmas

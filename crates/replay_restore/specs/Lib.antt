@@ -1,0 +1,4 @@
+pub mod Listing
+pub mod Filled
+pub mod Freed
+pub mod Restored
