@@ -1,0 +1,5 @@
+pub mod BackLemmas
+pub mod LaidLemmas
+pub mod AlikeLemmas
+pub mod BlockLemmas
+pub mod ClosedLemmas
