@@ -1,41 +1,35 @@
 -- How the steps of a replay join.
-use Rattle.std.proofs.Common.{◌≡◌, ◌≢◌, inl, inr, ℕ, false, IsTrue, IfErr, IfOk, List, [], ◌∷◌, Option, None, Some, option_map, Result, Ok, Err, refl, sym, ap, ◌∙◌, subst}
+use Rattle.std.proofs.Common.{◌≡◌, ◌≢◌, inl, inr, false, IsTrue, IfErr, IfOk, List, [], Option, None, Some, Result, Ok, Err, refl, sym, ap, ◌∙◌, subst}
 use Rattle.std.specs.Prelude.{is_ok}
 use Rattle.block_refs.specs.declared.names.BlockName.{BlockName}
-use Rattle.block_replay.specs.World.{least_name}
-use Rattle.cluster_tree.specs.Causes.{given, unless}
-use Rattle.cluster_tree.specs.Change.{Change, Removes, Writes, all_changed, first_refusal}
+use Rattle.cluster_tree.specs.Causes.{given}
+use Rattle.cluster_tree.specs.Change.{Change, all_changed, first_refusal}
 use Rattle.cluster_tree.specs.Contents.{Contents, is_file}
 use Rattle.cluster_tree.specs.Frame.{Came}
 use Rattle.cluster_tree.specs.PathValue.{PathValue}
 use Rattle.cluster_tree.specs.Run.{State, Still, state_by}
 use Rattle.cluster_tree.specs.declared.tree.Tree.{Ghosts}
-use Rattle.control_file.specs.Writing.{control_bytes}
-use Rattle.control_file.specs.declared.control.Control.{Control}
 use Rattle.file_edits.specs.Own.{OnOwn, Same}
 use Rattle.file_edits.proofs.LawLemmas.{own-elsewhere}
 use Rattle.file_effects.specs.Own.{is_replayed}
 use Rattle.marked_runs.specs.Carried.{Carried, Carries}
-use Rattle.marked_runs.specs.Performed.{Performed, Performs, about}
-use Rattle.marked_runs.specs.Runs.{begun, ended}
+use Rattle.marked_runs.specs.Performed.{Performs, about}
+use Rattle.marked_runs.specs.Runs.{begun}
 use Rattle.marked_runs.specs.declared.faults.PerformFault.{PerformFault}
 use Rattle.marked_runs.specs.declared.faults.PerformFault.TheVariants as perform
 use Rattle.marked_runs.specs.declared.faults.StepFault.{StepFault}
 use Rattle.marked_runs.specs.declared.faults.StepFault.TheVariants as step
-use Rattle.replay_control.specs.Following.{control_left}
 use Rattle.replay_start.specs.Checked.{Start, start_of}
 use Rattle.clusters.specs.declared.fault.ClusterFault.TheVariants as cluster
 use Rattle.replay_start.specs.declared.fault.ReplayFault.{ReplayFault}
 use Rattle.replay_start.specs.declared.fault.ReplayFault.TheVariants as fault
 use Rattle.replay_world.specs.World.{World}
 use Rattle.replay_core.specs.Faults.{IsFree, of_perform}
-use Rattle.replay_core.specs.Replayed.{After, after_replay, beginning, closed, closed_or, closing, control_path, first_world, label_path, mark_of, mark_text, replayed_into}
-use Rattle.replay_core.specs.Stages.{ArePaths, Stand}
+use Rattle.replay_core.specs.Replayed.{After, after_replay, beginning, control_path, first_world, label_path, mark_of, mark_text, replayed_into}
+use Rattle.replay_core.specs.Stages.{EndsStand, Stand}
 use Rattle.replay_core.specs.Went.{Answers, IsAfter, IsCause, RanRecords, Went, WentOn, Unchanged}
 use Rattle.replay_core.specs.declared.outcome.Replayed.{Replayed}
-use Rattle.replay_core.specs.declared.paths.Paths.{Paths}
 use Rattle.replay_core.proofs.PathLemmas.{control-kept, label-kept, mark-kept}
-use Rattle.replay_core.proofs.StandLemmas.{closing-unrefused}
 use Rattle.rmgr_hooks.specs.Custom.{Extension}
 
 -- ---- faults
@@ -73,41 +67,22 @@ ran-records tree root a b came own =
     }
 
 -- what is changed at the end still stands behind them
+pub ends-stand : (root : PathValue) (old new : State) → RanRecords root old new → EndsStand old.contents root → EndsStand new.contents root
+ends-stand root old new ran stand = record {
+  control = ap is_file (ran.elsewhere (control_path root) (control-kept root)) ∙ stand.control;
+  label = ap is_file (ran.elsewhere (label_path root) (label-kept root)) ∙ stand.label;
+}
+
 pub still-stand : (root : PathValue) (old new : State) → RanRecords root old new → Stand old.contents root → Stand new.contents root
 still-stand root old new ran stand = record {
   mark = ap is_file (ran.elsewhere (mark_of root) (mark-kept root)) ∙ stand.mark;
-  control = ap is_file (ran.elsewhere (control_path root) (control-kept root)) ∙ stand.control;
-  label = ap is_file (ran.elsewhere (label_path root) (label-kept root)) ∙ stand.label;
+  ends = ends-stand root old new ran stand.ends;
 }
 
 -- ---- equal changes
 
 pub performs-same : {F : Type 0} (tree : Ghosts F) (xs ys : List Change) (a b : F) (r : Result (Unit {0}) PerformFault) → xs ≡ ys → Performs tree xs a b r → Performs tree ys a b r
 performs-same tree xs ys a b r is one = subst (λ l. Performs tree l a b r) is one
-
--- ---- the changes at the end
-
-pub closing-ran : {F : Type 0} (tree : Ghosts F) (root : PathValue) (paths : Paths) (left k : Control) (a b : F) (r : Result (Unit {0}) PerformFault) → ArePaths root paths → k ≡ left → IsTrue tree.tells → Stand (tree.contents a) root
-    → Performs tree (Writes paths.control 0 (control_bytes k) ∷ Removes paths.label ∷ ended paths.mark) a b r
-    → Performed (closing root left) (state_by tree.contents tree.calls a) (state_by tree.contents tree.calls b) r
-closing-ran tree root paths left k a b r are is told stand performs =
-    let same : (Writes paths.control 0 (control_bytes k) ∷ Removes paths.label ∷ ended paths.mark) ≡ closing root left =
-    ap (λ p. Writes p 0 (control_bytes k) ∷ Removes paths.label ∷ ended paths.mark) are.control
-    ∙ ap (λ p. Writes (control_path root) 0 (control_bytes k) ∷ Removes p ∷ ended paths.mark) are.label
-    ∙ ap (λ p. Writes (control_path root) 0 (control_bytes k) ∷ Removes (label_path root) ∷ ended p) are.mark
-    ∙ ap (λ x. closing root x) is in
-    subst (λ l. Performs tree l a b r) same performs told (closing-unrefused (tree.contents a) root left stand)
-
-pub closed-ok : (root : PathValue) (tli n e : ℕ) (w : World) (told : Replayed) (d : Contents) → least_name w.skipped ≡ None → d ≡ all_changed w.files (closing root (control_left tli e w.control))
-    → told.records ≡ n → told.end.0 ≡ e → told.tli ≡ tli → IsAfter (closed_or root tli n e w) told d
-closed-ok root tli n e w told d none files records end time = record {
-  after = closed root tli n e w;
-  is = ap (λ o. unless (option_map fault.MissingPage o) (Ok (closed root tli n e w))) none;
-  files_are = files;
-  records = records;
-  end = end;
-  tli = time;
-}
 
 -- ---- the changes at the beginning
 

@@ -1,5 +1,5 @@
 -- A replay spares each block of a main fork that no record touches.
-use Rattle.std.proofs.Common.{Option, ◌≡◌, ◌≢◌, ◌∙◌, ℕ, ◌+◌, ◌-◌, ◌*◌, ◌/◌, ◌%◌, ◌<◌, ◌^◌, ◌==◌, nat_lt, nat_le, Bool, true, false, not, cond, ◌&&◌, ◌||◌, List, [], ◌∷◌, ◌++◌, length, take, drop, map, None, Some, Ok, refl, sym, ap, subst, true≢false, append_assoc, append-nil, arith}
+use Rattle.std.proofs.Common.{Option, ◌≡◌, ◌∙◌, ℕ, ◌+◌, ◌-◌, ◌*◌, ◌/◌, ◌%◌, ◌<◌, ◌^◌, nat_lt, nat_le, Bool, true, false, not, ◌||◌, List, ◌∷◌, length, take, drop, map, None, Some, Ok, refl, sym, ap, true≢false, arith}
 use Rattle.std.specs.Prelude.{if◌then◌else◌}
 use Rattle.std.proofs.lemmas.Bool.Decides.{nat_tests}
 use Rattle.block_refs.specs.Outcomes.{record_parts}
@@ -8,20 +8,20 @@ use Rattle.block_refs.specs.declared.names.BlockName.{BlockName}
 use Rattle.cluster_tree.specs.Change.{Change, call_of}
 use Rattle.cluster_tree.specs.Contents.{Contents, Entry, FolderEntry, FileEntry, LinkEntry, entry_at, is_file}
 use Rattle.cluster_tree.specs.Frame.{Came, moment_of}
-use Rattle.cluster_tree.specs.Joined.{joined_onto, joined_writes}
 use Rattle.cluster_tree.specs.Laws.{changed_path}
 use Rattle.cluster_tree.specs.PathOrder.{path_eq}
 use Rattle.cluster_tree.specs.PathValue.{PathValue}
 use Rattle.cluster_tree.specs.Tree.{bytes_in, bytes_at}
+use Rattle.cluster_tree.specs.Run.{Moment}
 use Rattle.cluster_tree.specs.declared.tree.ChangeCall.{ChangeCall}
 use Rattle.cluster_tree.specs.declared.tree.ChangeCall.TheVariants.{Write, Cut, MakeFile, MakeFolder, Remove, Sync}
 use Rattle.cluster_tree.specs.declared.tree.Tree.{Ghosts}
+use Rattle.cluster_tree.proofs.Images.{holds_first, leaves_only}
 use Rattle.cluster_tree.proofs.OrderLemmas.{path_eq-own, path_eq-same}
 use Rattle.cluster_tree.proofs.RunLemmas.{course_of}
 use Rattle.control_file.specs.declared.control.Control.{Control}
-use Rattle.file_edits.specs.Own.{GoesBy, Same, More}
+use Rattle.file_edits.specs.Own.{Same}
 use Rattle.file_edits.specs.Sparing.{Piece, Shows, Spares, spares}
-use Rattle.file_edits.proofs.OwnLemmas.{goes-by_on}
 use Rattle.file_edits.proofs.SparingLemmas.{spared-run, spared-stop}
 use Rattle.file_effects.specs.Own.{is_replayed}
 use Rattle.file_effects.specs.Touched.{IsOfMain}
@@ -34,76 +34,21 @@ use Rattle.storage_laws.proofs.NumberLemmas.{file-least}
 use Rattle.storage_replay.specs.Sparing.{piece_of}
 use Rattle.storage_replay.proofs.OwnLemmas.{file-own}
 use Rattle.wal_records.specs.Reading.{LogRecord}
-use Rattle.replay_core.specs.Replayed.{beginning, closing, control_path, label_path, mark_of}
+use Rattle.replay_core.specs.Replayed.{beginning, closing, closing_files, control_path, label_path, mark_of}
 use Rattle.replay_core.specs.Sparing.{HasPage, StandsThere, StaysThrough}
+use Rattle.replay_core.proofs.CallLemmas.{AllAt, runs_go}
 use Rattle.replay_core.proofs.PathLemmas.{control-kept, label-kept, mark-kept}
 use Rattle.replay_core.proofs.RunLemmas.{parts_taken}
-
--- ---- calls whose paths have P, however their writes are joined
-
-abbrev pub AllAt : (PathValue → Type 0) → List ChangeCall → Type 0
-AllAt P [] = Unit {0}
-AllAt P (call ∷ calls) = ((p : PathValue) → changed_path call ≡ Some p → P p) × AllAt P calls
-
-module _ (P : PathValue → Type 0) where
-  front : (xs ys : List ChangeCall) → AllAt P (xs ++ ys) → AllAt P xs
-  front [] ys all = tt
-  front (x ∷ xs) ys all = (all.0, front xs ys all.1)
-
-  onto_by : (path next : PathValue) (at n from m : ℕ) (calls : List ChangeCall) (b c : Bool) → path_eq path next ≡ b
-      → AllAt P (cond (b && c) (Write path at (n + m) ∷ calls) (Write path at n ∷ Write next from m ∷ calls)) → AllAt P (Write path at n ∷ Write next from m ∷ calls)
-  onto_by path next at n from m calls true true same all = (all.0, (λ p is. all.0 p (ap Some (path_eq-same path next same) ∙ is), all.1))
-  onto_by path next at n from m calls true false same all = all
-  onto_by path next at n from m calls false c same all = all
-
-  onto : (call : ChangeCall) (calls : List ChangeCall) → AllAt P (joined_onto call calls) → AllAt P (call ∷ calls)
-  onto (Write path at n) [] all = all
-  onto (Write path at n) (Write next from m ∷ calls) all = onto_by path next at n from m calls (path_eq path next) (from == at + n) refl all
-  onto (Write path at n) (Cut next size ∷ calls) all = all
-  onto (Write path at n) (MakeFile next ∷ calls) all = all
-  onto (Write path at n) (MakeFolder next ∷ calls) all = all
-  onto (Write path at n) (Remove next ∷ calls) all = all
-  onto (Write path at n) (Sync ∷ calls) all = all
-  onto (Cut path size) calls all = all
-  onto (MakeFile path) calls all = all
-  onto (MakeFolder path) calls all = all
-  onto (Remove path) calls all = all
-  onto Sync calls all = all
-
-  unjoined : (calls : List ChangeCall) → AllAt P (joined_writes calls) → AllAt P calls
-  unjoined [] all = tt
-  unjoined (call ∷ calls) all = let two = onto call (joined_writes calls) all in (two.0, unjoined calls two.1)
-
-  joined_on : (call : ChangeCall) (calls : List ChangeCall) → AllAt P (call ∷ calls) → AllAt P (joined_onto call calls)
-  joined_on (Write path at n) [] all = all
-  joined_on (Write path at n) (Write next from m ∷ calls) all = by (path_eq path next && from == at + n)
-    where
-      by : (b : Bool) → AllAt P (cond b (Write path at (n + m) ∷ calls) (Write path at n ∷ Write next from m ∷ calls))
-      by true = (all.0, all.1.1)
-      by false = all
-  joined_on (Write path at n) (Cut next size ∷ calls) all = all
-  joined_on (Write path at n) (MakeFile next ∷ calls) all = all
-  joined_on (Write path at n) (MakeFolder next ∷ calls) all = all
-  joined_on (Write path at n) (Remove next ∷ calls) all = all
-  joined_on (Write path at n) (Sync ∷ calls) all = all
-  joined_on (Cut path size) calls all = all
-  joined_on (MakeFile path) calls all = all
-  joined_on (MakeFolder path) calls all = all
-  joined_on (Remove path) calls all = all
-  joined_on Sync calls all = all
-
-  joined : (calls : List ChangeCall) → AllAt P calls → AllAt P (joined_writes calls)
-  joined [] all = tt
-  joined (call ∷ calls) all = joined_on call (joined_writes calls) (all.0, joined calls all.1)
-
-  runs_at : (changes : List Change) (calls more : List ChangeCall) (c d : Contents) (done : Bool) → AllAt P (map call_of changes) → (ran : Runs changes calls more c d done) → AllAt P ran.made
-  runs_at changes calls more c d done all ran = front ran.made ran.rest (unjoined (ran.made ++ ran.rest) (subst (AllAt P) (sym ran.joins) (joined (map call_of changes) all)))
 
 -- ---- calls at paths that aren't replayed spare what is
 
 module _ (root : PathValue) (piece : Piece) (replayed : is_replayed root piece.path ≡ true) where
   abbrev Off : PathValue → Type 0
   Off p = is_replayed root p ≡ false
+
+  -- of the path of a call, if it has one
+  abbrev OffAt : Option PathValue → Type 0
+  OffAt o = (p : PathValue) → o ≡ Some p → Off p
 
   other : (path : PathValue) → Off path → path_eq piece.path path ≡ false
   other path off = by (path_eq piece.path path) refl
@@ -112,7 +57,7 @@ module _ (root : PathValue) (piece : Piece) (replayed : is_replayed root piece.p
       by true e = absurd (true≢false (sym replayed ∙ ap (is_replayed root) (path_eq-same piece.path path e) ∙ off))
       by false e = refl
 
-  off_spares : (call : ChangeCall) → ((p : PathValue) → changed_path call ≡ Some p → Off p) → spares piece call ≡ true
+  off_spares : (call : ChangeCall) → OffAt (changed_path call) → spares piece call ≡ true
   off_spares (Write path at n) off = ap (λ b. not b || nat_le (at + n) piece.from || nat_le piece.to at) (other path (off path refl))
   off_spares (Cut path size) off = ap (λ b. not b || nat_le piece.to size) (other path (off path refl))
   off_spares (MakeFile path) off = refl
@@ -120,34 +65,32 @@ module _ (root : PathValue) (piece : Piece) (replayed : is_replayed root piece.p
   off_spares (Remove path) off = ap not (other path (off path refl))
   off_spares Sync off = refl
 
-  goes_off : (old made : List ChangeCall) → AllAt Off made → GoesBy (spares piece) old (old ++ made)
-  goes_off old [] all = subst (GoesBy (spares piece) old) (sym (append-nil old)) Same
-  goes_off old (call ∷ calls) all =
-      subst (GoesBy (spares piece) old) (append_assoc old (call ∷ []) calls)
-      (goes-by_on (spares piece) old (old ++ call ∷ []) ((old ++ call ∷ []) ++ calls) (More call Same (off_spares call all.0) refl) (goes_off (old ++ call ∷ []) calls all.1))
+  runs_spare : {F : Type 0} (t : Ghosts F) (changes : List Change) (a b : F) (done : Bool) → AllAt OffAt (map call_of changes) → Came t a b → Runs changes (t.calls a) (t.calls b) (t.contents a) (t.contents b) done → Spares t piece a b
+  runs_spare t changes a b done all came ran = spared-run t piece a b came (runs_go OffAt (spares piece) off_spares changes (t.calls a) (t.calls b) (t.contents a) (t.contents b) done all ran)
 
-  runs_spare : (changes : List Change) (calls more : List ChangeCall) (c d : Contents) (done : Bool) → AllAt Off (map call_of changes) → Runs changes calls more c d done → GoesBy (spares piece) calls more
-  runs_spare changes calls more c d done all ran = subst (GoesBy (spares piece) calls) (sym ran.grew) (goes_off calls ran.made (runs_at Off changes calls more c d done all ran))
-
-  at_off : (path : PathValue) → Off path → (p : PathValue) → Some path ≡ Some p → Off p
+  at_off : (path : PathValue) → Off path → OffAt (Some path)
   at_off path off p is = let same : path ≡ p = cc is in ap (is_replayed root) (sym same) ∙ off
 
-  at_none : (p : PathValue) → None ≡ Some p → Off p
+  at_none : OffAt None
   at_none p is = cc is
 
-  beginning_off : AllAt Off (map call_of (beginning root))
-  beginning_off = let mark = at_off (mark_of root) (mark-kept root) in (mark, (mark, (at_none, tt)))
-
-  closing_off : (control : Control) → AllAt Off (map call_of (closing root control))
-  closing_off control =
-      let mark = at_off (mark_of root) (mark-kept root) in
-      (at_off (control_path root) (control-kept root), (at_off (label_path root) (label-kept root), (at_none, (mark, (at_none, tt)))))
+  mark_off : OffAt (Some (mark_of root))
+  mark_off = at_off (mark_of root) (mark-kept root)
 
   pub beginning-spares : {F : Type 0} (t : Ghosts F) (a b : F) (done : Bool) → Came t a b → Runs (beginning root) (t.calls a) (t.calls b) (t.contents a) (t.contents b) done → Spares t piece a b
-  beginning-spares t a b done came ran = spared-run t piece a b came (runs_spare (beginning root) (t.calls a) (t.calls b) (t.contents a) (t.contents b) done beginning_off ran)
+  beginning-spares t a b done came ran = runs_spare t (beginning root) a b done (mark_off, (mark_off, (at_none, tt))) came ran
+
+  control_off : OffAt (Some (control_path root))
+  control_off = at_off (control_path root) (control-kept root)
+
+  label_off : OffAt (Some (label_path root))
+  label_off = at_off (label_path root) (label-kept root)
+
+  pub files-spare : {F : Type 0} (t : Ghosts F) (control : Control) (a b : F) (done : Bool) → Came t a b → Runs (closing_files root control) (t.calls a) (t.calls b) (t.contents a) (t.contents b) done → Spares t piece a b
+  files-spare t control a b done came ran = runs_spare t (closing_files root control) a b done (control_off, (label_off, tt)) came ran
 
   pub closing-spares : {F : Type 0} (t : Ghosts F) (control : Control) (a b : F) (done : Bool) → Came t a b → Runs (closing root control) (t.calls a) (t.calls b) (t.contents a) (t.contents b) done → Spares t piece a b
-  closing-spares t control a b done came ran = spared-run t piece a b came (runs_spare (closing root control) (t.calls a) (t.calls b) (t.contents a) (t.contents b) done (closing_off control) ran)
+  closing-spares t control a b done came ran = runs_spare t (closing root control) a b done (control_off, (label_off, (at_none, (mark_off, (at_none, tt))))) came ran
 
 -- the file of a block is one that records change
 pub block-replayed : (root : PathValue) (per : ℕ) (name : BlockName) → 0 < per → IsOfMain name → is_replayed root (piece_of root per name).path ≡ true
@@ -221,3 +164,9 @@ spared-stays t root per name page a b came spared stands =
       now = shows-block root per name page (t.contents b) last.shows;
       at_any_stop = record { each = λ c left. shows-block root per name page c (stop.each c left) };
     }
+
+-- and where no call came
+pub still-there : (root : PathValue) (per : ℕ) (name : BlockName) (page : List ℕ) (a : Moment) → StandsThere root per name page a → StaysThrough root per name page a a
+still-there root per name page a stands =
+    let P = HasPage root per name page in
+    record { now = stands.now; at_any_stop = leaves_only P P a a (holds_first P P a stands.now stands.left) (λ c has. has) }

@@ -3,14 +3,14 @@ use Rattle.std.proofs.Common.{◌≡◌, ◌+◌, ◌<◌, ◌≤◌, ◌^◌, �
 use Rattle.std.proofs.lemmas.Bool.{and_parts}
 use Rattle.std.proofs.lemmas.Bool.Decides.{Decides-eqb, nat_tests}
 use Rattle.std.specs.Prelude.{if◌then◌else◌}
-use Rattle.std.specs.FinMap.{get, insert, remove}
+use Rattle.std.specs.FinMap.{get, insert}
 use Rattle.cluster_tree.specs.PathValue.{PathValue, below}
 use Rattle.cluster_tree.specs.Contents.{Contents, Entry, FolderEntry, FileEntry, LinkEntry, IsTree, entry_at, is_file, is_folder, or_root, parent}
 use Rattle.cluster_tree.specs.Change.{Removes, all_changed, first_refusal, or_next}
 use Rattle.cluster_tree.specs.Folders.{removal_refusal}
 use Rattle.cluster_tree.specs.Tree.{file_of, make_refusal, refusal_in, refusal_past, write_refusal, written}
 use Rattle.cluster_tree.specs.declared.tree.TreeFault.TheVariants as fault
-use Rattle.cluster_tree.proofs.ContentsLemmas.{entry-put, entry-put_other, entry-removed_other, write_refusal-new, written-new}
+use Rattle.cluster_tree.proofs.ContentsLemmas.{entry-put, entry-put_other, write_refusal-new, written-new}
 use Rattle.cluster_tree.proofs.FolderLemmas.{lies_in-below}
 use Rattle.cluster_tree.proofs.OrderLemmas.{path_eq-same}
 use Rattle.control_file.specs.Admission.{IsControl}
@@ -21,8 +21,8 @@ use Rattle.marked_runs.specs.Runs.{ended}
 use Rattle.storage_replay.specs.Files.{AreFit}
 use Rattle.wal_pages.specs.Header.{header_size}
 use Rattle.wal_records.specs.Place.{place_at}
-use Rattle.replay_core.specs.Replayed.{beginning, closing, control_path, label_path, mark_of, mark_text}
-use Rattle.replay_core.specs.Stages.{Stand}
+use Rattle.replay_core.specs.Replayed.{beginning, closing_files, control_path, label_path, mark_of, mark_text}
+use Rattle.replay_core.specs.Stages.{EndsStand, Stand}
 use Rattle.replay_core.proofs.PathLemmas.{control-label, control-mark, control_path-is, label-mark}
 
 no_less : (n : ℕ) → nat_lt n 0 ≡ false
@@ -42,19 +42,16 @@ file_remove in_use (Some LinkEntry) e = absurd (true≢false (sym e))
 
 -- ---- at the end
 
-pub closing-unrefused : (c : Contents) (root : PathValue) (control : Control) → Stand c root → first_refusal c (closing root control) ≡ None
-closing-unrefused c root control stand =
+pub files-unrefused : (c : Contents) (root : PathValue) (control : Control) → EndsStand c root → first_refusal c (closing_files root control) ≡ None
+files-unrefused c root control stand =
     let path = control_path root in
     let label = label_path root in
-    let mark = mark_of root in
     let first : Contents = written c path 0 (control_bytes control) in
-    let second : Contents = remove first label in
     let label_there : is_file (entry_at first label) ≡ true = ap is_file (entry-put_other c path label _ (λ e. control-label root (sym e))) ∙ stand.label in
-    let mark_there : is_file (entry_at second mark) ≡ true =
-    ap is_file (entry-removed_other first label mark (λ e. label-mark root (sym e)) ∙ entry-put_other c path mark _ (λ e. control-mark root (sym e))) ∙ stand.mark in
-    ap (λ o. or_next o (first_refusal first (Removes label ∷ ended mark))) (file_write (entry_at c path) stand.control)
-    ∙ ap (λ o. or_next o (first_refusal second (ended mark))) (file_remove _ (entry_at first label) label_there)
-    ∙ ap (λ o. or_next o None) (file_remove _ (entry_at second mark) mark_there)
+    ap (λ o. or_next o (first_refusal first (Removes label ∷ []))) (file_write (entry_at c path) stand.control) ∙ ap (λ o. or_next o None) (file_remove _ (entry_at first label) label_there)
+
+pub ended-unrefused : (c : Contents) (mark : PathValue) → is_file (entry_at c mark) ≡ true → first_refusal c (ended mark) ≡ None
+ended-unrefused c mark there = ap (λ o. or_next o None) (file_remove _ (entry_at c mark) there)
 
 -- ---- at the beginning
 
@@ -86,7 +83,7 @@ above c folder name tree there =
     ∙ tree (below folder (name ∷ [])) (ap is_some (sym (or_root_more folder.parts name [] (get c (below folder (name ∷ []))))) ∙ there)
 
 -- so the root of a control file is one
-root_folder : (c : Contents) (root : PathValue) → IsTree c → is_file (entry_at c (control_path root)) ≡ true → is_folder (entry_at c root) ≡ true
+pub root_folder : (c : Contents) (root : PathValue) → IsTree c → is_file (entry_at c (control_path root)) ≡ true → is_folder (entry_at c root) ≡ true
 root_folder c root tree file =
     let global = below root (codes "global" ∷ []) in
     let same : below global (codes "pg_control" ∷ []) ≡ control_path root =
@@ -116,8 +113,10 @@ begun-contents c root = written-new c (mark_of root) mark_text
 pub begun-stand : (c : Contents) (root : PathValue) → is_file (entry_at c (control_path root)) ≡ true → is_file (entry_at c (label_path root)) ≡ true → Stand (insert c (mark_of root) (FileEntry mark_text)) root
 begun-stand c root control label = record {
   mark = ap is_file (entry-put c (mark_of root) (FileEntry mark_text));
-  control = ap is_file (entry-put_other c (mark_of root) (control_path root) (FileEntry mark_text) (control-mark root)) ∙ control;
-  label = ap is_file (entry-put_other c (mark_of root) (label_path root) (FileEntry mark_text) (label-mark root)) ∙ label;
+  ends = record {
+    control = ap is_file (entry-put_other c (mark_of root) (control_path root) (FileEntry mark_text) (control-mark root)) ∙ control;
+    label = ap is_file (entry-put_other c (mark_of root) (label_path root) (FileEntry mark_text) (label-mark root)) ∙ label;
+  };
 }
 
 -- ---- what a replay begins with

@@ -6,10 +6,11 @@ use Rattle.cluster_tree.specs.Causes.{first_of, given, unless}
 use Rattle.cluster_tree.specs.Change.{all_changed, first_refusal}
 use Rattle.cluster_tree.specs.Contents.{Contents, Entry, FolderEntry, FileEntry, LinkEntry, IsTree, entry_at, is_file}
 use Rattle.cluster_tree.specs.Marks.{MarkPaths, is_there, marks_of}
-use Rattle.cluster_tree.specs.PathValue.{PathValue, below}
+use Rattle.cluster_tree.specs.PathValue.{PathValue, Holds, below}
 use Rattle.cluster_tree.specs.Tree.{file_of}
 use Rattle.cluster_tree.specs.declared.tree.TreeFault.{TreeFault}
 use Rattle.cluster_tree.proofs.ContentsLemmas.{entry-put_other}
+use Rattle.cluster_tree.proofs.RootLemmas.{holds-below}
 use Rattle.clusters.specs.Marks.{unfinished, with_mark}
 use Rattle.clusters.specs.RootControl.{control_at, control_in}
 use Rattle.clusters.specs.RootHistory.{history_at}
@@ -34,7 +35,9 @@ use Rattle.replay_start.specs.Scanned.{log_refusal}
 use Rattle.replay_start.specs.declared.checked.Checked.{Checked}
 use Rattle.replay_start.specs.declared.fault.ReplayFault.TheVariants as fault
 use Rattle.replay_core.specs.Replayed.{beginning, control_path, label_path, mark_of, mark_text}
-use Rattle.replay_core.specs.Stages.{HasLog, IsChecked, Stand, records_in, start_in}
+use Rattle.replay_core.specs.Stages.{EndsStand, HasLog, IsChecked, Stand, records_in, start_in}
+use Rattle.replay_core.specs.Under.{WasStart}
+use Rattle.replay_core.specs.Within.{LogStays}
 use Rattle.replay_core.proofs.PathLemmas.{log-mark}
 use Rattle.replay_core.proofs.StandLemmas.{beginning-unrefused, begun-contents, begun-stand}
 use Rattle.rmgr_hooks.specs.Custom.{Extension}
@@ -107,12 +110,12 @@ label_there c root v e = label_in_file root (entry_at c (label_path root)) (file
 
 -- ---- a start that is given
 
-record IsGiven (custom : Option Extension) (c : Contents) (root : PathValue) (s : Start) : Type 0 where
-  mark : entry_at c (mark_of root) ≡ None
-  control : is_file (entry_at c (control_path root)) ≡ true
-  label : is_file (entry_at c (label_path root)) ≡ true
-  records : s.records ≡ (log_of (pages_of s.log c) (bytes_of s.log.size) s.label.start.0).records
-  taken : first_outside custom s.records ≡ None
+pub record IsGiven (custom : Option Extension) (c : Contents) (root : PathValue) (s : Start) : Type 0 where
+  pub mark : entry_at c (mark_of root) ≡ None
+  pub control : is_file (entry_at c (control_path root)) ≡ true
+  pub label : is_file (entry_at c (label_path root)) ≡ true
+  pub records : s.records ≡ (log_of (pages_of s.log c) (bytes_of s.log.size) s.label.start.0).records
+  pub taken : first_outside custom s.records ≡ None
 
 record IsOfLog (custom : Option Extension) (c : Contents) (s : Start) : Type 0 where
   records : s.records ≡ (log_of (pages_of s.log c) (bytes_of s.log.size) s.label.start.0).records
@@ -131,7 +134,7 @@ of_log custom c root control label (Some log) s e =
     let same : all ≡ s = cc w.1 in
     subst (λ (x : Start). IsOfLog custom c x) same (record { records = refl; taken = none_outside custom root control label records w.0 })
 
-is_given : (custom : Option Extension) (c : Contents) (root : PathValue) (s : Start) → start_of custom c root ≡ Ok s → IsGiven custom c root s
+pub is_given : (custom : Option Extension) (c : Contents) (root : PathValue) (s : Start) → start_of custom c root ≡ Ok s → IsGiven custom c root s
 unfolding start_of from_control from_label
 is_given custom c root s is =
     let a = unless_ok (option_map fault.Cluster (unfinished c root)) (given (told_by (control_at c root)) (from_control custom c root)) s is in
@@ -206,3 +209,31 @@ under_mark custom c root v checked folder =
 
 pub under-mark : (custom : Option Extension) (c c1 : Contents) (root : PathValue) (v : Checked) → IsChecked custom c root v → v.cursor.log.folder ≡ wal_folder root → c1 ≡ all_changed c (beginning root) → Under custom c c1 root v
 under-mark custom c c1 root v checked folder is = subst (λ x. Under custom c x root v) (sym (is ∙ begun-contents c root)) (under_mark custom c root v checked folder)
+
+-- ---- a start that was checked before the caller laid its mark
+
+pub record FromStart (custom : Option Extension) (v : Checked) (s : Start) (c : Contents) (root : PathValue) : Type 0 where
+  pub log : HasLog custom v c
+  pub stand : EndsStand c root
+  pub start : start_in v c ≡ s
+
+log_held : (root : PathValue) (log : LogPath) (c d : Contents) → log.folder ≡ wal_folder root → LogStays root c d → SameLog log c d
+log_held root log c d is stays number =
+    let name : List ℕ = name_of (segment_of log number) in
+    ap file_in (sym (stays (below log.folder (name ∷ [])) (subst (λ (f : PathValue). Holds (wal_folder root) (below f (name ∷ []))) (sym is) (holds-below (wal_folder root) (name ∷ [])))))
+
+pub from-start : (custom : Option Extension) (root : PathValue) (v : Checked) (s : Start) (c : Contents) → v.cursor.log.folder ≡ wal_folder root → WasStart custom root v s c → FromStart custom v s c root
+from-start custom root v s c folder was =
+    let g = is_given custom was.before root s was.passed in
+    let pages : pages_of v.cursor.log was.before ≡ pages_of v.cursor.log c = same_log v.cursor.log was.before c (log_held root v.cursor.log was.before c folder was.log) in
+    let records : records_in v was.before ≡ records_in v c = ap (λ (p : Pages). (log_of p (bytes_of v.cursor.log.size) v.label.start.0).records) pages in
+    let same : s ≡ start_in v c = made_of v was.before s g.records was.is ∙ ap (λ l. record (start_in v was.before) { records = l }) records in
+    record {
+      log = record {
+        knows = subst (λ (p : Pages). IfSome v.cursor.held (λ at. p at ≡ Ok v.cursor.page)) pages was.knows;
+        taken = ap (λ (x : Start). first_outside custom x.records) (sym same) ∙ g.taken;
+        end = was.is.end ∙ ap (λ (x : Start). end_after x.label.start.0 x.records) same;
+      };
+      stand = record { control = was.control; label = was.label };
+      start = sym same;
+    }

@@ -1,37 +1,31 @@
 -- What a stop may leave of the parts of a replay.
-use Rattle.std.proofs.Common.{Option, ◌≡◌, ◌≢◌, ◌∙◌, ◌||◌, ℕ, IsTrue, Bool, true, false, cond, List, [], ◌∷◌, ◌++◌, length, None, Some, is_some, option_map, Result, Ok, Err, OnOk, inl, inr, ⊎_elim, refl, sym, ap, subst, true≢false, append_assoc, append-nil}
+use Rattle.std.proofs.Common.{Option, ◌≡◌, ◌≢◌, ◌∙◌, ℕ, Bool, true, false, cond, List, [], ◌∷◌, ◌++◌, length, None, Some, is_some, option_map, Result, Ok, Err, OnOk, inl, inr, ⊎_elim, refl, sym, ap, subst, true≢false, append_assoc, append-nil}
 use Rattle.std.specs.FinMap.{remove}
-use Rattle.std.specs.List.{list_any}
 use Rattle.block_replay.specs.World.{least_name}
 use Rattle.cluster_tree.specs.Causes.{given, unless}
-use Rattle.cluster_tree.specs.Change.{Change, Removes, Writes, all_changed, first_refusal, is_on}
+use Rattle.cluster_tree.specs.Change.{all_changed, first_refusal}
 use Rattle.cluster_tree.specs.Contents.{Contents}
 use Rattle.cluster_tree.specs.Frame.{Came, Reads, moment_of}
 use Rattle.cluster_tree.specs.Laws.{changed_path}
 use Rattle.cluster_tree.specs.Marks.{is_there, marks_of}
-use Rattle.cluster_tree.specs.PathOrder.{path_eq}
 use Rattle.cluster_tree.specs.PathValue.{PathValue}
 use Rattle.cluster_tree.specs.Run.{Moment, Course}
-use Rattle.cluster_tree.specs.Stops.{Stops, LeavesOnly}
+use Rattle.cluster_tree.specs.Stops.{Stops, LeavesOnly, MayBeLeft}
 use Rattle.cluster_tree.specs.declared.tree.ChangeCall.{ChangeCall}
 use Rattle.cluster_tree.specs.declared.tree.Tree.{Ghosts}
 use Rattle.cluster_tree.proofs.Images.{Each, HoldsSince, KeptBy, holds_first, holds_run, leaves_only}
-use Rattle.cluster_tree.proofs.OrderLemmas.{path_eq-other}
 use Rattle.cluster_tree.proofs.RunLemmas.{course_of}
 use Rattle.cluster_tree.proofs.StepLemmas.{step-elsewhere}
 use Rattle.clusters.specs.Marks.{unfinished, with_mark}
 use Rattle.clusters.specs.RootControl.{control_at}
 use Rattle.clusters.specs.declared.fault.ClusterFault.TheVariants as cluster
 use Rattle.control_file.specs.Reading.{timeline_of}
-use Rattle.control_file.specs.Writing.{control_bytes}
 use Rattle.control_file.specs.declared.control.Control.{Control}
 use Rattle.file_edits.specs.Own.{GoesOn, Same, More, OnOwn, is_on as is_on_own, is_own}
 use Rattle.file_effects.specs.Own.{is_replayed}
 use Rattle.marked_runs.specs.Moments.{IsBegun, IsEnded, IsMarked, IsUntouched, StandsMarked, StandsSynced}
-use Rattle.marked_runs.specs.Performed.{Performs}
-use Rattle.marked_runs.specs.Runs.{Runs, begun, ended, is_done}
+use Rattle.marked_runs.specs.Runs.{Runs, begun}
 use Rattle.marked_runs.specs.declared.faults.PerformFault.{PerformFault}
-use Rattle.marked_runs.proofs.CarriedLemmas.{both_unrefused}
 use Rattle.marked_runs.proofs.StopLemmas.{body-left, body-stands, leaves_on, leaves_weaker}
 use Rattle.replay_control.specs.Following.{control_left}
 use Rattle.replay_start.specs.Checked.{Start, from_control, start_of}
@@ -41,39 +35,39 @@ use Rattle.replay_start.specs.declared.fault.ReplayFault.TheVariants as fault
 use Rattle.replay_world.specs.Records.{records_after}
 use Rattle.replay_world.specs.World.{World}
 use Rattle.replay_core.specs.Faults.{recorded}
-use Rattle.replay_core.specs.Replayed.{After, after_replay, beginning, closed, closed_or, closing, control_path, end_of, first_world, label_path, mark_of, mark_text, replayed_into}
-use Rattle.replay_core.specs.Stages.{ArePaths, Stand}
+use Rattle.replay_core.specs.Replayed.{After, after_replay, beginning, closed, closed_or, closing, closing_files, end_of, first_world, mark_of, mark_text, replayed_into}
 use Rattle.replay_core.specs.Stops.{IsDurable, IsLeft, IsMarkedOrDone, MarkIsRefused, first_standing}
-use Rattle.replay_core.specs.declared.paths.Paths.{Paths}
-use Rattle.replay_core.proofs.PathLemmas.{control-mark, label-mark, mark-kept}
-use Rattle.replay_core.proofs.StandLemmas.{closing-unrefused}
+use Rattle.replay_core.proofs.EndLemmas.{files-off}
+use Rattle.replay_core.proofs.PathLemmas.{mark-kept}
 use Rattle.rmgr_hooks.specs.Custom.{Extension}
 
 -- ---- calls at other paths than a mark's
 
-own-apart : (own : PathValue → Bool) (mark : PathValue) (call : ChangeCall) → own mark ≡ false → is_own own call ≡ true → changed_path call ≢ Some mark
-own-apart own mark call off is = λ same. true≢false (sym is ∙ ap (is_on_own own) same ∙ off)
-
-own-keeps : (own : PathValue → Bool) (mark : PathValue) (call : ChangeCall) → own mark ≡ false → is_own own call ≡ true → KeptBy (IsMarked mark) call
-own-keeps own mark call off is c d marked step = ap is_some (step-elsewhere call c d mark step (own-apart own mark call off is)) ∙ marked
+pub own-apart : (own : PathValue → Bool) (path : PathValue) (call : ChangeCall) → own path ≡ false → is_own own call ≡ true → changed_path call ≢ Some path
+own-apart own path call off is = λ same. true≢false (sym is ∙ ap (is_on_own own) same ∙ off)
 
 each-last : {A : Type 0} (P : A → Type 0) (xs : List A) (x : A) → Each P xs → P x → Each P (xs ++ x ∷ [])
 each-last P [] x all last = (last, tt)
 each-last P (y ∷ xs) x all last = (all.0, each-last P xs x all.1 last)
 
-goes-kept : (own : PathValue → Bool) (mark : PathValue) (old new : List ChangeCall) → own mark ≡ false → GoesOn own old new → (xs : List ChangeCall) × (new ≡ old ++ xs) × Each (KeptBy (IsMarked mark)) xs
-goes-kept own mark old _ off Same = ([], sym (append-nil old), tt)
-goes-kept own mark old _ off (More {mid} call before is grew) =
-    let (xs, e, all) = goes-kept own mark old mid off before in
-    (xs ++ call ∷ [], grew ∙ ap (λ l. l ++ call ∷ []) e ∙ append_assoc old xs (call ∷ []), each-last (KeptBy (IsMarked mark)) xs call all (own-keeps own mark call off is))
+module _ (Q : Contents → Type 0) (own : PathValue → Bool) (keeps : (call : ChangeCall) → is_own own call ≡ true → KeptBy Q call) where
+  goes-kept : (old new : List ChangeCall) → GoesOn own old new → (xs : List ChangeCall) × (new ≡ old ++ xs) × Each (KeptBy Q) xs
+  goes-kept old _ Same = ([], sym (append-nil old), tt)
+  goes-kept old _ (More {mid} call before is grew) =
+      let (xs, e, all) = goes-kept old mid before in
+      (xs ++ call ∷ [], grew ∙ ap (λ l. l ++ call ∷ []) e ∙ append_assoc old xs (call ∷ []), each-last (KeptBy Q) xs call all (keeps call is))
 
-still-holds : (mark : PathValue) (a : Moment) → StandsMarked mark a → HoldsSince (IsMarked mark) (IsMarked mark) a a
-still-holds mark a stands = holds_first (IsMarked mark) (IsMarked mark) a stands.now stands.left
+  -- what own calls keep holds behind them, and of all that a stop at any moment of them leaves
+  pub own_holds : (a b : Moment) → Q a.state.contents → ((c : Contents) → MayBeLeft a.stops c → Q c) → Course a b → GoesOn own a.state.calls b.state.calls → HoldsSince Q Q a b
+  own_holds a b now left course goes =
+      let (xs, grew, kept) = goes-kept a.state.calls b.state.calls goes in
+      holds_run Q Q a a b xs (holds_first Q Q a now left) (λ c q. q) course grew kept
+
+own-keeps : (own : PathValue → Bool) (mark : PathValue) → own mark ≡ false → (call : ChangeCall) → is_own own call ≡ true → KeptBy (IsMarked mark) call
+own-keeps own mark off call is c d marked step = ap is_some (step-elsewhere call c d mark step (own-apart own mark call off is)) ∙ marked
 
 own-holds : (own : PathValue → Bool) (mark : PathValue) (a b : Moment) → own mark ≡ false → StandsMarked mark a → Course a b → GoesOn own a.state.calls b.state.calls → HoldsSince (IsMarked mark) (IsMarked mark) a b
-own-holds own mark a b off stands course goes =
-    let (xs, grew, kept) = goes-kept own mark a.state.calls b.state.calls off goes in
-    holds_run (IsMarked mark) (IsMarked mark) a a b xs (still-holds mark a stands) (λ c q. q) course grew kept
+own-holds own mark a b off stands = own_holds (IsMarked mark) own (own-keeps own mark off) a b stands.now stands.left
 
 -- a mark that stands in all that a stop may leave does so behind them, and a stop at any moment of them leaves it
 pub own-stands : (own : PathValue → Bool) (mark : PathValue) (a b : Moment) → own mark ≡ false → StandsMarked mark a → Course a b → GoesOn own a.state.calls b.state.calls → StandsMarked mark b
@@ -90,66 +84,34 @@ untouched-still a = leaves_only (IsUntouched a) (IsUntouched a) a a (holds_first
 pub nothing-left : (root : PathValue) (a : Moment) (meant : Result After ReplayFault) → LeavesOnly (IsLeft root a meant) a.stops a.stops
 nothing-left root a meant = leaves_weaker (IsUntouched a) (IsLeft root a meant) a.stops a.stops (λ c u. inl u) (untouched-still a)
 
-pub still-left : (root : PathValue) (a : Moment) (meant : Result After ReplayFault) → StandsMarked (mark_of root) a → LeavesOnly (IsMarkedOrDone root meant) a.stops a.stops
-still-left root a meant stands =
-    leaves_weaker (IsMarked (mark_of root)) (IsMarkedOrDone root meant) a.stops a.stops (λ c m. inl m) (leaves_only (IsMarked (mark_of root)) (IsMarked (mark_of root)) a a (still-holds (mark_of root) a stands) (λ c q. q))
-
 -- ---- the changes at the end
 
--- the control file and the label
-abbrev files_put : PathValue → Control → List Change
-files_put root k = Writes (control_path root) 0 (control_bytes k) ∷ Removes (label_path root) ∷ []
-
-files-off : (root : PathValue) (k : Control) → list_any (is_on (mark_of root)) (files_put root k) ≡ false
-files-off root k =
-    ap (λ b. b || (path_eq (mark_of root) (label_path root) || false)) (path_eq-other (mark_of root) (control_path root) (λ e. control-mark root (sym e)))
-    ∙ ap (λ b. b || false) (path_eq-other (mark_of root) (label_path root) (λ e. label-mark root (sym e)))
-
-files-same : (root : PathValue) (paths : Paths) (k : Control) → ArePaths root paths → (Writes paths.control 0 (control_bytes k) ∷ Removes paths.label ∷ []) ≡ files_put root k
-files-same root paths k are =
-    ap (λ p. Writes p 0 (control_bytes k) ∷ Removes paths.label ∷ []) are.control ∙ ap (λ p. Writes (control_path root) 0 (control_bytes k) ∷ Removes p ∷ []) are.label
-
-durable : (synced : Contents) (moment : Moment) (r : Result (Unit {0}) PerformFault) → OnOk r (StandsSynced synced moment) → OnOk r (IsDurable moment)
+-- where all is done, a stop leaves what stands
+pub durable : (synced : Contents) (moment : Moment) (r : Result (Unit {0}) PerformFault) → OnOk r (StandsSynced synced moment) → OnOk r (IsDurable moment)
 durable synced moment (Ok u) stands = record { now = refl; left = λ c image. stands.left c image ∙ sym stands.now }
 durable synced moment (Err e) stands = tt
 
-module _ {F : Type 0} (tree : Ghosts F) (told : IsTrue tree.tells) (root : PathValue) (paths : Paths) (are : ArePaths root paths) (k : Control) (a b : F) (stand : Stand (tree.contents a) root) where
-  put-ran : (r : Result (Unit {0}) PerformFault) → Performs tree (Writes paths.control 0 (control_bytes k) ∷ Removes paths.label ∷ []) a b r → Runs (files_put root k) (tree.calls a) (tree.calls b) (tree.contents a) (tree.contents b) (is_done r)
-  put-ran r performs =
-      (subst (λ l. Performs tree l a b r) (files-same root paths k are) performs told (both_unrefused (tree.contents a) (files_put root k) (ended (mark_of root)) (closing-unrefused (tree.contents a) root k stand)).0).runs
+module _ {F : Type 0} (tree : Ghosts F) (root : PathValue) (k : Control) (a b : F) (came : Came tree a b) (marked : StandsMarked (mark_of root) (moment_of tree a)) (done : Bool) (ran : Runs (closing_files root k) (tree.calls a) (tree.calls b) (tree.contents a) (tree.contents b) done) where
+  files-left : LeavesOnly (IsMarked (mark_of root)) (tree.stops a) (tree.stops b)
+  files-left = body-left (mark_of root) (closing_files root k) (moment_of tree a) (moment_of tree b) done marked (course_of tree a b came) ran (files-off root k)
 
-  -- and where all is done, a stop leaves what stands
-  pub close-durable : (d : F) (u : Unit {0}) (r : Result (Unit {0}) PerformFault) → Performs tree (Writes paths.control 0 (control_bytes k) ∷ Removes paths.label ∷ []) a b (Ok u)
-      → (first_refusal (tree.contents b) (ended paths.mark) ≡ None → OnOk r (StandsSynced (remove (tree.contents b) paths.mark) (moment_of tree d))) → OnOk r (IsDurable (moment_of tree d))
-  close-durable d u r performs synced =
-      let after = (put-ran (Ok u) performs).after refl in
-      let none = (both_unrefused (tree.contents a) (files_put root k) (ended (mark_of root)) (closing-unrefused (tree.contents a) root k stand)).1 in
-      durable (remove (tree.contents b) paths.mark) (moment_of tree d) r (synced (ap (λ m. first_refusal (tree.contents b) (ended m)) are.mark ∙ ap (λ c. first_refusal c (ended (mark_of root))) after ∙ none))
+  -- the mark is there
+  pub files-marked : (meant : Result After ReplayFault) → LeavesOnly (IsMarkedOrDone root meant) (tree.stops a) (tree.stops b)
+  files-marked meant = leaves_weaker (IsMarked (mark_of root)) (IsMarkedOrDone root meant) (tree.stops a) (tree.stops b) (λ c m. inl m) files-left
 
-module _ {F : Type 0} (tree : Ghosts F) (told : IsTrue tree.tells) (root : PathValue) (paths : Paths) (are : ArePaths root paths) (k : Control) (a b : F) (stand : Stand (tree.contents a) root) (came : Came tree a b) (marked : StandsMarked (mark_of root) (moment_of tree a)) where
-  -- all is done, or the mark is there
-  abbrev Ends : Contents → Type 0
-  Ends = IsEnded (mark_of root) (all_changed (tree.contents a) (closing root k))
-
-  put-left : (r : Result (Unit {0}) PerformFault) → Performs tree (Writes paths.control 0 (control_bytes k) ∷ Removes paths.label ∷ []) a b r → LeavesOnly Ends (tree.stops a) (tree.stops b)
-  put-left r performs =
-      leaves_weaker (IsMarked (mark_of root)) Ends (tree.stops a) (tree.stops b) (λ c m. inl m)
-      (body-left (mark_of root) (files_put root k) (moment_of tree a) (moment_of tree b) (is_done r) marked (course_of tree a b came) (put-ran tree told root paths are k a b stand r performs) (files-off root k))
-
-  pub close-broken : (e : PerformFault) → Performs tree (Writes paths.control 0 (control_bytes k) ∷ Removes paths.label ∷ []) a b (Err e) → LeavesOnly (IsEnded (mark_of root) (all_changed (tree.contents a) (closing root k))) (tree.stops a) (tree.stops b)
-  close-broken e performs = put-left (Err e) performs
-
-  pub close-left : (d : F) (u : Unit {0}) → Performs tree (Writes paths.control 0 (control_bytes k) ∷ Removes paths.label ∷ []) a b (Ok u) → Came tree b d
-      → (StandsMarked paths.mark (moment_of tree b) → LeavesOnly (IsEnded paths.mark (remove (tree.contents b) paths.mark)) (tree.stops b) (tree.stops d))
+  -- or all is done
+  pub close-left : (mark : PathValue) (d : F) → mark ≡ mark_of root → done ≡ true → Came tree b d
+      → (StandsMarked mark (moment_of tree b) → LeavesOnly (IsEnded mark (remove (tree.contents b) mark)) (tree.stops b) (tree.stops d))
       → LeavesOnly (IsEnded (mark_of root) (all_changed (tree.contents a) (closing root k))) (tree.stops a) (tree.stops d)
-  close-left d u performs other left =
-      let mark = mark_of root in
-      let ran = put-ran tree told root paths are k a b stand (Ok u) performs in
-      let stands = body-stands mark (files_put root k) (moment_of tree a) (moment_of tree b) true marked (course_of tree a b came) ran (files-off root k) in
-      let last : LeavesOnly (IsEnded mark (remove (tree.contents b) mark)) (tree.stops b) (tree.stops d)
-      = subst (λ m. StandsMarked m (moment_of tree b) → LeavesOnly (IsEnded m (remove (tree.contents b) m)) (tree.stops b) (tree.stops d)) are.mark left stands in
-      leaves_on Ends (moment_of tree a) (moment_of tree b) (moment_of tree d) (course_of tree a b came) (course_of tree b d other) (put-left (Ok u) performs)
-      (subst (λ c. LeavesOnly (IsEnded mark c) (tree.stops b) (tree.stops d)) (ap (λ c. remove c mark) (ran.after refl)) last)
+  close-left mark d is all other left =
+      let own = mark_of root in
+      let Ends : Contents → Type 0 = IsEnded own (all_changed (tree.contents a) (closing root k)) in
+      let stands = body-stands own (closing_files root k) (moment_of tree a) (moment_of tree b) done marked (course_of tree a b came) ran (files-off root k) in
+      let last : LeavesOnly (IsEnded own (remove (tree.contents b) own)) (tree.stops b) (tree.stops d)
+      = subst (λ m. StandsMarked m (moment_of tree b) → LeavesOnly (IsEnded m (remove (tree.contents b) m)) (tree.stops b) (tree.stops d)) is left stands in
+      leaves_on Ends (moment_of tree a) (moment_of tree b) (moment_of tree d) (course_of tree a b came) (course_of tree b d other)
+      (leaves_weaker (IsMarked own) Ends (tree.stops a) (tree.stops b) (λ c m. inl m) files-left)
+      (subst (λ c. LeavesOnly (IsEnded own c) (tree.stops b) (tree.stops d)) (ap (λ c. remove c own) (ran.after all)) last)
 
 -- ---- what is meant
 

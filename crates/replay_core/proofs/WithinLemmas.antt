@@ -1,5 +1,5 @@
 -- A replay stays within its root, however far it went.
-use Rattle.std.proofs.Common.{◌≡◌, ◌∙◌, ℕ, ◌+◌, ◌==◌, Bool, true, false, ◌&&◌, ◌||◌, ◌⊎◌, inl, inr, bytes_eq, cond, List, [], ◌∷◌, ◌++◌, map, codes, None, Some, Result, Ok, Err, IfErr, refl, sym, ap, subst, true≢false, append_assoc, append-nil}
+use Rattle.std.proofs.Common.{◌≡◌, ◌∙◌, ℕ, ◌+◌, ◌==◌, Bool, true, false, ◌&&◌, ◌||◌, inl, inr, bytes_eq, cond, List, [], ◌∷◌, ◌++◌, map, codes, None, Some, Result, Ok, Err, IfErr, refl, sym, ap, subst, true≢false, append_assoc, append-nil}
 use Rattle.std.specs.List.{list_any}
 use Rattle.acts.specs.Acts.{AreBelow, IsBelow}
 use Rattle.cluster_tree.specs.Change.{Change, Writes, Cuts, MakesFile, MakesFolder, Removes, Syncs, call_of, is_on}
@@ -21,7 +21,6 @@ use Rattle.file_effects.proofs.ApartLemmas.{differ, log-not-replayed, one-top}
 use Rattle.file_edits.proofs.ClearLemmas.{held-own}
 use Rattle.clusters.specs.Roots.{wal_folder}
 use Rattle.replay_start.specs.declared.fault.ReplayFault.{ReplayFault}
-use Rattle.replay_core.specs.Faults.{IsFree}
 use Rattle.replay_core.specs.Replayed.{beginning, closing, control_path, label_path, mark_of}
 use Rattle.replay_core.specs.Went.{Begins, Closing, Marked, Ran, RanRecords, Replaying, Unchanged, Went, WentOn}
 use Rattle.replay_core.specs.Within.{IsMarked, LeavesMark, LogStays, StaysWithin}
@@ -205,19 +204,21 @@ went-within root old new done (Marked marked begun on) =
 
 -- ---- the log stays
 
--- a path of the log is none at another entry of the root
-beside-log : (root path other : PathValue) (name : List ℕ) → bytes_eq (codes "pg_wal") name ≡ false → Holds (wal_folder root) path → is_at root name other ≡ true → path_eq path other ≡ false
-beside-log root path other name differs holds at =
+-- a path at one entry of the root is none at another
+pub beside-entry : (root path other : PathValue) (own name : List ℕ) → bytes_eq own name ≡ false → is_at root own path ≡ true → is_at root name other ≡ true → path_eq path other ≡ false
+beside-entry root path other own name differs here at =
     elim (path_eq path other) as (λ (b : Bool). path_eq path other ≡ b → b ≡ false) [
-      | true ↦ λ is. absurd (differ (codes "pg_wal") name differs
-          (one-top root other (codes "pg_wal") name (subst (λ p. is_at root (codes "pg_wal") p ≡ true) (path_eq-same path other is) (holds-held (wal_folder root) path holds)) at))
+      | true ↦ λ is. absurd (differ own name differs (one-top root other own name (subst (λ p. is_at root own p ≡ true) (path_eq-same path other is) here) at))
       | false ↦ λ is. refl
     ] refl
 
-entry-at : (root : PathValue) (name : List ℕ) → is_at root name (below root (name ∷ [])) ≡ true
+beside-log : (root path other : PathValue) (name : List ℕ) → bytes_eq (codes "pg_wal") name ≡ false → Holds (wal_folder root) path → is_at root name other ≡ true → path_eq path other ≡ false
+beside-log root path other name differs holds = beside-entry root path other (codes "pg_wal") name differs (holds-held (wal_folder root) path holds)
+
+pub entry-at : (root : PathValue) (name : List ℕ) → is_at root name (below root (name ∷ [])) ≡ true
 entry-at root name = held-own (below root (name ∷ []))
 
-control-at : (root : PathValue) → is_at root (codes "global") (control_path root) ≡ true
+pub control-at : (root : PathValue) → is_at root (codes "global") (control_path root) ≡ true
 control-at root =
     holds-held (below root (codes "global" ∷ [])) (control_path root)
     (subst (Holds (below root (codes "global" ∷ []))) (ap (λ (l : List (List ℕ)). record root { parts = l }) (append_assoc root.parts (codes "global" ∷ []) (codes "pg_control" ∷ [])) ∙ sym (control_path-is root))
@@ -256,8 +257,3 @@ went-log root old new done went path holds = log-by root path holds old new done
 pub mark-on : {A : Type 0} (root : PathValue) (c : Contents) (r : Result A ReplayFault) → IsMarked root c → IfErr r (LeavesMark root c)
 mark-on root c (Ok v) mark = tt
 mark-on root c (Err e) mark = inr mark
-
-pub mark-left : {A : Type 0} (root : PathValue) (old new : Contents) (r : Result A ReplayFault) → IsMarked root old → IfErr r (λ e. IsFree e ⊎ (new ≡ old)) → IfErr r (LeavesMark root new)
-mark-left root old new (Ok v) mark left = tt
-mark-left root old new (Err e) mark (inl free) = inl free
-mark-left root old new (Err e) mark (inr same) = inr (subst (IsMarked root) (sym same) mark)

@@ -4,5 +4,6 @@ pub mod Steps
 pub mod Stages
 pub mod Went
 pub mod Within
+pub mod Under
 pub mod Stops
 pub mod Sparing

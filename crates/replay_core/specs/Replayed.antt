@@ -1,6 +1,6 @@
 -- What a replay leaves: PostgreSQL 16, src/backend/access/transam/xlogrecovery.c, PerformWalRecovery; xlogutils.c, XLogCheckInvalidPages.
 -- Own: "A replay, in order".
-use Rattle.std.specs.Prelude.{ℕ, List, [], ◌∷◌, length, codes, Option, option_map, Result, Ok}
+use Rattle.std.specs.Prelude.{ℕ, List, [], ◌∷◌, ◌++◌, length, codes, Option, option_map, Result, Ok}
 use Rattle.block_refs.specs.declared.names.BlockName.{BlockName}
 use Rattle.cluster_tree.specs.Causes.{given, unless}
 use Rattle.cluster_tree.specs.Change.{Change, Removes, Writes, all_changed}
@@ -40,9 +40,13 @@ control_path root = path_in root (codes "global/pg_control")
 abbrev pub label_path : PathValue → PathValue
 label_path root = below root (codes "backup_label" ∷ [])
 
--- and behind the last one: the control file is written, the label removed, and then the mark
+-- and behind the last one: the control file is written, and the label removed
+abbrev pub closing_files : PathValue → Control → List Change
+closing_files root control = Writes (control_path root) 0 (control_bytes control) ∷ Removes (label_path root) ∷ []
+
+-- .. and then the mark
 abbrev pub closing : PathValue → Control → List Change
-closing root control = Writes (control_path root) 0 (control_bytes control) ∷ Removes (label_path root) ∷ ended (mark_of root)
+closing root control = closing_files root control ++ ended (mark_of root)
 
 -- what is left, and what is told of it
 pub record After : Type 0 where

@@ -22,11 +22,15 @@ pub record ArePaths (root : PathValue) (paths : Paths) : Type 0 where
   pub label : paths.label ≡ label_path root
   pub log : paths.log ≡ wal_folder root
 
--- the files that are changed at the end stand there
-pub record Stand (c : Contents) (root : PathValue) : Type 0 where
-  pub mark : is_file (entry_at c (mark_of root)) ≡ true
+-- the files that are changed behind the last record stand there
+pub record EndsStand (c : Contents) (root : PathValue) : Type 0 where
   pub control : is_file (entry_at c (control_path root)) ≡ true
   pub label : is_file (entry_at c (label_path root)) ≡ true
+
+-- and the mark too
+pub record Stand (c : Contents) (root : PathValue) : Type 0 where
+  pub mark : is_file (entry_at c (mark_of root)) ≡ true
+  pub ends : EndsStand c root
 
 -- the records of a log that was checked, from its label's start on
 abbrev pub records_in : Checked → Contents → List LogRecord

@@ -1,25 +1,35 @@
 // The mark, and what is changed behind the last record. None takes memory.
-ghost use Rattle.std.specs.Prelude.{◌≡◌, ◌≢◌, [], ◌∷◌, Err, IsErrOf, IsTrue, None, OnOk};
+ghost use Rattle.std.specs.Prelude.{◌≡◌, ◌≢◌, [], ◌∷◌, Err, IsErrOf, IsTrue, None, OnOk, is_ok};
 ghost use Rattle.std.specs.FinMap.{remove};
 ghost use Rattle.cluster_tree.specs.Causes.{Rose};
-ghost use Rattle.cluster_tree.specs.Change.{Removes, Writes, all_changed, first_refusal};
+ghost use Rattle.cluster_tree.specs.Change.{Removes, Writes, first_refusal};
 ghost use Rattle.cluster_tree.specs.Frame.{Came, moment_of};
 ghost use Rattle.cluster_tree.specs.PathValue.{PathValue};
+ghost use Rattle.cluster_tree.specs.Run.{state_by};
 ghost use Rattle.cluster_tree.specs.Stops.{LeavesOnly};
+ghost use Rattle.clusters.specs.declared.fault.ClusterFault.TheVariants as cluster;
 ghost use Rattle.control_file.specs.Admission.{IsControl};
 ghost use Rattle.control_file.specs.Writing.{control_bytes};
 ghost use Rattle.marked_runs.specs.Carried.{Carries};
 ghost use Rattle.marked_runs.specs.Moments.{IsBegun, IsEnded, StandsMarked, StandsSynced};
 ghost use Rattle.marked_runs.specs.Performed.{Performs};
 ghost use Rattle.marked_runs.specs.Runs.{begun, ended};
-ghost use Rattle.replay_core.specs.Replayed.{closing, mark_of, mark_text};
-ghost use Rattle.replay_core.specs.Stages.{ArePaths, Stand};
-ghost use Rattle.replay_core.specs.Stops.{IsDurable};
+ghost use Rattle.replay_control.specs.Following.{control_left};
+ghost use Rattle.replay_core.specs.Replayed.{closing_files, control_path, label_path, mark_text};
+ghost use Rattle.replay_core.specs.Stages.{EndsStand};
+ghost use Rattle.replay_core.specs.Under.{left_under_or};
+ghost use Rattle.replay_core.specs.Went.{Answers, Ran};
+ghost use Rattle.replay_world.specs.World.{world_of};
 
-use crate::paths::Paths;
+use crate::faults::of_perform;
+use crate::outcome::Replayed;
+use crate::running::Count;
 use cluster_tree::{Path, Tree};
 use control_file::{Control, write_control};
 use marked_runs::{PerformFault, StepFault, about, begin, finish, overwrite, remove_entry};
+use replay_control::control_left;
+use replay_start::ReplayFault;
+use replay_world::Replaying;
 
 /// Makes the mark, and makes it durable. A stop leaves what one could have left before, or the mark.
 pub(crate) fn begin_mark<F: Tree>(tree: &mut F, mark: &Path) -> Result<(), StepFault>
@@ -100,8 +110,8 @@ fn put_files<F: Tree>(
     }
 }
 
-// Makes all durable, and ends the mark.
-fn unmark<F: Tree>(tree: &mut F, mark: Path) -> Result<(), PerformFault>
+/// Makes all durable, and ends the mark.
+pub(crate) fn unmark<F: Tree>(tree: &mut F, mark: Path) -> Result<(), PerformFault>
     ensures performs { Performs F.Tree (ended mark) tree.old tree.new result }
     ensures stops { IsTrue F.tells → StandsMarked mark (moment_of F.Tree tree.old) → LeavesOnly
         (IsEnded mark (remove (F.contents tree.old) mark)) (F.stops tree.old) (F.stops tree.new) }
@@ -118,29 +128,38 @@ fn unmark<F: Tree>(tree: &mut F, mark: Path) -> Result<(), PerformFault>
     }
 }
 
-/// Writes the control file, removes the label, and ends the mark. Where the mark stands in all that a stop
-/// may leave, it leaves the mark, or all that was to be.
-pub(crate) fn close<F: Tree>(
+/// Does what is left to do behind the last record, but for the mark: no block may be missing, and then
+/// the control file is written and the label removed.
+pub(crate) fn settle<F: Tree>(
     tree: &mut F,
-    paths: Paths,
-    control: &Control,
-) -> Result<(), PerformFault>
-    requires { IsControl control.now }
-    ensures performs { Performs F.Tree (Writes paths.control 0 (control_bytes control.now)
-        ∷ Removes paths.label ∷ ended paths.mark) tree.old tree.new result }
-    ensures stops { IsTrue F.tells → (root : PathValue) → ArePaths root paths →
-        Stand (F.contents tree.old) root → StandsMarked (mark_of root) (moment_of F.Tree tree.old) →
-        LeavesOnly (IsEnded (mark_of root) (all_changed (F.contents tree.old) (closing root control.now)))
-        (F.stops tree.old) (F.stops tree.new) }
-    ensures synced { IsTrue F.tells → (root : PathValue) → ArePaths root paths →
-        Stand (F.contents tree.old) root → OnOk result (IsDurable (moment_of F.Tree tree.new)) }
+    path: Path,
+    label: Path,
+    world: &Replaying,
+    tli: u32,
+    count: Count,
+) -> Result<Replayed, ReplayFault>
+    requires control { IsControl world.now.control }
+    requires path { path ≡ control_path world.now.files.root }
+    requires label { label ≡ label_path world.now.files.root }
+    requires stand { IsTrue F.tells → EndsStand (F.contents tree.old) world.now.files.root }
+    ensures exact { IsTrue F.tells → Answers (left_under_or world.now.files.root tli count.records
+        count.end.0 (world_of (F.contents tree.old) world.now)) (F.contents tree.new) result }
+    ensures ran { IsTrue F.tells → Ran (closing_files world.now.files.root
+        (control_left tli count.end.0 world.now.control)) (state_by F.contents F.calls tree.old)
+        (state_by F.contents F.calls tree.new) (is_ok result) }
     ensures frame { Came F.Tree tree.old tree.new }
-    ensures read_fault { result ≢ Err PerformFault.ReadFault }
-    ensures write_fault { IsErrOf result PerformFault.WriteFault →
+    ensures read_fault { result ≢ Err (ReplayFault.Cluster cluster.ReadFault) }
+    ensures write_fault { IsErrOf result ReplayFault.WriteFault →
         Rose (F.failed_changes tree.old) (F.failed_changes tree.new) }
+    ensures changed { IsTrue F.tells → (p : PathValue) →
+        result ≢ Err (ReplayFault.Cluster (cluster.Changed p)) }
 {
-    match put_files(tree, paths.control, paths.label, control) {
-        Ok(()) => unmark(tree, paths.mark),
-        Err(fault) => Err(fault),
+    if let Some(name) = world.skipped.least() {
+        return Err(ReplayFault::MissingPage(name));
+    }
+    let Count { records, end } = count;
+    match put_files(tree, path, label, &control_left(tli, end, &world.control)) {
+        Ok(()) => Ok(Replayed { records, end, tli }),
+        Err(fault) => Err(of_perform(fault)),
     }
 }

@@ -8,8 +8,8 @@ use marked_runs::PerformFault;
 use replay_start::ReplayFault;
 use replay_world::RecordFault;
 
-// A fault of the files.
-fn of_file(fault: FileFault) -> ReplayFault
+/// A fault of the files, as that of a replay: what stands in the way of an entry keeps its path.
+pub fn of_file(fault: FileFault) -> ReplayFault
     ensures { result ≡ of_file fault }
 {
     match fault {

@@ -1,14 +1,12 @@
 // The public call that replays.
-ghost use Rattle.std.specs.Prelude.{◌≡◌, ◌≢◌, ◌⊎◌, ◌≤◌, ◌<◌, ◌^◌, [], true, length, Err, Ok, IfErr, IfOk, IsErrOf, IsTrue, OnOk, is_ok};
+ghost use Rattle.std.specs.Prelude.{◌≡◌, ◌≢◌, ◌≤◌, true, length, Err, Ok, IfErr, IfOk, IsErrOf, IsTrue, OnOk, is_ok};
 ghost use Rattle.cluster_tree.specs.Causes.{Rose};
-ghost use Rattle.cluster_tree.specs.Contents.{Contents};
 ghost use Rattle.cluster_tree.specs.Frame.{Came, moment_of};
 ghost use Rattle.cluster_tree.specs.PathValue.{PathValue};
 ghost use Rattle.cluster_tree.specs.Run.{State, state_by};
 ghost use Rattle.cluster_tree.specs.Stops.{LeavesOnly};
 ghost use Rattle.clusters.specs.Roots.{wal_folder};
 ghost use Rattle.control_file.specs.Admission.{IsControl};
-ghost use Rattle.file_edits.specs.Own.{OnOwn};
 ghost use Rattle.file_edits.specs.Sparing.{Piece, Spares};
 ghost use Rattle.file_effects.specs.Own.{is_replayed};
 ghost use Rattle.file_effects.specs.Touched.{SparesBlocks};
@@ -16,103 +14,30 @@ ghost use Rattle.replay_world.specs.Touched.{touched_by};
 ghost use Rattle.replay_core.specs.Sparing.{LeavesUntouched};
 ghost use Rattle.marked_runs.specs.Moments.{StandsMarked};
 ghost use Rattle.storage_replay.specs.Files.{AreFit};
-ghost use Rattle.wal_base.specs.Segment.{bytes_of};
-ghost use Rattle.wal_records.specs.Cursor.{Knows, going_on_at, to_come};
-ghost use Rattle.wal_records.specs.Further.{pages_of};
-ghost use Rattle.wal_records.specs.Log.{log_of};
-ghost use Rattle.wal_records.specs.Place.{place_at};
 ghost use Rattle.replay_start.specs.Checked.{Start, start_of};
 ghost use Rattle.replay_start.specs.declared.fault.ReplayFault.{ReplayFault};
 ghost use Rattle.replay_world.specs.World.{world_of};
-ghost use Rattle.replay_core.specs.Faults.{IsFree};
 ghost use Rattle.replay_core.specs.Replayed.{after_replay, closed_or, first_world, mark_of, replayed_into};
 ghost use Rattle.replay_core.specs.Stages.{ArePaths, HasLog, IsChecked, Stand, records_in, start_in};
-ghost use Rattle.replay_core.specs.Steps.{IsReplayedLog};
 ghost use Rattle.replay_core.specs.Stops.{IsDurable, IsLeft, IsLeftByReplay, IsMarkedOrDone};
 ghost use Rattle.replay_core.specs.Within.{LeavesMark, LogStays, StaysWithin};
 ghost use Rattle.replay_core.specs.Went.{Answers, IsAfter, IsCause, RanRecords, Went, WentOn};
 ghost use Rattle.clusters.specs.declared.fault.ClusterFault.TheVariants as cluster;
 ghost use Rattle.rmgr_hooks.specs.Custom.{handed_in};
 
-use crate::closing::{begin_mark, close};
+use crate::closing::{begin_mark, settle, unmark};
 use crate::faults::of_perform;
 use crate::outcome::Replayed;
 use crate::paths::Paths;
-use crate::running::{Count, Room, replay_all};
-use block_refs::Parts;
+use crate::running::{Count, Room, make_room, replay_log, world_at};
 use cluster_tree::{Path, Tree};
-use clusters::ClusterFault;
-use control_file::Control;
 use marked_runs::about;
-use page_layout::Page;
-use replay_control::control_left;
 use replay_start::{Checked, ReplayFault, check};
-use replay_world::{Files, Replaying, Skipped};
+use replay_world::Replaying;
 use rmgr_hooks::Manager;
 use std::alloc::Global;
-use wal_base::Lsn;
-use wal_records::RecordCursor;
 
-// Puts a cursor before the first record from a position on.
-fn go_back(cursor: &mut RecordCursor, at: u64)
-    ensures value { cursor.new
-        ≡ going_on_at cursor.old (place_at (bytes_of cursor.old.log.size) at) }
-    ensures within { cursor.new.place < 2 ^ 64 }
-    ensures starts { (contents : Contents) → to_come cursor.new contents
-        ≡ log_of (pages_of cursor.old.log contents) (bytes_of cursor.old.log.size) at }
-    ensures knows { (contents : Contents) → Knows cursor.old contents → Knows cursor.new contents }
-{
-    cursor.go_to(Lsn(at));
-}
-
-// Replays the whole log under the mark, and tells what was replayed.
-fn replay_log<F: Tree, M: Manager>(
-    alloc: Global,
-    tree: &mut F,
-    log: &Path,
-    checked: &mut Checked,
-    world: &mut Replaying,
-    room: &mut Room,
-    custom: Option<&M>,
-) -> Result<Count, ReplayFault>
-    requires fit { AreFit world.old.files }
-    requires folder { checked.old.cursor.log.folder ≡ wal_folder world.old.files.root }
-    requires control { IsControl world.old.control }
-    requires log { IsTrue F.tells → HasLog (handed_in M.Manager custom) checked.old
-        (F.contents tree.old) }
-    ensures all { IsTrue F.tells → IsReplayedLog (handed_in M.Manager custom.entry)
-        world.old.files.root world.old.files.per_file
-        checked.old.label.start.0 (records_in checked.old (F.contents tree.old))
-        (world_of (F.contents tree.old) world.old) (world_of (F.contents tree.new) world.new) result }
-    ensures files { world.new.files ≡ world.old.files }
-    ensures control { IsControl world.new.control }
-    ensures frame { Came F.Tree tree.old tree.new }
-    ensures own { IsTrue F.tells →
-        OnOwn F.calls (is_replayed world.old.files.root) tree.old tree.new }
-    ensures spares { IsTrue F.tells → SparesBlocks F.Tree world.old.files.root
-        world.old.files.per_file (touched_by (handed_in M.Manager custom.entry)
-        (records_in checked.old (F.contents tree.old))) tree.old tree.new }
-    ensures read_fault { IsErrOf result (ReplayFault.Cluster cluster.ReadFault) →
-        Rose (F.failed_reads tree.old) (F.failed_reads tree.new) }
-    ensures write_fault { IsErrOf result ReplayFault.WriteFault →
-        Rose (F.failed_changes tree.old) (F.failed_changes tree.new) }
-    ensures changed { IsTrue F.tells → (p : PathValue) →
-        result ≢ Err (ReplayFault.Cluster (cluster.Changed p)) }
-{
-    let cursor = &mut checked.cursor;
-    go_back(cursor, checked.label.start.0);
-    let mut count = Count {
-        records: 0,
-        end: checked.label.start,
-    };
-    replay_all(alloc, tree, log, cursor, world, room, &mut count, custom)?;
-    if count.end.0 != checked.end.0 {
-        return Err(ReplayFault::Cluster(ClusterFault::Changed(log.copy(alloc)?)));
-    }
-    Ok(count)
-}
-
-// What is left to do behind the last record: nothing may be missing, and the changes at the end.
+// What is left to do behind the last record, and the end of the mark.
 fn finish<F: Tree>(
     tree: &mut F,
     paths: Paths,
@@ -128,8 +53,8 @@ fn finish<F: Tree>(
     ensures went { IsTrue F.tells → (marked : State) →
         RanRecords world.files.root marked (state_by F.contents F.calls tree.old) →
         WentOn world.files.root marked (state_by F.contents F.calls tree.new) (is_ok result) }
-    ensures stands { IsTrue F.tells → IfErr result
-        (λ e. IsFree e ⊎ (F.contents tree.new ≡ F.contents tree.old)) }
+    ensures stands { IsTrue F.tells →
+        IfErr result (LeavesMark world.files.root (F.contents tree.new)) }
     ensures stops { IsTrue F.tells →
         StandsMarked (mark_of world.files.root) (moment_of F.Tree tree.old) → LeavesOnly
         (IsMarkedOrDone world.files.root (closed_or world.files.root tli count.records count.end.0
@@ -144,18 +69,15 @@ fn finish<F: Tree>(
     ensures changed { IsTrue F.tells → (p : PathValue) →
         result ≢ Err (ReplayFault.Cluster (cluster.Changed p)) }
 {
-    if let Some(name) = world.skipped.least() {
-        return Err(ReplayFault::MissingPage(name));
-    }
-    let Count { records, end } = count;
-    match close(tree, paths, &control_left(tli, end, &world.control)) {
-        Ok(()) => Ok(Replayed { records, end, tli }),
+    let told = settle(tree, paths.control, paths.label, &world, tli, count)?;
+    match unmark(tree, paths.mark) {
+        Ok(()) => Ok(told),
         Err(fault) => Err(of_perform(fault)),
     }
 }
 
-// Carries out a replay whose mark stands.
-fn replay_marked<F: Tree, M: Manager>(
+// Carries out a replay whose mark was made.
+fn replay_begun<F: Tree, M: Manager>(
     alloc: Global,
     tree: &mut F,
     paths: Paths,
@@ -211,37 +133,6 @@ fn replay_marked<F: Tree, M: Manager>(
     finish(tree, paths, world, tli, count)
 }
 
-// What a replay keeps beside the files, before the first record.
-fn world_at(alloc: Global, root: &Path, control: Control) -> Result<Replaying, ReplayFault>
-    requires room { length root.now.parts ≤ 61 }
-    requires control { IsControl control }
-    ensures root { IfOk result (λ world. world.files.root ≡ root.now) }
-    ensures per_file { IfOk result (λ world. world.files.per_file ≡ control.relseg) }
-    ensures fit { IfOk result (λ world. AreFit world.files) }
-    ensures control { IfOk result (λ world. world.control ≡ control) }
-    ensures skipped { IfOk result (λ world. world.skipped ≡ []) }
-    ensures memory { IfErr result (λ e. e ≡ ReplayFault.Cluster cluster.OutOfMemory) }
-{
-    Ok(Replaying {
-        files: Files {
-            root: root.copy(alloc)?,
-            per_file: control.relseg,
-        },
-        control,
-        skipped: Skipped::new(alloc),
-    })
-}
-
-// Room for one record.
-fn room(alloc: Global) -> Result<Room, ReplayFault>
-    ensures memory { IfErr result (λ e. e ≡ ReplayFault.Cluster cluster.OutOfMemory) }
-{
-    Ok(Room {
-        parts: Parts::new(),
-        page: Page::zero(alloc)?,
-    })
-}
-
 // Carries out a replay that was checked: the memory that it needs of its own is taken before the mark.
 fn replay_checked<F: Tree, M: Manager>(
     alloc: Global,
@@ -283,9 +174,9 @@ fn replay_checked<F: Tree, M: Manager>(
 {
     let paths = Paths::of(alloc, root)?;
     let world = world_at(alloc, root, checked.control)?;
-    let room = room(alloc)?;
+    let room = make_room(alloc)?;
     match begin_mark(tree, &paths.mark) {
-        Ok(()) => replay_marked(alloc, tree, paths, checked, world, room, custom),
+        Ok(()) => replay_begun(alloc, tree, paths, checked, world, room, custom),
         Err(fault) => Err(of_perform(about(fault, paths.mark))),
     }
 }

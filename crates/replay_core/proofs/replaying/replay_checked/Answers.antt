@@ -42,16 +42,16 @@ returns-in_err-room-clause-went g c told =
     let now = state_by g.F.Tree.contents g.F.Tree.calls c.args.tree.now in
     went-nowhere c.args.root.now now now c.from_residual-in_err-room.result _ (err_from_is_err_and c.from_residual-in_err-room.result c.from_residual-in_err-room.ensures.1).1 refl refl
 
-pub replay_marked-requires-clause-log : goal.replay_marked-requires-clause-log
-replay_marked-requires-clause-log g c told =
+pub replay_begun-requires-clause-log : goal.replay_begun-requires-clause-log
+replay_begun-requires-clause-log g c told =
     let before = g.F.Tree.contents c.args.tree.now in
     let none = mark-unrefused _ before c.args.root.now c.args.checked (g.met.F.Tree.is_tree told c.args.tree.now) (c.requires.checked told) in
     let ran = begun-ran g.F.Tree c.args.root.now c.in_ok-paths.paths.mark _ _ _ c.in_ok-paths.ensures.paths.mark told none c.in-Ok.ensures.carries in
     let under = under-mark _ before (g.F.Tree.contents c.begin_mark.new.tree) c.args.root.now c.args.checked (c.requires.checked told) c.requires.folder (ran.runs.after refl) in
     under.log
 
-pub replay_marked-requires-clause-stand : goal.replay_marked-requires-clause-stand
-replay_marked-requires-clause-stand g c told =
+pub replay_begun-requires-clause-stand : goal.replay_begun-requires-clause-stand
+replay_begun-requires-clause-stand g c told =
     let before = g.F.Tree.contents c.args.tree.now in
     let none = mark-unrefused _ before c.args.root.now c.args.checked (g.met.F.Tree.is_tree told c.args.tree.now) (c.requires.checked told) in
     let ran = begun-ran g.F.Tree c.args.root.now c.in_ok-paths.paths.mark _ _ _ c.in_ok-paths.ensures.paths.mark told none c.in-Ok.ensures.carries in
@@ -65,10 +65,10 @@ returns-in-Ok-clause-exact g c told =
     let ran = begun-ran g.F.Tree c.args.root.now c.in_ok-paths.paths.mark _ _ _ c.in_ok-paths.ensures.paths.mark told none c.in-Ok.ensures.carries in
     let under = under-mark _ before (g.F.Tree.contents c.begin_mark.new.tree) c.args.root.now c.args.checked (c.requires.checked told) c.requires.folder (ran.runs.after refl) in
     let after = g.F.Tree.contents c.begin_mark.new.tree in
-    subst (λ m. Answers m (g.F.Tree.contents c.replay_marked.new.tree) c.replay_marked.result)
+    subst (λ m. Answers m (g.F.Tree.contents c.replay_begun.new.tree) c.replay_begun.result)
     (first-meant _ c.args.root.now c.in_ok-world.world.files.root (start_in c.args.checked after) (start_in c.args.checked before) before (world_of after c.in_ok-world.world)
     c.in_ok-world.ensures.root under.start (ran.runs.after refl) c.in_ok-world.ensures.control c.in_ok-world.ensures.skipped)
-    (c.replay_marked.ensures.exact told)
+    (c.replay_begun.ensures.exact told)
 
 pub returns-in-Ok-clause-went : goal.returns-in-Ok-clause-went
 returns-in-Ok-clause-went g c told =
@@ -76,8 +76,8 @@ returns-in-Ok-clause-went g c told =
     let none = mark-unrefused _ before c.args.root.now c.args.checked (g.met.F.Tree.is_tree told c.args.tree.now) (c.requires.checked told) in
     let ran = begun-ran g.F.Tree c.args.root.now c.in_ok-paths.paths.mark _ _ _ c.in_ok-paths.ensures.paths.mark told none c.in-Ok.ensures.carries in
     let marked = state_by g.F.Tree.contents g.F.Tree.calls c.begin_mark.new.tree in
-    let new = state_by g.F.Tree.contents g.F.Tree.calls c.replay_marked.new.tree in
-    Marked marked ran.runs (subst (λ p. WentOn p marked new (is_ok c.replay_marked.result)) c.in_ok-world.ensures.root (c.replay_marked.ensures.went told))
+    let new = state_by g.F.Tree.contents g.F.Tree.calls c.replay_begun.new.tree in
+    Marked marked ran.runs (subst (λ p. WentOn p marked new (is_ok c.replay_begun.result)) c.in_ok-world.ensures.root (c.replay_begun.ensures.went told))
 
 pub returns-in-Err-clause-exact : goal.returns-in-Err-clause-exact
 returns-in-Err-clause-exact g c told =
@@ -106,7 +106,7 @@ returns-in-Err-clause-changed g c told p h =
 
 pub returns-in-Ok-clause-stands : goal.returns-in-Ok-clause-stands
 returns-in-Ok-clause-stands g c told =
-    subst (λ p. IfErr c.replay_marked.result (LeavesMark p (g.F.Tree.contents c.replay_marked.new.tree))) c.in_ok-world.ensures.root (c.replay_marked.ensures.stands told)
+    subst (λ p. IfErr c.replay_begun.result (LeavesMark p (g.F.Tree.contents c.replay_begun.new.tree))) c.in_ok-world.ensures.root (c.replay_begun.ensures.stands told)
 
 pub returns-in-Err-clause-stands : goal.returns-in-Err-clause-stands
 returns-in-Err-clause-stands g c told =
@@ -140,9 +140,9 @@ returns-in-Ok-clause-stops g c told =
     let under = under-mark _ before after root c.args.checked (c.requires.checked told) c.requires.folder (ran.runs.after refl) in
     let stands = subst (λ p. StandsMarked p (moment_of g.F.Tree c.begin_mark.new.tree)) (is ∙ ap mark_of (sym c.in_ok-world.ensures.root)) (c.in-Ok.ensures.marked told (begun-unrefused before root mark is none)) in
     let other = replayed_into (handed_in g.M.Manager c.args.custom) world.files.root (start_in c.args.checked after) (world_of after world) in
-    begun-then g.F.Tree root mark _ c.args.tree.now c.begin_mark.new.tree is (c.in-Ok.ensures.stops told (begun-unrefused before root mark is none)) other c.replay_marked.new.tree c.in-Ok.ensures.frame c.replay_marked.ensures.frame
+    begun-then g.F.Tree root mark _ c.args.tree.now c.begin_mark.new.tree is (c.in-Ok.ensures.stops told (begun-unrefused before root mark is none)) other c.replay_begun.new.tree c.in-Ok.ensures.frame c.replay_begun.ensures.frame
     (first-meant _ root world.files.root (start_in c.args.checked after) (start_in c.args.checked before) before (world_of after world) c.in_ok-world.ensures.root under.start (ran.runs.after refl) c.in_ok-world.ensures.control c.in_ok-world.ensures.skipped)
-    (subst (λ p. LeavesOnly (IsMarkedOrDone p other) (g.F.Tree.stops c.begin_mark.new.tree) (g.F.Tree.stops c.replay_marked.new.tree)) c.in_ok-world.ensures.root (c.replay_marked.ensures.stops told stands))
+    (subst (λ p. LeavesOnly (IsMarkedOrDone p other) (g.F.Tree.stops c.begin_mark.new.tree) (g.F.Tree.stops c.replay_begun.new.tree)) c.in_ok-world.ensures.root (c.replay_begun.ensures.stops told stands))
 
 pub returns-in-Err-clause-stops : goal.returns-in-Err-clause-stops
 returns-in-Err-clause-stops g c told =
@@ -163,10 +163,10 @@ returns-in-Ok-clause-spares g c told name is free =
     let after = g.F.Tree.contents c.begin_mark.new.tree in
     let under = under-mark _ before after root c.args.checked (c.requires.checked told) c.requires.folder (ran.runs.after refl) in
     let world = c.in_ok-world.world in
-    let rest = c.replay_marked.ensures.spares told name is (ap (λ (s : Start). touched_by (handed_in g.M.Manager c.args.custom) s.records name) under.start ∙ free) in
+    let rest = c.replay_begun.ensures.spares told name is (ap (λ (s : Start). touched_by (handed_in g.M.Manager c.args.custom) s.records name) under.start ∙ free) in
     spared-on g.F.Tree piece _ _ _ begins
-    (subst (λ (n : ℕ). Spares g.F.Tree (piece_of root n name) c.begin_mark.new.tree c.replay_marked.new.tree) c.in_ok-world.ensures.per_file
-    (subst (λ p. Spares g.F.Tree (piece_of p world.files.per_file name) c.begin_mark.new.tree c.replay_marked.new.tree) c.in_ok-world.ensures.root rest))
+    (subst (λ (n : ℕ). Spares g.F.Tree (piece_of root n name) c.begin_mark.new.tree c.replay_begun.new.tree) c.in_ok-world.ensures.per_file
+    (subst (λ p. Spares g.F.Tree (piece_of p world.files.per_file name) c.begin_mark.new.tree c.replay_begun.new.tree) c.in_ok-world.ensures.root rest))
 
 pub returns-in-Err-clause-spares : goal.returns-in-Err-clause-spares
 returns-in-Err-clause-spares g c told name is free =
