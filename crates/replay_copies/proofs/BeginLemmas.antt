@@ -50,8 +50,8 @@ head-shut o bytes shut head =
     let as_mark : IsMark (is_file o) mark_head whole_gate [] (bytes_in o) bytes = ⊎_elim (λ emptying. inl emptying) (λ short. inr (inl (inl short))) head in
     told-shut bytes (mark-told (is_file o) mark_head whole_gate [] (bytes_in o) bytes (gate-ready o shut) as_mark)
 
-parent-is : (root : PathValue) → parent (mark_of root) ≡ root
-parent-is root =
+pub parent_is : (root : PathValue) → parent (mark_of root) ≡ root
+parent_is root =
     let name : List ℕ = codes "pg_walreplay.unfinished" in
     let size : length (root.parts ++ name ∷ []) - 1 ≡ length root.parts = omega (arith, length-append root.parts (name ∷ [])) in
     same_path _ _ refl (ap (λ n. take n (root.parts ++ name ∷ [])) size ∙ take_at root.parts (name ∷ []) (length root.parts) refl)
@@ -96,7 +96,7 @@ module _ (root : PathValue) (listed : List Listed) (a : Moment) where
     pub head-allowed : first_refusal c (head_laid c mark mark_head) ≡ None
     head-allowed =
         begun-head c mark mark_head whole_gate [] (begun-allowed c mark mark_head whole_gate [] (omega arith)
-        (⊎_elim (λ file. inl file) (λ none. inr (unrefused c mark root none (parent-is root) ready.rooted)) ready.mark))
+        (⊎_elim (λ file. inl file) (λ none. inr (unrefused c mark root none (parent_is root) ready.rooted)) ready.mark))
 
     untouched-same : StandsSynced c a → (x : Contents) → IsUntouched a x → x ≡ c
     untouched-same synced x (inl is) = is
@@ -119,6 +119,7 @@ module _ (root : PathValue) (listed : List Listed) (a : Moment) where
         elsewhere = λ q off. elsewhere q (off-both root q off).0;
         done = tt;
         refused = inl free;
+        stands = inl free;
         left = λ synced. leaves_weaker (IsHeadLaid a mark (length mark_head)) (IsBeginLeft root listed c) a.stops b.stops (head-left synced) torn;
         marked = leaves_weaker (IsHeadLaid a mark (length mark_head)) (IsBegun mark a) a.stops b.stops head-begun torn;
       }
@@ -128,6 +129,7 @@ module _ (root : PathValue) (listed : List Listed) (a : Moment) where
         elsewhere = fills.elsewhere;
         done = fills.done;
         refused = fills.refused;
+        stands = fills.stands;
         left = λ synced. leaves_on (IsBeginLeft root listed c) a b d one other
             (leaves_weaker (IsHeadLaid a mark (length mark_head)) (IsBeginLeft root listed c) a.stops b.stops (head-left synced) torn)
             (leaves_weaker (IsFilling root listed c) (IsBeginLeft root listed c) b.stops d.stops filling-left fills.left);

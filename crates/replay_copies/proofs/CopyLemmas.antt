@@ -17,6 +17,7 @@ use Rattle.file_edits.specs.Answers.{Does, IsFree}
 use Rattle.file_edits.specs.Asking.{file_asked}
 use Rattle.file_edits.specs.Edits.{edited, file_edited, way_for, way_made}
 use Rattle.file_edits.proofs.WayLemmas.{way-begun, way-end}
+use Rattle.piece_copies.proofs.AnswerLemmas.{done-is, why-free}
 use Rattle.replay_list.specs.Lines.{files_after, files_behind}
 use Rattle.replay_list.specs.declared.listed.Listed.{Listed}
 use Rattle.replay_list.specs.declared.listed.Listed.TheVariants.{Folder, Page, File}
@@ -24,7 +25,6 @@ use Rattle.stored_replay.specs.Shadows.{is_sized, shadow_at, shadow_folder}
 use Rattle.replay_copies.specs.Copying.{IsEmptied, IsOpen, IsOutside, with_copies, with_copy}
 use Rattle.replay_copies.specs.Laid.{AreCopied, HasCopies, IsCopy, IsFound}
 use Rattle.replay_copies.proofs.FolderLemmas.{folder-unrefused}
-use Rattle.replay_copies.proofs.PieceLemmas.{why-free}
 use Rattle.replay_copies.proofs.PathLemmas.{copies-apart, copy-is_held, copy-off_folder, copy-size, folder-size}
 
 -- ---- one file
@@ -244,9 +244,6 @@ pub outside-same : (root : PathValue) (old mid : Contents) (listed : List Listed
 outside-same root old mid listed elsewhere outside = all-same (IsOutside root) old mid listed (outside-each root old mid elsewhere) outside
 
 -- ---- answers where nothing is to be refused
-
-pub done-is : (meant new : Contents) → Does {A = Unit {0}} (Ok meant) new (Ok tt) → new ≡ meant
-done-is meant new done = cc
 
 pub on-done : {P : Type 0} (meant new : Contents) (r : Result (Unit {0}) FileFault) → Does (Ok meant) new r → (meant ≡ new → P) → OnOk r P
 on-done meant new (Ok u) done next = next (sym (done-is meant new done))

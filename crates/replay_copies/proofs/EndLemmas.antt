@@ -31,7 +31,7 @@ use Rattle.marked_runs.specs.Moments.{IsUntouched, StandsSynced}
 use Rattle.marked_runs.specs.Runs.{ended}
 use Rattle.marked_runs.proofs.StopLemmas.{leaves_on, leaves_weaker}
 use Rattle.stored_replay.specs.Shadows.{shadow_folder}
-use Rattle.replay_copies.specs.Left.{IsKept}
+use Rattle.replay_copies.specs.Left.{IsKept, LeavesFile}
 use Rattle.replay_copies.specs.Ended.{Clears, Ends, HasMark, IsClearLeft, IsEndLeft, IsGone, StandsGone, ended_gate, with_gate}
 use Rattle.replay_copies.specs.Laid.{SameElsewhere, mark_head, mark_of}
 use Rattle.replay_copies.proofs.FillLemmas.{SameOutside, kept-over, outside-holds}
@@ -58,6 +58,10 @@ kept-unchanged root c (Err e) p (inr refused) same = let is : e ≡ fault.Change
 pub if-kept : (root : PathValue) (c : Contents) (r : Result (Unit {0}) FileFault) → IfErr r IsFree → IfErr r (IsKept root c)
 if-kept root c (Ok u) free = tt
 if-kept root c (Err f) free = inl free
+
+if-file : (root : PathValue) (c : Contents) (r : Result (Unit {0}) FileFault) → IfErr r IsFree → IfErr r (LeavesFile root c)
+if-file root c (Ok u) free = tt
+if-file root c (Err f) free = inl free
 
 if-over : (root : PathValue) (c : Contents) (bytes : List ℕ) (r : Result (Unit {0}) FileFault) → IfErr r (IsKept root (with_mark c (mark_of root) bytes)) → IfErr r (IsKept root c)
 if-over root c bytes (Ok u) kept = tt
@@ -98,7 +102,13 @@ module _ (root : PathValue) (a : Moment) (file : is_file (entry_at a.state.conte
         leaves_only (IsClearLeft root c) (SameOutside root c) a b (record { now = h.now; later = h.later; left = h.left; had = λ x had. outside-clear x (h.had x had) }) outside-clear
 
     pub folder-broken : (e : FileFault) → IsKept root c e → Clears root a b (Err e)
-    folder-broken e kept = record { elsewhere = (outside-clear B outside).elsewhere; done = tt; refused = kept; left = folder-left }
+    folder-broken e kept = record {
+      elsewhere = (outside-clear B outside).elsewhere;
+      done = tt;
+      refused = kept;
+      stands = inr (ap is_file (outside mark (mark-off root)) ∙ file);
+      left = folder-left;
+    }
 
     pub end-allowed : first_refusal B (ended mark) ≡ None
     end-allowed = ap (λ o. or_next o None) (file-kept _ (entry_at B mark) (ap is_file (outside mark (mark-off root)) ∙ file))
@@ -131,6 +141,7 @@ module _ (root : PathValue) (a : Moment) (file : is_file (entry_at a.state.conte
         elsewhere = λ q off. elsewhere q (off-both root q off).0 ∙ outside q (off-both root q off).1;
         done = gone-done d r done;
         refused = if-kept root c r free;
+        stands = if-file root d.state.contents r free;
         left = λ synced. leaves_on (IsClearLeft root c) a b d course more (folder-left synced) (leaves_weaker (IsMarkEndLeft b mark) (IsClearLeft root c) b.stops d.stops (end-clear synced) torn);
       }
 
@@ -204,7 +215,7 @@ module _ (root : PathValue) (a : Moment) (has : HasMark root a.state.contents) w
     gate-left synced = leaves_weaker (IsLeftTorn a mark' ended_gate 1) (IsEndLeft root c') a.stops b.stops (torn-still synced) torn
 
     pub gate-end_broken : (e : FileFault) → IsFree e → ((p : PathValue) → p ≢ mark' → entry_at b.state.contents p ≡ entry_at c' p) → Ends root a b (Err e)
-    gate-end_broken e free elsewhere = record { elsewhere = λ q off. elsewhere q (off-both root q off).0; done = tt; refused = inl free; left = gate-left }
+    gate-end_broken e free elsewhere = record { elsewhere = λ q off. elsewhere q (off-both root q off).0; done = tt; refused = inl free; stands = inl free; left = gate-left }
 
     module _ (opened : StandsSynced (all_changed c' (gate_opened mark' ended_gate)) b) where
       b-is : b.state.contents ≡ with_ended root c'
@@ -230,6 +241,7 @@ module _ (root : PathValue) (a : Moment) (has : HasMark root a.state.contents) w
         elsewhere = ended-elsewhere d.state.contents clears.elsewhere;
         done = clears.done;
         refused = if-over root c' (with_gate root c' plus) r (subst (λ y. IfErr r (IsKept root y)) b-is clears.refused);
+        stands = clears.stands;
         left = λ synced. leaves_on (IsEndLeft root c') a b d one other (gate-left synced)
             (leaves_weaker (IsClearLeft root b.state.contents) (IsEndLeft root c') b.stops d.stops clear-end (clears.left (record { now = refl; left = λ x image. opened.left x image ∙ sym opened.now })));
       }

@@ -4,7 +4,7 @@ use Rattle.std.proofs.lemmas.Bool.Decides.{eqb_tells}
 use Rattle.std.specs.List.{All}
 use Rattle.cluster_tree.specs.Apart.{is_held}
 use Rattle.cluster_tree.specs.Change.{all_changed, first_refusal, or_next}
-use Rattle.cluster_tree.specs.Contents.{Contents, FileEntry, entry_at, is_folder}
+use Rattle.cluster_tree.specs.Contents.{Contents, FileEntry, entry_at, is_file, is_folder}
 use Rattle.cluster_tree.specs.PathValue.{PathValue, below}
 use Rattle.cluster_tree.specs.Run.{Course, Moment, Occurs}
 use Rattle.cluster_tree.specs.Step.{TornBytes, TornFile}
@@ -33,7 +33,7 @@ use Rattle.replay_list.specs.declared.listed.Listed.{Listed}
 use Rattle.replay_list.specs.declared.listed.Listed.TheVariants.{Folder, Page, File}
 use Rattle.stored_replay.specs.Shadows.{shadow_at, shadow_folder}
 use Rattle.replay_copies.specs.Copying.{CanCopy, Fills, IsFilling, StandsLaid}
-use Rattle.replay_copies.specs.Left.{IsKept}
+use Rattle.replay_copies.specs.Left.{IsKept, LeavesFile}
 use Rattle.replay_copies.specs.Laid.{AreCopied, HasCopies, IsLaid, IsReady, IsShut, SameElsewhere, mark_head, mark_of, whole_gate}
 use Rattle.replay_copies.proofs.ClearLemmas.{SameBelow, refused-same}
 use Rattle.replay_copies.proofs.CopyLemmas.{IsSame, all-same, all-still, copied-from}
@@ -225,6 +225,7 @@ module _ (root : PathValue) (listed : List Listed) (c : Contents) (ready : IsRea
       elsewhere = outside-elsewhere B holds.now;
       done = tt;
       refused = kept-over root c mark_head e (subst (λ x. IsKept root x e) stands.now kept);
+      stands = inr (ap is_file (holds.now mark (mark-off root) ∙ entry-put c mark (FileEntry mark_head)));
       left = copies-left;
     }
 
@@ -249,6 +250,7 @@ module _ (root : PathValue) (listed : List Listed) (c : Contents) (ready : IsRea
         elsewhere = λ q off. elsewhere q (off-both root q off).0 ∙ outside-elsewhere B holds.now q off;
         done = tt;
         refused = inl free;
+        stands = inl free;
         left = text-left;
       }
 
@@ -286,11 +288,16 @@ module _ (root : PathValue) (listed : List Listed) (c : Contents) (ready : IsRea
         free-refusal (Ok u) free = tt
         free-refusal (Err f) free = inl free
 
+        free-file : (r : Result (Unit {0}) FileFault) → IfErr r IsFree → (x : Contents) → IfErr r (LeavesFile root x)
+        free-file (Ok u) free x = tt
+        free-file (Err f) free x = inl free
+
         pub all-filled : (e : Moment) (r : Result (Unit {0}) FileFault) → Course d e → LeavesOnly (IsLeftTorn d mark whole_gate 1) d.stops e.stops
             → OnOk r (StandsSynced (all_changed d.state.contents (gate_opened mark whole_gate)) e) → IfErr r IsFree → ((p : PathValue) → p ≢ mark → entry_at e.state.contents p ≡ entry_at d.state.contents p) → Fills root listed c a e r
         all-filled e r more opened done free elsewhere = record {
           elsewhere = λ q off. elsewhere q (off-both root q off).0 ∙ ap (λ x. entry_at x q) D-is ∙ put-elsewhere B holds.now (mark_head ++ text) q off;
           done = done-laid e r done;
           refused = free-refusal r free;
+          stands = free-file r free e.state.contents;
           left = leaves_on (IsFilling root listed c) a d e (calls_on Occurs a b d course on) more text-left (leaves_weaker (IsLeftTorn d mark whole_gate 1) (IsFilling root listed c) d.stops e.stops open-torn opened);
         }

@@ -1,5 +1,5 @@
 pub mod MarkLemmas
-pub mod PieceLemmas
+pub mod CallLemmas
 pub mod PathLemmas
 pub mod FolderLemmas
 pub mod CopyLemmas

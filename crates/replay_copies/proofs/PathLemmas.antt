@@ -62,11 +62,13 @@ leads-one : (n m : ℕ) (path q : PathValue) → n ≡ 1 → leads n m path q �
 unfolding leads
 leads-one n m path q one = ap (λ k. leads k m path q) one
 
+pub copy-in_folder : (root : PathValue) (n : ℕ) (q : PathValue) → path_eq q (shadow_at root n) ≡ true → is_held (shadow_folder root) q ≡ true
+copy-in_folder root n q at = ap (is_held (shadow_folder root)) (path_eq-same q (shadow_at root n) at) ∙ copy-is_held root n
+
 pub way-in_folder : (root : PathValue) (n : ℕ) (q : PathValue) → on_way (shadow_folder root) (shadow_at root n) q ≡ true → is_held (shadow_folder root) q ≡ true
 way-in_folder root n q on =
     let none : folders_between (shadow_folder root) (shadow_at root n) ≡ 0 = omega (arith, folder-size root, copy-size root n) in
-    let same : q ≡ shadow_at root n = path_eq-same q (shadow_at root n) (sym (leads-none _ _ (shadow_at root n) q none) ∙ on) in
-    ap (is_held (shadow_folder root)) same ∙ copy-is_held root n
+    copy-in_folder root n q (sym (leads-none _ _ (shadow_at root n) q none) ∙ on)
 
 either : (a b : Bool) → (a || b) ≡ true → (a ≡ true) ⊎ (b ≡ true)
 either true b e = inl refl
@@ -80,7 +82,7 @@ way-to_folder root n q on =
     let one : folders_between root (shadow_at root n) ≡ 1 = omega (arith, copy-size root n) in
     ⊎_elim
     (λ e. ap (is_held (shadow_folder root)) (path_eq-same q _ e ∙ folder-front root n) ∙ folder-is_held root)
-    (λ e. ap (is_held (shadow_folder root)) (path_eq-same q _ e) ∙ copy-is_held root n)
+    (copy-in_folder root n q)
     (either (path_eq q (front (length root.parts + 1) (shadow_at root n))) (path_eq q (shadow_at root n)) (sym (leads-one _ _ (shadow_at root n) q one) ∙ on))
 
 pub copy-of_root : (root : PathValue) (n : ℕ) → Holds root (shadow_at root n)

@@ -14,7 +14,7 @@ use Rattle.replay_list.specs.Lines.{files_after, files_behind}
 use Rattle.replay_list.specs.declared.listed.Listed.{Listed}
 use Rattle.replay_list.specs.declared.listed.Listed.TheVariants.{Folder, Page, File}
 use Rattle.replay_copies.specs.Laid.{IsFound, IsLaid, IsShut, SameElsewhere, mark_of}
-use Rattle.replay_copies.specs.Left.{IsBeginLeft, IsKept}
+use Rattle.replay_copies.specs.Left.{IsBeginLeft, IsKept, LeavesFile}
 use Rattle.stored_replay.specs.Shadows.{shadow_at, shadow_folder}
 
 -- the contents with the copy of what is listed, before which so many files are
@@ -68,6 +68,7 @@ pub record Fills (root : PathValue) (listed : List Listed) (c : Contents) (first
   pub elsewhere : SameElsewhere root c last.state.contents
   pub done : OnOk result (StandsLaid root listed c last)
   pub refused : IfErr result (IsKept root c)
+  pub stands : IfErr result (LeavesFile root last.state.contents)
   pub left : LeavesOnly (IsFilling root listed c) first.stops last.stops
 
 -- from the first moment on
@@ -75,5 +76,6 @@ pub record Begins (root : PathValue) (listed : List Listed) (first last : Moment
   pub elsewhere : SameElsewhere root first.state.contents last.state.contents
   pub done : OnOk result (StandsLaid root listed first.state.contents last)
   pub refused : IfErr result (IsKept root first.state.contents)
+  pub stands : IfErr result (LeavesFile root last.state.contents)
   pub left : StandsSynced first.state.contents first → LeavesOnly (IsBeginLeft root listed first.state.contents) first.stops last.stops
   pub marked : LeavesOnly (IsBegun (mark_of root) first) first.stops last.stops

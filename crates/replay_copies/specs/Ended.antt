@@ -1,7 +1,7 @@
 -- The end of a replay's mark and copies, and what a stop leaves of it. Own: "What a stop may leave", "The shadows of a replay".
 use Rattle.std.specs.Prelude.{◌≡◌, ◌≢◌, ◌⊎◌, ℕ, ◌<◌, true, List, [], ◌∷◌, length, None, Some, OnOk, Result, IfErr}
 use Rattle.cluster_tree.specs.Apart.{is_held}
-use Rattle.cluster_tree.specs.Contents.{Contents, FileEntry, entry_at, is_file}
+use Rattle.cluster_tree.specs.Contents.{Contents, FileEntry, entry_at}
 use Rattle.cluster_tree.specs.PathValue.{PathValue}
 use Rattle.cluster_tree.specs.Run.{Moment}
 use Rattle.cluster_tree.specs.Stops.{LeavesOnly}
@@ -10,7 +10,7 @@ use Rattle.cluster_tree.specs.declared.file_fault.FileFault.{FileFault}
 use Rattle.gated_marks.specs.Gates.{plus}
 use Rattle.layout.specs.Splice.{splice}
 use Rattle.marked_runs.specs.Moments.{StandsSynced}
-use Rattle.replay_copies.specs.Left.{IsKept}
+use Rattle.replay_copies.specs.Left.{IsKept, LeavesFile}
 use Rattle.replay_copies.specs.Laid.{SameElsewhere, is_laid_at, mark_head, mark_of}
 use Rattle.stored_replay.specs.Shadows.{shadow_folder}
 
@@ -21,10 +21,6 @@ ended_gate = 16
 -- the mark is a file of more than its head
 abbrev pub HasMark : PathValue → Contents → Type 0
 HasMark root c = length mark_head < length (bytes_at c (mark_of root))
-
--- a file stands at the mark
-abbrev pub HasFile : PathValue → Contents → Type 0
-HasFile root c = is_file (entry_at c (mark_of root)) ≡ true
 
 -- the mark's bytes with this one in the place of the second gate
 abbrev pub with_gate : PathValue → Contents → (byte : ℕ) → List ℕ
@@ -64,6 +60,7 @@ pub record Clears (root : PathValue) (first last : Moment) (result : Result (Uni
   pub elsewhere : SameElsewhere root first.state.contents last.state.contents
   pub done : OnOk result (StandsGone root last)
   pub refused : IfErr result (IsKept root first.state.contents)
+  pub stands : IfErr result (LeavesFile root last.state.contents)
   pub left : StandsSynced first.state.contents first → LeavesOnly (IsClearLeft root first.state.contents) first.stops last.stops
 
 -- the end of a replay, from the first moment to the last
@@ -71,4 +68,5 @@ pub record Ends (root : PathValue) (first last : Moment) (result : Result (Unit 
   pub elsewhere : SameElsewhere root first.state.contents last.state.contents
   pub done : OnOk result (StandsGone root last)
   pub refused : IfErr result (IsKept root first.state.contents)
+  pub stands : IfErr result (LeavesFile root last.state.contents)
   pub left : StandsSynced first.state.contents first → LeavesOnly (IsEndLeft root first.state.contents) first.stops last.stops

@@ -1,6 +1,6 @@
 -- What a stop leaves while the mark and the copies are laid. Own: "What a stop may leave", "The shadows of a replay".
-use Rattle.std.specs.Prelude.{◌≡◌, ◌⊎◌, List, Err}
-use Rattle.cluster_tree.specs.Contents.{Contents}
+use Rattle.std.specs.Prelude.{◌≡◌, ◌⊎◌, true, List, Err}
+use Rattle.cluster_tree.specs.Contents.{Contents, entry_at, is_file}
 use Rattle.cluster_tree.specs.PathValue.{PathValue}
 use Rattle.cluster_tree.specs.Tree.{bytes_at}
 use Rattle.cluster_tree.specs.declared.file_fault.FileFault.{FileFault}
@@ -18,3 +18,11 @@ pub record IsBeginLeft (root : PathValue) (listed : List Listed) (old new : Cont
 -- what is refused: a free answer, or the folder of copies can't be removed
 abbrev pub IsKept : PathValue → Contents → FileFault → Type 0
 IsKept root c e = IsFree e ⊎ (tree_removed (shadow_folder root) c ≡ Err e)
+
+-- a file stands at the mark
+abbrev pub HasFile : PathValue → Contents → Type 0
+HasFile root c = is_file (entry_at c (mark_of root)) ≡ true
+
+-- a refusal leaves it; a fault of the device, or want of memory, may come before the mark or behind it
+abbrev pub LeavesFile : PathValue → Contents → FileFault → Type 0
+LeavesFile root c e = IsFree e ⊎ HasFile root c

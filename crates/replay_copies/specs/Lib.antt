@@ -1,4 +1,5 @@
 pub mod Laid
+pub mod Calls
 pub mod Left
 pub mod Copying
 pub mod Ended

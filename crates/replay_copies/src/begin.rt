@@ -7,8 +7,9 @@ ghost use Rattle.cluster_tree.specs.PathValue.{PathValue};
 ghost use Rattle.cluster_tree.specs.Stops.{LeavesOnly};
 ghost use Rattle.gated_marks.specs.Left.{with_mark};
 ghost use Rattle.marked_runs.specs.Moments.{IsBegun, StandsSynced};
+ghost use Rattle.replay_copies.specs.Calls.{LaysOnly};
 ghost use Rattle.replay_copies.specs.Copying.{Begins, Fills};
-ghost use Rattle.replay_copies.specs.Left.{IsBeginLeft, IsKept};
+ghost use Rattle.replay_copies.specs.Left.{IsBeginLeft, IsKept, LeavesFile};
 ghost use Rattle.replay_copies.specs.Laid.{IsLaid, IsReady, SameElsewhere, mark_head, mark_of};
 ghost use Rattle.replay_list.specs.Text.{list_text};
 
@@ -33,6 +34,9 @@ fn fill<F: Tree>(
     ensures fills { IsTrue F.tells → (c : Contents) → IsReady root.now listed.now c →
         StandsSynced (with_mark c (mark_of root.now) mark_head) (moment_of F.Tree tree.old) →
         Fills root.now listed.now c (moment_of F.Tree tree.old) (moment_of F.Tree tree.new) result }
+    ensures calls { IsTrue F.tells → (c : Contents) → IsReady root.now listed.now c →
+        StandsSynced (with_mark c (mark_of root.now) mark_head) (moment_of F.Tree tree.old) →
+        LaysOnly root.now (F.calls tree.old) (F.calls tree.new) }
     ensures frame { Came F.Tree tree.old tree.new }
     ensures read_fault { IsErrOf result FileFault.ReadFault →
         Rose (F.failed_reads tree.old) (F.failed_reads tree.new) }
@@ -58,6 +62,8 @@ fn begin<F: Tree>(
     requires text { text.now ≡ list_text root.now listed.now }
     ensures begins { IsTrue F.tells → IsReady root.now listed.now (F.contents tree.old) →
         Begins root.now listed.now (moment_of F.Tree tree.old) (moment_of F.Tree tree.new) result }
+    ensures calls { IsTrue F.tells → IsReady root.now listed.now (F.contents tree.old) →
+        LaysOnly root.now (F.calls tree.old) (F.calls tree.new) }
     ensures frame { Came F.Tree tree.old tree.new }
     ensures read_fault { IsErrOf result FileFault.ReadFault →
         Rose (F.failed_reads tree.old) (F.failed_reads tree.new) }
@@ -87,6 +93,9 @@ pub fn begin_copies<F: Tree>(
         OnOk result (IsLaid root.now listed.now (F.contents tree.old) (F.contents tree.new)) }
     ensures refused { IsTrue F.tells → IsReady root.now listed.now (F.contents tree.old) →
         IfErr result (IsKept root.now (F.contents tree.old)) }
+    // then the mark stands, with its gates shut
+    ensures stands { IsTrue F.tells → IsReady root.now listed.now (F.contents tree.old) →
+        IfErr result (LeavesFile root.now (F.contents tree.new)) }
     ensures elsewhere { IsTrue F.tells → IsReady root.now listed.now (F.contents tree.old) →
         SameElsewhere root.now (F.contents tree.old) (F.contents tree.new) }
     // a stop at any moment leaves no whole mark, or all that is laid
@@ -99,6 +108,9 @@ pub fn begin_copies<F: Tree>(
         tree.new) }
     ensures synced { IsTrue F.tells → IsReady root.now listed.now (F.contents tree.old) →
         OnOk result (StandsSynced (F.contents tree.new) (moment_of F.Tree tree.new)) }
+    // each changing call is a sync, or at the mark or the copies
+    ensures calls { IsTrue F.tells → IsReady root.now listed.now (F.contents tree.old) →
+        LaysOnly root.now (F.calls tree.old) (F.calls tree.new) }
     ensures frame { Came F.Tree tree.old tree.new }
     ensures read_fault { IsErrOf result FileFault.ReadFault →
         Rose (F.failed_reads tree.old) (F.failed_reads tree.new) }

@@ -1,12 +1,11 @@
 // The copies of the files that are listed.
-ghost use Rattle.std.specs.Prelude.{◌≡◌, ◌≢◌, ◌+◌, ◌<◌, ◌≤◌, ◌^◌, ℕ, List, length, Some, IsTrue, Ok, Err, IsErrOf};
+ghost use Rattle.std.specs.Prelude.{◌≡◌, ◌+◌, ◌<◌, ◌≤◌, ◌^◌, ℕ, List, length, Some, IsTrue, Ok, Err, IsErrOf};
 ghost use Rattle.std.specs.FinMap.{insert};
 ghost use Rattle.std.specs.List.{All};
 ghost use Rattle.cluster_tree.specs.Apart.{is_held};
 ghost use Rattle.cluster_tree.specs.Causes.{Rose};
 ghost use Rattle.cluster_tree.specs.Contents.{FileEntry, entry_at};
 ghost use Rattle.cluster_tree.specs.Frame.{Came};
-ghost use Rattle.cluster_tree.specs.PathValue.{PathValue};
 ghost use Rattle.file_edits.specs.Answers.{Does};
 ghost use Rattle.file_edits.specs.Own.{OnOwn};
 ghost use Rattle.replay_list.specs.Lines.{files_behind};
@@ -14,9 +13,9 @@ ghost use Rattle.replay_copies.specs.Copying.{IsOpen, with_copies, with_copy};
 ghost use Rattle.replay_copies.specs.Laid.{IsFound};
 ghost use Rattle.stored_replay.specs.Shadows.{shadow_at, shadow_folder};
 
-use crate::pieces::copy_bytes;
 use cluster_tree::{FileFault, Path, Tree};
 use file_edits::ensure_file;
+use piece_copies::copy_bytes;
 use replay_list::Listed;
 use std::alloc::Global;
 use stored_replay::{shadow_folder, shadow_path};
@@ -46,13 +45,12 @@ fn copy_file<F: Tree>(
         Rose (F.failed_reads tree.old) (F.failed_reads tree.new) }
     ensures write_fault { IsErrOf result FileFault.WriteFault →
         Rose (F.failed_changes tree.old) (F.failed_changes tree.new) }
-    ensures changed { IsTrue F.tells → (p : PathValue) → result ≢ Err (FileFault.Changed p) }
 {
     let (from, size) = file;
     let folder = shadow_folder(alloc, root)?;
     let to = shadow_path(alloc, root, files)?;
     ensure_file(alloc, tree, &folder, &to)?;
-    copy_bytes(alloc, tree, &folder, from, &to, size, buffer)
+    copy_bytes(alloc, tree, from, &to, size, buffer)
 }
 
 // Copies what is listed, before which so many files are, where it is a file of no main fork.
@@ -76,7 +74,6 @@ fn copy_one<F: Tree>(
         Rose (F.failed_reads tree.old) (F.failed_reads tree.new) }
     ensures write_fault { IsErrOf result FileFault.WriteFault →
         Rose (F.failed_changes tree.old) (F.failed_changes tree.new) }
-    ensures changed { IsTrue F.tells → (p : PathValue) → result ≢ Err (FileFault.Changed p) }
 {
     match listed {
         Listed::Folder(_) | Listed::Page(..) => Ok(()),
@@ -113,7 +110,6 @@ pub(crate) fn copy_all<F: Tree>(
         Rose (F.failed_reads tree.old) (F.failed_reads tree.new) }
     ensures write_fault { IsErrOf result FileFault.WriteFault →
         Rose (F.failed_changes tree.old) (F.failed_changes tree.new) }
-    ensures changed { IsTrue F.tells → (p : PathValue) → result ≢ Err (FileFault.Changed p) }
 {
     let mut buffer = [0; PIECE];
     let mut files = 0;

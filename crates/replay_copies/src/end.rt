@@ -5,8 +5,9 @@ ghost use Rattle.cluster_tree.specs.Frame.{Came, moment_of};
 ghost use Rattle.cluster_tree.specs.PathValue.{PathValue};
 ghost use Rattle.cluster_tree.specs.Stops.{LeavesOnly};
 ghost use Rattle.marked_runs.specs.Moments.{StandsSynced};
-ghost use Rattle.replay_copies.specs.Left.{IsKept};
-ghost use Rattle.replay_copies.specs.Ended.{Clears, Ends, HasFile, HasMark, IsClearLeft, IsEndLeft, IsGone};
+ghost use Rattle.replay_copies.specs.Calls.{LaysOnly};
+ghost use Rattle.replay_copies.specs.Left.{HasFile, IsKept, LeavesFile};
+ghost use Rattle.replay_copies.specs.Ended.{Clears, Ends, HasMark, IsClearLeft, IsEndLeft, IsGone};
 ghost use Rattle.replay_copies.specs.Laid.{SameElsewhere, mark_of};
 ghost use Rattle.stored_replay.specs.Shadows.{shadow_folder};
 
@@ -28,6 +29,8 @@ fn clear<F: Tree>(
     requires folder { folder.now ≡ shadow_folder root.now }
     ensures clears { IsTrue F.tells → HasFile root.now (F.contents tree.old) →
         Clears root.now (moment_of F.Tree tree.old) (moment_of F.Tree tree.new) result }
+    ensures calls { IsTrue F.tells → HasFile root.now (F.contents tree.old) →
+        LaysOnly root.now (F.calls tree.old) (F.calls tree.new) }
     ensures frame { Came F.Tree tree.old tree.new }
     ensures read_fault { IsErrOf result FileFault.ReadFault →
         Rose (F.failed_reads tree.old) (F.failed_reads tree.new) }
@@ -50,6 +53,8 @@ fn end<F: Tree>(
     requires folder { folder.now ≡ shadow_folder root.now }
     ensures ends { IsTrue F.tells → HasMark root.now (F.contents tree.old) →
         Ends root.now (moment_of F.Tree tree.old) (moment_of F.Tree tree.new) result }
+    ensures calls { IsTrue F.tells → HasMark root.now (F.contents tree.old) →
+        LaysOnly root.now (F.calls tree.old) (F.calls tree.new) }
     ensures frame { Came F.Tree tree.old tree.new }
     ensures read_fault { IsErrOf result FileFault.ReadFault →
         Rose (F.failed_reads tree.old) (F.failed_reads tree.new) }
@@ -69,6 +74,9 @@ pub fn clear_copies<F: Tree>(alloc: Global, tree: &mut F, root: &Path) -> Result
         OnOk result (IsGone root.now (F.contents tree.new)) }
     ensures refused { IsTrue F.tells → HasFile root.now (F.contents tree.old) →
         IfErr result (IsKept root.now (F.contents tree.old)) }
+    // where the folder of copies can't be removed, the mark stays
+    ensures stands { IsTrue F.tells → HasFile root.now (F.contents tree.old) →
+        IfErr result (LeavesFile root.now (F.contents tree.new)) }
     ensures elsewhere { IsTrue F.tells → HasFile root.now (F.contents tree.old) →
         SameElsewhere root.now (F.contents tree.old) (F.contents tree.new) }
     // a stop at any moment leaves all but the copies, or nothing of both
@@ -77,6 +85,9 @@ pub fn clear_copies<F: Tree>(alloc: Global, tree: &mut F, root: &Path) -> Result
         (IsClearLeft root.now (F.contents tree.old)) (F.stops tree.old) (F.stops tree.new) }
     ensures synced { IsTrue F.tells → HasFile root.now (F.contents tree.old) →
         OnOk result (StandsSynced (F.contents tree.new) (moment_of F.Tree tree.new)) }
+    // each changing call is a sync, or at the mark or the copies
+    ensures calls { IsTrue F.tells → HasFile root.now (F.contents tree.old) →
+        LaysOnly root.now (F.calls tree.old) (F.calls tree.new) }
     ensures frame { Came F.Tree tree.old tree.new }
     ensures read_fault { IsErrOf result FileFault.ReadFault →
         Rose (F.failed_reads tree.old) (F.failed_reads tree.new) }
@@ -99,6 +110,9 @@ pub fn end_copies<F: Tree>(alloc: Global, tree: &mut F, root: &Path) -> Result<(
         OnOk result (IsGone root.now (F.contents tree.new)) }
     ensures refused { IsTrue F.tells → HasMark root.now (F.contents tree.old) →
         IfErr result (IsKept root.now (F.contents tree.old)) }
+    // where the folder of copies can't be removed, the mark stays
+    ensures stands { IsTrue F.tells → HasMark root.now (F.contents tree.old) →
+        IfErr result (LeavesFile root.now (F.contents tree.new)) }
     ensures elsewhere { IsTrue F.tells → HasMark root.now (F.contents tree.old) →
         SameElsewhere root.now (F.contents tree.old) (F.contents tree.new) }
     // a stop at any moment leaves the mark but for its second gate, and the copies unless that is
@@ -108,6 +122,9 @@ pub fn end_copies<F: Tree>(alloc: Global, tree: &mut F, root: &Path) -> Result<(
         (IsEndLeft root.now (F.contents tree.old)) (F.stops tree.old) (F.stops tree.new) }
     ensures synced { IsTrue F.tells → HasMark root.now (F.contents tree.old) →
         OnOk result (StandsSynced (F.contents tree.new) (moment_of F.Tree tree.new)) }
+    // each changing call is a sync, or at the mark or the copies
+    ensures calls { IsTrue F.tells → HasMark root.now (F.contents tree.old) →
+        LaysOnly root.now (F.calls tree.old) (F.calls tree.new) }
     ensures frame { Came F.Tree tree.old tree.new }
     ensures read_fault { IsErrOf result FileFault.ReadFault →
         Rose (F.failed_reads tree.old) (F.failed_reads tree.new) }

@@ -59,7 +59,6 @@ pub(crate) fn lay_copies<F: Tree>(
         Rose (F.failed_reads tree.old) (F.failed_reads tree.new) }
     ensures write_fault { IsErrOf result FileFault.WriteFault →
         Rose (F.failed_changes tree.old) (F.failed_changes tree.new) }
-    ensures changed { IsTrue F.tells → (p : PathValue) → result ≢ Err (FileFault.Changed p) }
 {
     make_anew(alloc, tree, root)?;
     copy_all(alloc, tree, root, listed)

@@ -8,7 +8,6 @@ mod end;
 mod laws;
 mod laying;
 mod marking;
-mod pieces;
 
 pub use begin::begin_copies;
 pub use end::{clear_copies, end_copies};

@@ -5,13 +5,16 @@ ghost use Rattle.cluster_tree.specs.Causes.{Rose};
 ghost use Rattle.cluster_tree.specs.Change.{all_changed, first_refusal};
 ghost use Rattle.cluster_tree.specs.Contents.{entry_at};
 ghost use Rattle.cluster_tree.specs.Frame.{Came, moment_of};
+ghost use Rattle.cluster_tree.specs.PathOrder.{path_eq};
 ghost use Rattle.cluster_tree.specs.PathValue.{PathValue};
 ghost use Rattle.cluster_tree.specs.Stops.{LeavesOnly};
 ghost use Rattle.file_edits.specs.Answers.{IsFree};
+ghost use Rattle.file_edits.specs.Own.{GoesBy};
 ghost use Rattle.gated_marks.specs.Changes.{gate_opened, head_laid, text_laid};
 ghost use Rattle.gated_marks.specs.Left.{IsEndLeft, IsHeadLaid, IsLeftTorn, with_mark};
 ghost use Rattle.marked_runs.specs.Moments.{StandsSynced};
 ghost use Rattle.marked_runs.specs.Runs.{ended};
+ghost use Rattle.replay_copies.specs.Calls.{is_own_or_sync};
 ghost use Rattle.replay_copies.specs.Laid.{mark_head};
 
 use cluster_tree::{FileFault, Path, Tree};
@@ -47,6 +50,9 @@ pub(crate) fn begin_mark<F: Tree>(alloc: Global, tree: &mut F, mark: &Path) -> R
     ensures elsewhere { IsTrue F.tells → first_refusal (F.contents tree.old) (head_laid (F.contents
         tree.old) mark.now mark_head) ≡ None → (p : PathValue) → p ≢ mark.now → entry_at (F.contents
         tree.new) p ≡ entry_at (F.contents tree.old) p }
+    ensures calls { IsTrue F.tells → first_refusal (F.contents tree.old) (head_laid (F.contents
+        tree.old) mark.now mark_head) ≡ None →
+        GoesBy (is_own_or_sync (λ p. path_eq p mark.now)) (F.calls tree.old) (F.calls tree.new) }
     ensures frame { Came F.Tree tree.old tree.new }
     ensures read_fault { IsErrOf result FileFault.ReadFault →
         Rose (F.failed_reads tree.old) (F.failed_reads tree.new) }
@@ -75,6 +81,9 @@ pub(crate) fn fill_mark<F: Tree>(
     ensures elsewhere { IsTrue F.tells → first_refusal (F.contents tree.old) (text_laid mark.now
         (length mark_head) text.now) ≡ None → (p : PathValue) → p ≢ mark.now → entry_at (F.contents
         tree.new) p ≡ entry_at (F.contents tree.old) p }
+    ensures calls { IsTrue F.tells → first_refusal (F.contents tree.old) (text_laid mark.now (length
+        mark_head) text.now) ≡ None →
+        GoesBy (is_own_or_sync (λ p. path_eq p mark.now)) (F.calls tree.old) (F.calls tree.new) }
     ensures frame { Came F.Tree tree.old tree.new }
     ensures read_fault { result ≢ Err FileFault.ReadFault }
     ensures write_fault { IsErrOf result FileFault.WriteFault →
@@ -103,6 +112,8 @@ pub(crate) fn open_mark<F: Tree>(
         first_refusal (F.contents tree.old) (gate_opened mark.now gate) ≡ None →
         (p : PathValue) → p ≢ mark.now →
         entry_at (F.contents tree.new) p ≡ entry_at (F.contents tree.old) p }
+    ensures calls { IsTrue F.tells → first_refusal (F.contents tree.old) (gate_opened mark.now gate) ≡ None →
+        GoesBy (is_own_or_sync (λ p. path_eq p mark.now)) (F.calls tree.old) (F.calls tree.new) }
     ensures frame { Came F.Tree tree.old tree.new }
     ensures read_fault { result ≢ Err FileFault.ReadFault }
     ensures write_fault { IsErrOf result FileFault.WriteFault →
@@ -129,6 +140,8 @@ pub(crate) fn finish_mark<F: Tree>(
     ensures elsewhere { IsTrue F.tells → first_refusal (F.contents tree.old) (ended mark.now) ≡ None
         → (p : PathValue) → p ≢ mark.now → entry_at (F.contents tree.new) p ≡ entry_at (F.contents
         tree.old) p }
+    ensures calls { IsTrue F.tells → first_refusal (F.contents tree.old) (ended mark.now) ≡ None →
+        GoesBy (is_own_or_sync (λ p. path_eq p mark.now)) (F.calls tree.old) (F.calls tree.new) }
     ensures frame { Came F.Tree tree.old tree.new }
     ensures read_fault { result ≢ Err FileFault.ReadFault }
     ensures write_fault { IsErrOf result FileFault.WriteFault →

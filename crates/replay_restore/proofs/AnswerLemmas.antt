@@ -1,16 +1,8 @@
 -- Answers of steps.
-use Rattle.std.proofs.Common.{◌≡◌, ◌⊎◌, Result, Ok, Err, OnOk, IfErr, inl, inr, ap, sym, subst, ◌∙◌}
+use Rattle.std.proofs.Common.{◌≡◌, ◌⊎◌, Result, Ok, Err, OnOk, IfErr, ap, sym, subst, ◌∙◌}
 use Rattle.cluster_tree.specs.Contents.{Contents}
 use Rattle.cluster_tree.specs.declared.file_fault.FileFault.{FileFault}
 use Rattle.file_edits.specs.Answers.{Does, IsFree}
-
-pub done-is : (meant new : Contents) → Does {A = Unit {0}} (Ok meant) new (Ok tt) → new ≡ meant
-done-is meant new done = cc
-
--- a free answer of one that isn't refused
-pub why-free : (meant : Contents) (r : Result Contents FileFault) (e : FileFault) → r ≡ Ok meant → IsFree e ⊎ (r ≡ Err e) → IsFree e
-why-free meant r e is (inl free) = free
-why-free meant r e is (inr refused) = let both = sym is ∙ refused in absurd cc
 
 pub ok-of : (meant : Result Contents FileFault) (new : Contents) (r : Result (Unit {0}) FileFault) (P : Type 0) → Does meant new r → (meant ≡ Ok new → P) → OnOk r P
 ok-of meant new (Ok u) P done next = next done

@@ -1,5 +1,4 @@
 mod AnswerLemmas
-mod PieceLemmas
 mod PageLemmas
 mod FillLemmas
 mod KindLemmas
@@ -10,3 +9,4 @@ mod AreaLemmas
 mod ClosedLemmas
 mod ReadyLemmas
 mod RestoreLemmas
+pub mod LooseLemmas

@@ -13,11 +13,10 @@ ghost use Rattle.replay_list.specs.Lines.{files_behind, path_at};
 ghost use Rattle.replay_restore.specs.Filled.{CanBring, CanBringAll, FitsFile, FitsFolder, has_path, is_spared, with_all, with_one};
 ghost use Rattle.stored_replay.specs.Shadows.{shadow_at};
 
-use crate::calls::{cut, make_file, make_folder};
 use crate::pages::fill_page;
-use crate::pieces::copy_bytes;
 use cluster_tree::{FileFault, Path, Tree};
 use file_edits::{file_size, is_folder};
+use piece_copies::{copy_bytes, cut, make_file, make_folder};
 use replay_list::Listed;
 use std::alloc::Global;
 use stored_replay::shadow_path;

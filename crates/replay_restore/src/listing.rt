@@ -6,8 +6,8 @@ ghost use Rattle.replay_restore.specs.Listing.{has_file, has_folder, is_file_at,
 use cluster_tree::Path;
 use replay_list::Listed;
 
-// Whether two paths are the same.
-fn is_same(path: &Path, other: &Path) -> bool
+/// Whether two paths are the same.
+pub(crate) fn is_same(path: &Path, other: &Path) -> bool
     ensures { result ≡ path_eq path.now other.now }
 {
     path.is(other.is_absolute(), other.parts())
@@ -23,8 +23,8 @@ fn is_folder_at(path: &Path, listed: &Listed) -> bool
     }
 }
 
-// Whether a file is.
-fn is_file_at(path: &Path, listed: &Listed) -> bool
+/// Whether a file is.
+pub(crate) fn is_file_at(path: &Path, listed: &Listed) -> bool
     ensures { result ≡ is_file_at path.now listed.now }
 {
     match listed {

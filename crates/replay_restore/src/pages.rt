@@ -11,9 +11,9 @@ ghost use Rattle.file_edits.specs.Own.{OnOwn};
 ghost use Rattle.file_edits.specs.Sparing.{Piece, Spares, spares};
 ghost use Rattle.replay_restore.specs.Filled.{FitsFile, resized};
 
-use crate::calls::{cut, make_file, write};
 use cluster_tree::{ChangeCall, FileFault, Path, Tree};
 use file_edits::file_size;
+use piece_copies::{cut, make_file, write};
 use std::alloc::Global;
 
 // As many zeros as are written at once.

@@ -2,7 +2,7 @@
 ghost use Rattle.std.specs.Prelude.{◌≡◌, ◌≢◌, ◌∷◌, ◌≤◌, [], bytes_eq, codes, false, length, true, IsTrue, IfErr, OnOk, Err, IsErrOf, List, ℕ};
 ghost use Rattle.std.specs.List.{list_all, list_any};
 ghost use Rattle.cluster_tree.specs.Causes.{Rose};
-ghost use Rattle.cluster_tree.specs.Contents.{Contents};
+ghost use Rattle.cluster_tree.specs.Contents.{Contents, entry_at, is_folder};
 ghost use Rattle.cluster_tree.specs.Frame.{Came};
 ghost use Rattle.cluster_tree.specs.PathValue.{PathValue, is_part};
 ghost use Rattle.cluster_tree.specs.Stops.{LeavesOnly, MayBeLeft};
@@ -73,6 +73,8 @@ fn free_label<F: Tree>(
         (done : List (List ℕ)) (first : Contents) → list_any (bytes_eq (codes "backup_label")) done ≡ false →
         IsFreeing listed.now root.now done first (F.contents tree.old) →
         IfErr result (IsRefusal root.now first) }
+    ensures label { IsTrue F.tells → has_file listed.now (label_path root.now) ≡ true →
+        is_folder (entry_at (F.contents tree.old) (label_path root.now)) ≡ true → OnOk result ⊥ }
     ensures own { IsTrue F.tells → is_closed root.now [] listed.now ≡ true →
         (done : List (List ℕ)) (first : Contents) → list_any (bytes_eq (codes "backup_label")) done ≡ false →
         IsFreeing listed.now root.now done first (F.contents tree.old) →
@@ -106,6 +108,9 @@ fn free_areas<F: Tree>(
         OnOk result (AreFreed listed.now root.now (F.contents tree.old) (F.contents tree.new)) }
     ensures refused { IsTrue F.tells → is_closed root.now [] listed.now ≡ true →
         IfErr result (IsRefusal root.now (F.contents tree.old)) }
+    ensures label { IsTrue F.tells → is_closed root.now [] listed.now ≡ true →
+        has_file listed.now (label_path root.now) ≡ true →
+        is_folder (entry_at (F.contents tree.old) (label_path root.now)) ≡ true → OnOk result ⊥ }
     ensures own { IsTrue F.tells → is_closed root.now [] listed.now ≡ true →
         OnOwn F.calls (goes_in listed.now (F.contents tree.old) root.now) tree.old tree.new }
     ensures frame { Came F.Tree tree.old tree.new }
@@ -143,6 +148,9 @@ pub fn restore_areas<F: Tree>(
         OnOk result (IsRestored root.now listed.now (F.contents tree.old) (F.contents tree.new)) }
     ensures refused { IsTrue F.tells → CanRestore root.now listed.now (F.contents tree.old) →
         IfErr result (IsRefusal root.now (F.contents tree.old)) }
+    // a folder at the label refuses
+    ensures label { IsTrue F.tells → CanRestore root.now listed.now (F.contents tree.old) →
+        is_folder (entry_at (F.contents tree.old) (label_path root.now)) ≡ true → OnOk result ⊥ }
     // no call is elsewhere
     ensures own { IsTrue F.tells → CanRestore root.now listed.now (F.contents tree.old) →
         OnOwn F.calls (is_restored_at root.now) tree.old tree.new }

@@ -1,6 +1,7 @@
 use Rattle.cluster_tree.specs.Frame.{moment_of}
 use Rattle.replay_copies.proofs.BeginLemmas.{begun-still, left-still}
 use Rattle.replay_copies.proofs.EndLemmas.{kept-unchanged}
+use Rattle.file_edits.specs.Own.{Same}
 use Rattle.replay_copies.proofs.begin.begin_copies.Goals as goal
 
 pub returns-in_err-text-clause-stops : goal.returns-in_err-text-clause-stops
@@ -17,3 +18,9 @@ returns-in_err-mark-clause-marked g c = λ told ready. begun-still c.args.root.n
 
 pub returns-clause-changed : goal.returns-clause-changed
 returns-clause-changed g c = λ told ready p. kept-unchanged c.args.root.now (g.F.Tree.contents c.args.tree.now) c.begin.result p (c.begin.ensures.begins told ready).refused
+
+pub returns-in_err-text-clause-calls : goal.returns-in_err-text-clause-calls
+returns-in_err-text-clause-calls g c = λ told there. Same
+
+pub returns-in_err-mark-clause-calls : goal.returns-in_err-mark-clause-calls
+returns-in_err-mark-clause-calls g c = λ told there. Same

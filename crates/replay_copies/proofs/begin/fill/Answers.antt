@@ -6,6 +6,7 @@ use Rattle.file_edits.specs.Own.{Same}
 use Rattle.replay_copies.specs.Copying.{CanCopy, Fills}
 use Rattle.replay_copies.proofs.BeginLemmas.{handed}
 use Rattle.replay_copies.proofs.FillLemmas.{all-filled, can-copy, copies-broken, gate-allowed, text-allowed, text-broken}
+use Rattle.replay_copies.proofs.CallLemmas.{copies-lay, lays-on, mark-lays}
 use Rattle.replay_copies.proofs.begin.fill.Goals as goal
 
 pub returns-in_err-lay_copies-clause-fills : goal.returns-in_err-lay_copies-clause-fills
@@ -46,3 +47,32 @@ returns-clause-fills g c = λ told old ready stands.
     all-filled c.args.root.now c.args.listed.now old ready a b stands course goes d on torn synced copies e c.open_mark.result (course_of g.F.Tree _ _ c.open_mark.ensures.frame)
     ((rw c.requires.mark at (c.open_mark.ensures.any_moment told)) open_none) ((rw c.requires.mark at (c.open_mark.ensures.synced told)) open_none) ((rw c.requires.mark at (c.open_mark.ensures.free told)) open_none)
     ((rw c.requires.mark at (c.open_mark.ensures.elsewhere told)) open_none)
+
+pub returns-in_err-lay_copies-clause-calls : goal.returns-in_err-lay_copies-clause-calls
+returns-in_err-lay_copies-clause-calls g c = λ told old ready stands. copies-lay c.args.root.now _ _ (c.lay_copies.ensures.own told _ Same)
+
+pub returns-in_err-fill_mark-clause-calls : goal.returns-in_err-fill_mark-clause-calls
+returns-in_err-fill_mark-clause-calls g c = λ told old ready stands.
+    let a = moment_of g.F.Tree c.args.tree.now in
+    let b = moment_of g.F.Tree c.lay_copies.new.tree in
+    let course = course_of g.F.Tree _ _ c.lay_copies.ensures.frame in
+    let goes = c.lay_copies.ensures.own told _ Same in
+    let none = text-allowed c.args.root.now c.args.listed.now old ready a b stands course goes in
+    lays-on c.args.root.now _ _ _ (copies-lay c.args.root.now _ _ goes) (mark-lays c.args.root.now _ _ ((rw (c.requires.mark, c.requires.text) at (c.fill_mark.ensures.calls told)) none))
+
+pub returns-clause-calls : goal.returns-clause-calls
+returns-clause-calls g c = λ told old ready stands.
+    let a = moment_of g.F.Tree c.args.tree.now in
+    let b = moment_of g.F.Tree c.lay_copies.new.tree in
+    let d = moment_of g.F.Tree c.fill_mark.new.tree in
+    let can = subst (CanCopy c.args.root.now c.args.listed.now) (sym stands.now) (can-copy c.args.root.now c.args.listed.now old ready) in
+    let course = course_of g.F.Tree _ _ c.lay_copies.ensures.frame in
+    let goes = c.lay_copies.ensures.own told _ Same in
+    let none = text-allowed c.args.root.now c.args.listed.now old ready a b stands course goes in
+    let on = course_of g.F.Tree _ _ c.fill_mark.ensures.frame in
+    let torn = (rw (c.requires.mark, c.requires.text) at (c.in_ok-fill_mark.ensures.any_moment told)) none in
+    let synced = (rw (c.requires.mark, c.requires.text) at (c.in_ok-fill_mark.ensures.synced told)) none in
+    let open_none = gate-allowed c.args.root.now c.args.listed.now old ready a b stands course goes d on torn synced (c.in_ok-lay_copies.ensures.copied told can) in
+    lays-on c.args.root.now _ _ _
+    (lays-on c.args.root.now _ _ _ (copies-lay c.args.root.now _ _ goes) (mark-lays c.args.root.now _ _ ((rw (c.requires.mark, c.requires.text) at (c.fill_mark.ensures.calls told)) none)))
+    (mark-lays c.args.root.now _ _ ((rw c.requires.mark at (c.open_mark.ensures.calls told)) open_none))

@@ -3,10 +3,10 @@ use Rattle.std.proofs.lemmas.List.{drop_all}
 use Rattle.std.proofs.lemmas.Result.{err_from_is_err_and}
 use Rattle.file_edits.proofs.AnswerLemmas.{handed-on}
 use Rattle.file_edits.proofs.OwnLemmas.{came-on}
+use Rattle.piece_copies.proofs.AnswerLemmas.{done-is, why-free}
 use Rattle.stored_replay.proofs.ShadowLemmas.{counted_more, rest_is}
 use Rattle.replay_copies.specs.Copying.{with_copy}
-use Rattle.replay_copies.proofs.CopyLemmas.{behind-all, behind-found, behind-on, done-is}
-use Rattle.replay_copies.proofs.PieceLemmas.{why-free}
+use Rattle.replay_copies.proofs.CopyLemmas.{behind-all, behind-found, behind-on}
 use Rattle.replay_copies.proofs.copying.copy_all.Goals as goal
 
 pub returns-in_err-copy_one-clause-exact : goal.returns-in_err-copy_one-clause-exact

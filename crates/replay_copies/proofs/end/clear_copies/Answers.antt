@@ -1,5 +1,6 @@
 use Rattle.cluster_tree.specs.Frame.{moment_of}
 use Rattle.replay_copies.proofs.EndLemmas.{clear-still, kept-unchanged}
+use Rattle.file_edits.specs.Own.{Same}
 use Rattle.replay_copies.proofs.end.clear_copies.Goals as goal
 
 pub returns-in_err-mark-clause-stops : goal.returns-in_err-mark-clause-stops
@@ -10,3 +11,9 @@ returns-in_err-folder-clause-stops g c = λ told file synced. clear-still c.args
 
 pub returns-clause-changed : goal.returns-clause-changed
 returns-clause-changed g c = λ told file p. kept-unchanged c.args.root.now (g.F.Tree.contents c.args.tree.now) c.clear.result p (c.clear.ensures.clears told file).refused
+
+pub returns-in_err-mark-clause-calls : goal.returns-in_err-mark-clause-calls
+returns-in_err-mark-clause-calls g c = λ told there. Same
+
+pub returns-in_err-folder-clause-calls : goal.returns-in_err-folder-clause-calls
+returns-in_err-folder-clause-calls g c = λ told there. Same

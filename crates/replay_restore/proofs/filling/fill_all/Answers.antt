@@ -8,7 +8,7 @@ use Rattle.file_edits.proofs.SparingLemmas.{spared-on}
 use Rattle.replay_list.specs.Lines.{path_at}
 use Rattle.stored_replay.proofs.ShadowLemmas.{counted_more, rest_is}
 use Rattle.replay_restore.specs.Filled.{has_path, is_spared, with_one}
-use Rattle.replay_restore.proofs.AnswerLemmas.{done-is, why-free}
+use Rattle.piece_copies.proofs.AnswerLemmas.{done-is, why-free}
 use Rattle.replay_restore.proofs.FillLemmas.{all-at, any-at, any-past, behind-all, behind-can, behind-none, behind-on}
 use Rattle.replay_restore.proofs.filling.fill_all.Goals as goal
 

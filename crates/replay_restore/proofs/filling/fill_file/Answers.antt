@@ -1,5 +1,5 @@
 use Rattle.file_edits.proofs.OwnLemmas.{own-on}
-use Rattle.replay_restore.proofs.AnswerLemmas.{done-is}
+use Rattle.piece_copies.proofs.AnswerLemmas.{done-is}
 use Rattle.replay_restore.proofs.FillLemmas.{file-filled}
 use Rattle.replay_restore.proofs.filling.fill_file.Goals as goal
 

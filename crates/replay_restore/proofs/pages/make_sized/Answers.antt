@@ -1,6 +1,6 @@
 use Rattle.file_edits.proofs.OwnLemmas.{own-on}
 use Rattle.file_edits.proofs.SparingLemmas.{padded-spares}
-use Rattle.replay_restore.proofs.AnswerLemmas.{done-is}
+use Rattle.piece_copies.proofs.AnswerLemmas.{done-is}
 use Rattle.replay_restore.proofs.PageLemmas.{file-unrefused, made-size, sized-new}
 use Rattle.replay_restore.proofs.pages.make_sized.Goals as goal
 

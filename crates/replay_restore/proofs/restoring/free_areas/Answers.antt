@@ -1,6 +1,10 @@
-use Rattle.std.proofs.Common.{refl}
+use Rattle.std.proofs.Common.{codes, refl, ap, ◌∙◌}
 use Rattle.std.proofs.lemmas.Result.{err_from_is_err_and}
+use Rattle.cluster_tree.specs.Contents.{is_folder}
+use Rattle.cluster_tree.specs.PathValue.{PathValue}
+use Rattle.file_edits.proofs.ClearLemmas.{held-own}
 use Rattle.file_edits.proofs.OwnLemmas.{own-on}
+use Rattle.replay_restore.specs.Freed.{label_path}
 use Rattle.replay_restore.proofs.AnswerLemmas.{err-given, ok-wider}
 use Rattle.replay_restore.proofs.AreaLemmas.{areas-freed}
 use Rattle.replay_restore.proofs.InsideLemmas.{freeing-none}
@@ -85,6 +89,17 @@ returns-clause-refused g c told closed =
     let f3 = c.in_ok-free_area-3.ensures.done told closed _ first refl f2 in
     let f4 = c.in_ok-free_area-4.ensures.done told closed _ first refl f3 in
     c.free_label.ensures.refused told closed _ first refl f4
+
+pub returns-clause-label : goal.returns-clause-label
+returns-clause-label g c told closed label stands =
+    let first = g.F.Tree.contents c.args.tree.now in
+    let f0 = freeing-none c.args.listed.now c.args.root.now first first refl in
+    let f1 = c.in_ok-free_area.ensures.done told closed _ first refl f0 in
+    let f2 = c.in_ok-free_area-2.ensures.done told closed _ first refl f1 in
+    let f3 = c.in_ok-free_area-3.ensures.done told closed _ first refl f2 in
+    let f4 = c.in_ok-free_area-4.ensures.done told closed _ first refl f3 in
+    let path : PathValue = label_path c.args.root.now in
+    c.free_label.ensures.label told label (ap is_folder (f4.left (codes "backup_label") refl path (held-own path)) ∙ stands)
 
 pub returns-clause-own : goal.returns-clause-own
 returns-clause-own g c told closed =

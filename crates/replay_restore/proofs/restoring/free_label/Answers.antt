@@ -16,6 +16,11 @@ returns-then-not-has_file-clause-done g c told closed has done first other freei
     let off : has_file c.args.listed.now c.in_ok-path.path ≡ false = search rules in
     absurd (true≢false (sym has ∙ ap (has_file c.args.listed.now) (sym c.in_ok-path.ensures.value) ∙ off))
 
+pub returns-then-not-has_file-clause-label : goal.returns-then-not-has_file-clause-label
+returns-then-not-has_file-clause-label g c told has stands =
+    let off : has_file c.args.listed.now c.in_ok-path.path ≡ false = search rules in
+    absurd (true≢false (sym has ∙ ap (has_file c.args.listed.now) (sym c.in_ok-path.ensures.value) ∙ off))
+
 pub returns-in_err-standing-clause-refused : goal.returns-in_err-standing-clause-refused
 returns-in_err-standing-clause-refused g c told closed done first other freeing =
     let p = err_from_is_err_and c.from_residual-in_err-standing.result c.from_residual-in_err-standing.ensures.1 in

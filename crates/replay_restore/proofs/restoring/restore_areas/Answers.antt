@@ -6,10 +6,11 @@ use Rattle.cluster_tree.specs.Run.{Still}
 use Rattle.file_edits.specs.Own.{Same}
 use Rattle.file_edits.proofs.OwnLemmas.{own-on, own-wider}
 use Rattle.file_edits.proofs.SparingLemmas.{spared-own, spared-stop}
+use Rattle.piece_copies.proofs.AnswerLemmas.{why-free}
 use Rattle.replay_restore.specs.Filled.{has_path, with_all}
 use Rattle.replay_restore.specs.Freed.{IsRefusal, goes_in}
 use Rattle.replay_restore.specs.Listing.{is_restored_at}
-use Rattle.replay_restore.proofs.AnswerLemmas.{err-given, err-of, if-err, ok-of, ok-same, why-free}
+use Rattle.replay_restore.proofs.AnswerLemmas.{err-given, err-of, if-err, ok-of, ok-same}
 use Rattle.replay_restore.proofs.FreeLemmas.{came-elsewhere}
 use Rattle.replay_restore.proofs.RestoreLemmas.{file-stays, goes_in-restored, paths-placed, refusal-unchanged, restore-can, restore-done}
 use Rattle.replay_restore.proofs.restoring.restore_areas.Goals as goal
@@ -55,6 +56,10 @@ returns-clause-refused g c told can =
     let ready = restore-can c.args.root.now c.args.listed.now old mid can freed same in
     err-of _ _ c.fill_all.result (IsRefusal c.args.root.now old) (c.fill_all.ensures.exact told ready)
     (λ e why. inl (why-free (with_all c.args.root.now 0 c.args.listed.now mid) _ e refl why))
+
+pub returns-clause-label : goal.returns-clause-label
+returns-clause-label g c told can stands =
+    absurd (c.in_ok-free_areas.ensures.label told can.closed can.label stands)
 
 pub returns-clause-own : goal.returns-clause-own
 returns-clause-own g c told can =
