@@ -54,6 +54,8 @@ fn begin<F: Tree, M: Manager>(
         Rose (F.failed_reads tree.old) (F.failed_reads tree.new) }
     ensures walk_fault { IsErrOf result (RestartFault.Walk (walk.File file.ReadFault)) →
         Rose (F.failed_reads tree.old) (F.failed_reads tree.new) }
+    // a walk only reads
+    ensures walk_reads { result ≢ Err (RestartFault.Walk (walk.File file.WriteFault)) }
     ensures changed { IsTrue F.tells → (p : PathValue) →
         (result ≢ Err (RestartFault.Replay (replay.Cluster (cluster.Changed p))))
         × (result ≢ Err (RestartFault.Walk (walk.File (file.Changed p)))) }
@@ -89,6 +91,8 @@ fn begin_without<F: Tree, M: Manager>(
         Rose (F.failed_reads tree.old) (F.failed_reads tree.new) }
     ensures walk_fault { IsErrOf result (RestartFault.Walk (walk.File file.ReadFault)) →
         Rose (F.failed_reads tree.old) (F.failed_reads tree.new) }
+    // a walk only reads
+    ensures walk_reads { result ≢ Err (RestartFault.Walk (walk.File file.WriteFault)) }
     ensures changed { IsTrue F.tells → (p : PathValue) →
         (result ≢ Err (RestartFault.Replay (replay.Cluster (cluster.Changed p))))
         × (result ≢ Err (RestartFault.Walk (walk.File (file.Changed p)))) }
@@ -126,6 +130,8 @@ pub fn start_again<F: Tree, M: Manager>(
         Rose (F.failed_reads tree.old) (F.failed_reads tree.new) }
     ensures walk_fault { IsErrOf result (RestartFault.Walk (walk.File file.ReadFault)) →
         Rose (F.failed_reads tree.old) (F.failed_reads tree.new) }
+    // a walk only reads
+    ensures walk_reads { result ≢ Err (RestartFault.Walk (walk.File file.WriteFault)) }
     ensures changed { IsTrue F.tells → (p : PathValue) →
         (result ≢ Err (RestartFault.Replay (replay.Cluster (cluster.Changed p))))
         × (result ≢ Err (RestartFault.Walk (walk.File (file.Changed p)))) }

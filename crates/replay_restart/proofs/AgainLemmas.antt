@@ -1,0 +1,231 @@
+-- A replay that is begun again, and one that had ended, step by step.
+use Rattle.std.proofs.Common.{◌≡◌, ◌∙◌, ◌⊎◌, inl, inr, ⊎_elim, List, Option, is_some, Result, Ok, Err, IfErr, OnOk, false, refl, ap, sym, subst}
+use Rattle.cluster_tree.specs.Contents.{Contents, entry_at}
+use Rattle.cluster_tree.specs.PathValue.{PathValue}
+use Rattle.cluster_tree.specs.Run.{Course, Moment, Occurs}
+use Rattle.cluster_tree.specs.Stops.{LeavesOnly}
+use Rattle.cluster_tree.specs.declared.file_fault.FileFault.{FileFault}
+use Rattle.cluster_tree.proofs.RunLemmas.{calls_on}
+use Rattle.file_edits.specs.Clearing.{tree_removed}
+use Rattle.file_edits.specs.Own.{GoesOn}
+use Rattle.marked_runs.specs.Moments.{IsBegun, IsMarked, IsUntouched, StandsMarked, StandsSynced}
+use Rattle.marked_runs.proofs.StopLemmas.{leaves_on, leaves_weaker}
+use Rattle.replay_copies.specs.Calls.{LaysOnly}
+use Rattle.replay_copies.specs.Ended.{IsClearLeft, IsGone}
+use Rattle.replay_copies.specs.Laid.{SameElsewhere, mark_of}
+use Rattle.replay_copies.specs.Left.{HasFile, IsKept, LeavesFile}
+use Rattle.replay_core.specs.Within.{LogStays, StaysWithin}
+use Rattle.replay_core.proofs.StopLemmas.{own-left}
+use Rattle.replay_core.proofs.WithinLemmas.{then_within}
+use Rattle.replay_list.specs.declared.listed.Listed.{Listed}
+use Rattle.replay_restore.specs.Freed.{IsRefusal}
+use Rattle.replay_restore.specs.Listing.{is_restored_at}
+use Rattle.replay_restore.specs.Restored.{IsRestored}
+use Rattle.restart_start.specs.Beginning.{WhyNot, without_own}
+use Rattle.restart_start.specs.declared.fault.RestartFault.{RestartFault as StartFault}
+use Rattle.rmgr_hooks.specs.Custom.{Extension}
+use Rattle.stored_replay.specs.Shadows.{shadow_folder}
+use Rattle.stored_replay.specs.Stored.{Begun, HadEnded}
+use Rattle.replay_restart.specs.Faults.{IsFree, of_files, of_start}
+use Rattle.replay_restart.specs.Left.{BringsBack, IsLeftByRestart, Restarts}
+use Rattle.replay_restart.specs.Meant.{NotAgain, NotBack, NotEnded, WasEnded, WhyEnded, taken_of}
+use Rattle.replay_start.specs.declared.fault.ReplayFault.TheVariants as replay
+use Rattle.replay_restart.specs.declared.fault.RestartFault.{RestartFault}
+use Rattle.replay_restart.specs.declared.fault.RestartFault.TheVariants as fault
+use Rattle.replay_restart.specs.declared.outcome.Restarted.TheVariants as told
+use Rattle.replay_restart.proofs.CallLemmas.{lays-within, own-within}
+use Rattle.replay_restart.proofs.OverLemmas.{file-marked, files-free}
+use Rattle.replay_restart.proofs.PlaceLemmas.{laid-not_restored, log-not_laid, log-not_restored, mark-laid, restored-held}
+
+-- ---- what is listed is brought back, from a first moment over a sync to a second one
+
+module _ (root : PathValue) (listed : List Listed) (a b : Moment) (ab : Course a b) (same_ab : b.state.contents ≡ a.state.contents) (stops_ab : LeavesOnly (IsUntouched a) a.stops b.stops) (within_ab : StaysWithin root a.state b.state) where
+  abbrev C : Contents
+  C = a.state.contents
+
+  abbrev mark : PathValue
+  mark = mark_of root
+
+  untouched-begun : LeavesOnly (IsBegun mark a) a.stops b.stops
+  untouched-begun = leaves_weaker (IsUntouched a) (IsBegun mark a) a.stops b.stops (λ x u. inl u) stops_ab
+
+  pub first-broken : (e : RestartFault) → IsFree e → BringsBack root listed a b (Err e)
+  first-broken e free = record {
+    done = tt;
+    refused = inl free;
+    mark = ap (λ x. entry_at x mark) same_ab;
+    stops = λ marked. untouched-begun;
+    within = within_ab;
+    log = λ path holds. ap (λ x. entry_at x path) same_ab;
+  }
+
+  module _ (synced : StandsSynced C b) (d : Moment) (bd : Course b d) (own : GoesOn (is_restored_at root) b.state.calls d.state.calls)
+      (elsewhere : (p : PathValue) → is_restored_at root p ≡ false → entry_at d.state.contents p ≡ entry_at b.state.contents p) where
+    mark-d : entry_at d.state.contents mark ≡ entry_at C mark
+    mark-d = elsewhere mark (laid-not_restored root mark (mark-laid root)) ∙ ap (λ x. entry_at x mark) same_ab
+
+    log-d : LogStays root C d.state.contents
+    log-d path holds = elsewhere path (log-not_restored root path holds) ∙ ap (λ x. entry_at x path) same_ab
+
+    within-d : StaysWithin root a.state d.state
+    within-d = then_within root a.state b.state d.state within_ab (own-within (is_restored_at root) root b.state d.state (restored-held root) own elsewhere)
+
+    stands-b : IsMarked mark C → StandsMarked mark b
+    stands-b marked = record { now = subst (IsMarked mark) (sym synced.now) marked; left = λ x image. subst (IsMarked mark) (sym (synced.left x image)) marked }
+
+    left-d : IsMarked mark C → LeavesOnly (IsBegun mark a) a.stops d.stops
+    left-d marked =
+        leaves_on (IsBegun mark a) a b d ab bd untouched-begun
+        (leaves_weaker (IsMarked mark) (IsBegun mark a) b.stops d.stops (λ x m. inr m) (own-left (is_restored_at root) mark b d (laid-not_restored root mark (mark-laid root)) (stands-b marked) bd own))
+
+    pub restore-broken : (f : FileFault) → IsRefusal root b.state.contents f → BringsBack root listed a d (Err (of_files f))
+    restore-broken f refused = record {
+      done = tt;
+      refused = inr (f, subst (λ x. IsRefusal root x f) same_ab refused, refl);
+      mark = mark-d;
+      stops = left-d;
+      within = within-d;
+      log = log-d;
+    }
+
+    module _ (e : Moment) (de : Course d e) (same_de : e.state.contents ≡ d.state.contents) (stops_de : LeavesOnly (IsUntouched d) d.stops e.stops) (within_de : StaysWithin root d.state e.state) where
+      marked-d : IsMarked mark C → IsMarked mark d.state.contents
+      marked-d marked = ap is_some mark-d ∙ marked
+
+      untouched-d : IsMarked mark C → (x : Contents) → IsUntouched d x → IsBegun mark a x
+      untouched-d marked x (inl is) = inr (subst (IsMarked mark) (sym is) (marked-d marked))
+      untouched-d marked x (inr image) = (left-d marked).each x (inl image)
+
+      left-e : IsMarked mark C → LeavesOnly (IsBegun mark a) a.stops e.stops
+      left-e marked =
+          leaves_on (IsBegun mark a) a d e (calls_on Occurs a b d ab bd) de (left-d marked)
+          (leaves_weaker (IsUntouched d) (IsBegun mark a) d.stops e.stops (untouched-d marked) stops_de)
+
+      mark-e : entry_at e.state.contents mark ≡ entry_at C mark
+      mark-e = ap (λ x. entry_at x mark) same_de ∙ mark-d
+
+      log-e : LogStays root C e.state.contents
+      log-e path holds = ap (λ x. entry_at x path) same_de ∙ log-d path holds
+
+      within-e : StaysWithin root a.state e.state
+      within-e = then_within root a.state d.state e.state within-d within_de
+
+      pub last-broken : (f : RestartFault) → IsFree f → BringsBack root listed a e (Err f)
+      last-broken f free = record { done = tt; refused = inl free; mark = mark-e; stops = left-e; within = within-e; log = log-e }
+
+      pub all-back : IsRestored root listed b.state.contents d.state.contents → StandsSynced d.state.contents e → BringsBack root listed a e (Ok tt)
+      all-back restored last = record {
+        done = (subst (λ x. IsRestored root listed x e.state.contents) same_ab (subst (IsRestored root listed b.state.contents) (sym same_de) restored), record { now = refl; left = λ x image. last.left x image ∙ sym same_de });
+        refused = tt;
+        mark = mark-e;
+        stops = left-e;
+        within = within-e;
+        log = log-e;
+      }
+
+      pub last-synced : (r : Result (Unit {0}) RestartFault) → OnOk r (StandsSynced d.state.contents e) → IfErr r (λ f. f ≡ fault.Replay replay.WriteFault) → IsRestored root listed b.state.contents d.state.contents → BringsBack root listed a e r
+      last-synced (Ok u) last is restored = all-back restored last
+      last-synced (Err f) last is restored = last-broken f (subst IsFree (sym is) (inr (inl refl)))
+
+-- ---- and then the replay is refused
+
+module _ (custom : Option Extension) (root : PathValue) (listed : List Listed) (a b : Moment) (taken : taken_of a.state.contents root ≡ Ok (Begun listed)) (marked : IsMarked (mark_of root) a.state.contents) where
+  begun-left : (x : Contents) → IsBegun (mark_of root) a x → IsLeftByRestart custom root a x
+  begun-left x (inl untouched) = inl untouched
+  begun-left x (inr there) = inr (inl there)
+
+  mark-stays : entry_at b.state.contents (mark_of root) ≡ entry_at a.state.contents (mark_of root) → IsMarked (mark_of root) b.state.contents
+  mark-stays same = ap is_some same ∙ marked
+
+  back-why : (e : RestartFault) → IsFree e ⊎ ((f : FileFault) × IsRefusal root a.state.contents f × (e ≡ of_files f)) → IsFree e ⊎ WhyEnded custom a.state.contents root e
+  back-why e (inl free) = inl free
+  back-why e (inr (f, refused, is)) = inr (subst (WhyEnded custom a.state.contents root) (sym is) (NotBack listed f taken refused))
+
+  pub not-back : (e : RestartFault) → BringsBack root listed a b (Err e) → Restarts custom root a b (Err e)
+  not-back e back = record {
+    done = tt;
+    refused = back-why e back.refused;
+    stands = inr (inr (mark-stays back.mark));
+    stops = leaves_weaker (IsBegun (mark_of root) a) (IsLeftByRestart custom root a) a.stops b.stops begun-left (back.stops marked);
+    synced = tt;
+    within = back.within;
+    log = back.log;
+  }
+
+  start-why : (e : StartFault) → IsRestored root listed a.state.contents b.state.contents → IsFree (of_start e) ⊎ WhyNot custom (without_own b.state.contents root) root e → IsFree (of_start e) ⊎ WhyEnded custom a.state.contents root (of_start e)
+  start-why e restored (inl free) = inl free
+  start-why e restored (inr why) = inr (NotAgain listed b.state.contents e taken restored why)
+
+  pub not-again : (d : Moment) (e : StartFault) → d ≡ b → BringsBack root listed a b (Ok tt) → IsFree (of_start e) ⊎ WhyNot custom (without_own b.state.contents root) root e → Restarts custom root a d (Err (of_start e))
+  not-again d e same back why = subst (λ m. Restarts custom root a m (Err (of_start e))) (sym same) (record {
+    done = tt;
+    refused = start-why e back.done.0 why;
+    stands = inr (inr (mark-stays back.mark));
+    stops = leaves_weaker (IsBegun (mark_of root) a) (IsLeftByRestart custom root a) a.stops b.stops begun-left (back.stops marked);
+    synced = tt;
+    within = back.within;
+    log = back.log;
+  })
+
+-- ---- a replay that had ended
+
+module _ (custom : Option Extension) (root : PathValue) (a b : Moment) (ab : Course a b) (same_ab : b.state.contents ≡ a.state.contents) (stops_ab : LeavesOnly (IsUntouched a) a.stops b.stops) (within_ab : StaysWithin root a.state b.state)
+    (taken : taken_of a.state.contents root ≡ Ok HadEnded) where
+  untouched-left : LeavesOnly (IsLeftByRestart custom root a) a.stops b.stops
+  untouched-left = leaves_weaker (IsUntouched a) (IsLeftByRestart custom root a) a.stops b.stops (λ x u. inl u) stops_ab
+
+  pub end-unsynced : (e : RestartFault) → IsFree e → Restarts custom root a b (Err e)
+  end-unsynced e free = record {
+    done = tt;
+    refused = inl free;
+    stands = inl free;
+    stops = untouched-left;
+    synced = tt;
+    within = within_ab;
+    log = λ path holds. ap (λ x. entry_at x path) same_ab;
+  }
+
+  module _ (file : HasFile root a.state.contents) (d : Moment) (bd : Course b d) (calls : LaysOnly root b.state.calls d.state.calls) (elsewhere : SameElsewhere root b.state.contents d.state.contents)
+      (stops : LeavesOnly (IsClearLeft root b.state.contents) b.stops d.stops) where
+    elsewhere-a : (x : Contents) → SameElsewhere root b.state.contents x → SameElsewhere root a.state.contents x
+    elsewhere-a x same = subst (λ y. SameElsewhere root y x) same_ab same
+
+    clear-left : (x : Contents) → IsClearLeft root b.state.contents x → IsLeftByRestart custom root a x
+    clear-left x left =
+        ⊎_elim (λ same. inr (inl (ap is_some same ∙ ap (λ y. is_some (entry_at y (mark_of root))) same_ab ∙ file-marked root a.state.contents file)))
+        (λ gone. inr (inr (told.HadEnded, WasEnded taken (record { gone = gone; elsewhere = elsewhere-a x left.elsewhere })))) left.told
+
+    stops-end : LeavesOnly (IsLeftByRestart custom root a) a.stops d.stops
+    stops-end = leaves_on (IsLeftByRestart custom root a) a b d ab bd untouched-left (leaves_weaker (IsClearLeft root b.state.contents) (IsLeftByRestart custom root a) b.stops d.stops clear-left stops)
+
+    within-end : StaysWithin root a.state d.state
+    within-end = then_within root a.state b.state d.state within_ab (lays-within root b.state d.state calls elsewhere)
+
+    log-end : LogStays root a.state.contents d.state.contents
+    log-end path holds = elsewhere-a d.state.contents elsewhere path (log-not_laid root path holds)
+
+    ended-why : (f : FileFault) → IsKept root b.state.contents f → IsFree (of_files f) ⊎ WhyEnded custom a.state.contents root (of_files f)
+    ended-why f (inl free) = inl (files-free f free)
+    ended-why f (inr is) = inr (NotEnded f taken (ap (tree_removed (shadow_folder root)) (sym same_ab) ∙ is))
+
+    pub end-broken : (f : FileFault) → IsKept root b.state.contents f → LeavesFile root d.state.contents f → Restarts custom root a d (Err (of_files f))
+    end-broken f kept left = record {
+      done = tt;
+      refused = ended-why f kept;
+      stands = ⊎_elim (λ free. inl (files-free f free)) (λ there. inr (inr (file-marked root d.state.contents there))) left;
+      stops = stops-end;
+      synced = tt;
+      within = within-end;
+      log = log-end;
+    }
+
+    pub all-ended : IsGone root d.state.contents → StandsSynced d.state.contents d → Restarts custom root a d (Ok told.HadEnded)
+    all-ended gone synced = record {
+      done = WasEnded taken (record { gone = gone; elsewhere = elsewhere-a d.state.contents elsewhere });
+      refused = tt;
+      stands = tt;
+      stops = stops-end;
+      synced = synced;
+      within = within-end;
+      log = log-end;
+    }

@@ -1,0 +1,56 @@
+// A replay that is begun where none was.
+ghost use Rattle.std.specs.Prelude.{◌≡◌, ◌≢◌, ◌≤◌, length, Err, IsErrOf, IsTrue, Ok};
+ghost use Rattle.cluster_tree.specs.Causes.{Rose};
+ghost use Rattle.cluster_tree.specs.Frame.{Came, moment_of};
+ghost use Rattle.cluster_tree.specs.PathValue.{PathValue};
+ghost use Rattle.cluster_tree.specs.declared.file_fault.FileFault.TheVariants as file;
+ghost use Rattle.clusters.specs.declared.fault.ClusterFault.TheVariants as cluster;
+ghost use Rattle.file_walk.specs.declared.fault.WalkFault.TheVariants as walk;
+ghost use Rattle.replay_restart.specs.Left.{Restarts};
+ghost use Rattle.replay_restart.specs.Meant.{WhyFirst, taken_of};
+ghost use Rattle.replay_start.specs.declared.fault.ReplayFault.TheVariants as replay;
+ghost use Rattle.rmgr_hooks.specs.Custom.{handed_in};
+ghost use Rattle.stored_replay.specs.Stored.{NotBegun};
+
+use crate::fault::RestartFault;
+use crate::outcome::Restarted;
+use crate::over::replay_over;
+use cluster_tree::{Path, Tree};
+use replay_copies::begin_copies;
+use restart_start::start_again;
+use rmgr_hooks::Manager;
+use std::alloc::Global;
+
+/// Begins a replay where none was, and carries it out.
+pub(crate) fn replay_anew<F: Tree, M: Manager>(
+    alloc: Global,
+    tree: &mut F,
+    root: &Path,
+    custom: Option<&M>,
+) -> Result<Restarted, RestartFault>
+    requires room { length root.now.parts ≤ 61 }
+    requires taken { IsTrue F.tells → taken_of (F.contents tree.old) root.now ≡ Ok NotBegun }
+    ensures restarts { IsTrue F.tells → Restarts (handed_in M.Manager custom.entry) root.now
+        (moment_of F.Tree tree.old) (moment_of F.Tree tree.new) result }
+    ensures first { IsTrue F.tells → (e : RestartFault) →
+        WhyFirst (handed_in M.Manager custom.entry) (F.contents tree.old) root.now e →
+        (moment_of F.Tree tree.new ≡ moment_of F.Tree tree.old)
+        × (result ≢ Err (RestartFault.Replay replay.WriteFault)) }
+    ensures frame { Came F.Tree tree.old tree.new }
+    ensures read_fault { IsErrOf result (RestartFault.Replay (replay.Cluster cluster.ReadFault)) →
+        Rose (F.failed_reads tree.old) (F.failed_reads tree.new) }
+    ensures walk_fault { IsErrOf result (RestartFault.Walk (walk.File file.ReadFault)) →
+        Rose (F.failed_reads tree.old) (F.failed_reads tree.new) }
+    // a walk only reads
+    ensures walk_reads { result ≢ Err (RestartFault.Walk (walk.File file.WriteFault)) }
+    ensures write_fault { IsErrOf result (RestartFault.Replay replay.WriteFault) →
+        Rose (F.failed_changes tree.old) (F.failed_changes tree.new) }
+    ensures changed { IsTrue F.tells → (p : PathValue) →
+        (result ≢ Err (RestartFault.Replay (replay.Cluster (cluster.Changed p))))
+        × (result ≢ Err (RestartFault.Walk (walk.File (file.Changed p)))) }
+{
+    let begun = start_again(alloc, tree, root, custom)?;
+    begin_copies(alloc, tree, root, begun.listed.listed())?;
+    let count = replay_over(alloc, tree, root, begun.checked, custom)?;
+    Ok(Restarted::Replayed(count))
+}
