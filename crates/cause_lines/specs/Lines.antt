@@ -15,7 +15,7 @@ use Rattle.cause_lines.specs.declared.lines.Line.TheVariants as line
 use Rattle.cause_lines.specs.declared.fixed.Fixed.{Fixed}
 use Rattle.cause_lines.specs.declared.fixed.Fixed.TheVariants as fixed
 use Rattle.commands.specs.Name.{name_text}
-use Rattle.cause_lines.specs.Pieces.{crc_pieces, difference_pieces, end_pieces, ends_pieces, entry_pieces, missing_pieces, number_pieces, page_pieces, path_pieces}
+use Rattle.cause_lines.specs.Pieces.{block_pieces, crc_pieces, difference_pieces, end_pieces, ends_pieces, entry_pieces, missing_pieces, number_pieces, path_pieces}
 use Rattle.cause_lines.specs.Pieces.{place_pieces, record_pieces, redo_pieces, shape_pieces, special_pieces, systems_pieces}
 
 -- the name of a cause without values
@@ -87,7 +87,9 @@ line_of name (cause.Replay (replay.BadLabel root n)) = line_with name (number_pi
 line_of name (cause.Replay (replay.NotInProfile at manager info)) = line_with name (special_pieces (codes "NotInProfile") at manager info)
 line_of name (cause.Replay (replay.EndsTooSoon end least)) = line_with name (ends_pieces (codes "EndsTooSoon") end least)
 line_of name (cause.Replay (replay.RedoFailed at block why)) = line_with name (redo_pieces at block why)
-line_of name (cause.Replay (replay.MissingPage block)) = line_with name (page_pieces block)
+line_of name (cause.Replay (replay.MissingPage block)) = line_with name (block_pieces (codes "MissingPage") block)
+line_of name (cause.Replay (replay.ShadowDiffers path)) = line_with name (path_pieces (codes "ShadowDiffers") path)
+line_of name (cause.Replay (replay.NotRestartable block)) = line_with name (block_pieces (codes "NotRestartable") block)
 line_of name (cause.Differs path block) = line_with name (difference_pieces path block)
 
 -- the text of a line on its way

@@ -81,9 +81,9 @@ redo_name redo.PageShape = codes "PageShape"
 abbrev pub redo_pieces : Lsn → BlockName → RedoWhy → List (List ℕ)
 redo_pieces at name why = codes "RedoFailed " ∷ lsn_text at.0 ∷ codes " " ∷ block_text name ∷ codes " " ∷ redo_name why ∷ []
 
--- a block that isn't there
-abbrev pub page_pieces : BlockName → List (List ℕ)
-page_pieces name = codes "MissingPage " ∷ block_text name ∷ []
+-- a cause with a block
+abbrev pub block_pieces : List ℕ → BlockName → List (List ℕ)
+block_pieces what name = what ∷ codes " " ∷ block_text name ∷ []
 
 -- a root, and a timeline whose history isn't there
 abbrev pub missing_pieces : PathValue → ℕ → List (List ℕ)

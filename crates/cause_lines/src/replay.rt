@@ -1,7 +1,7 @@
 // The lines of replays.
 ghost use Rattle.std.specs.Prelude.{◌≡◌, string_bytes, IfOk};
 ghost use Rattle.cause_lines.specs.Lines.{line_of, line_with};
-ghost use Rattle.cause_lines.specs.Pieces.{page_pieces, redo_name, redo_pieces};
+ghost use Rattle.cause_lines.specs.Pieces.{block_pieces, redo_name, redo_pieces};
 
 use crate::lines::{number_line, path_line};
 use crate::unfit::{ends_line, special_line};
@@ -38,16 +38,18 @@ fn redo_line(
     format!(in alloc; "{name}: error: RedoFailed {at} {block} {why}\n")
 }
 
-// The line of a block that isn't there.
-fn page_line(
+// The line of a cause with a block.
+fn block_line(
     alloc: Global,
     name: Option<CommandName>,
+    what: &str,
     block: BlockName,
 ) -> Result<String, AllocError>
-    ensures { IfOk result (λ line. string_bytes line ≡ line_with name (page_pieces block)) }
+    ensures { IfOk result (λ line. string_bytes line ≡ line_with name
+        (block_pieces what.now block)) }
 {
     let name = name_text(name);
-    format!(in alloc; "{name}: error: MissingPage {block}\n")
+    format!(in alloc; "{name}: error: {what} {block}\n")
 }
 
 /// The line of why a log isn't replayed, or not to its end.
@@ -70,6 +72,8 @@ pub(crate) fn replay_line(
             ends_line(alloc, name, "EndsTooSoon", *end, *least)
         }
         ReplayCause::RedoFailed(at, block, why) => redo_line(alloc, name, *at, *block, *why),
-        ReplayCause::MissingPage(block) => page_line(alloc, name, *block),
+        ReplayCause::MissingPage(block) => block_line(alloc, name, "MissingPage", *block),
+        ReplayCause::ShadowDiffers(copy) => path_line(alloc, name, "ShadowDiffers", copy),
+        ReplayCause::NotRestartable(block) => block_line(alloc, name, "NotRestartable", *block),
     }
 }

@@ -54,5 +54,6 @@ IsFit (command.Waldump words) = IsFitWaldump words
 IsFit (command.Resetwal words) = IsFitResetwal words
 IsFit (command.Archivecleanup words) = IsFitArchivecleanup words
 IsFit (command.Walreplay words) = IsFitRoot words.root
+IsFit (command.Restart words) = IsFitRoot words.root
 IsFit (command.Walcompare words) = AreFitRoots words.first words.second
 IsFit (command.Pair words) = IsFitPair words

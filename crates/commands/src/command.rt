@@ -21,6 +21,8 @@ pub enum Command {
     Archivecleanup(ArchivecleanupWords),
     /// pg_walreplay.
     Walreplay(WalreplayWords),
+    /// pg_walreplay --restart.
+    Restart(WalreplayWords),
     /// pg_walcompare.
     Walcompare(WalcompareWords),
     /// pair.

@@ -49,19 +49,21 @@ pub enum PathCause {
     /// A root or the folder of a log has a part `..`.
     DotDot,
     /// A root has more than 61 parts, or the folder of a log more than 62; of one with more than 64
-    /// parts the first 64. Or a path that a rewind or a comparison finds below a root has more than 64
-    /// with those of its root, or of a rewind's target; of it the first 64 behind the root's. Or
-    /// something lies in a folder of 64 parts, at or below one that a record removes; that folder.
+    /// parts the first 64. Or a path that a rewind or a comparison finds below a root, or a replay that
+    /// can be started again where it lists what stands, has more than 64 with those of its root, or of a
+    /// rewind's target; of it the first 64 behind the root's. Or something lies in a folder of 64 parts,
+    /// at or below one that a record removes; that folder.
     TooDeep(Path),
     /// One of two roots is the other or lies in it.
     PathsOverlap,
     /// What has to be a folder isn't there, or is a file.
     NotFolder(Path),
     /// What has to be a folder, or a file that is to be removed or that a record needs, is a link or a
-    /// special file; or one stands below a root of a rewind or a comparison, at this path below it.
+    /// special file; or one stands below a root of a rewind or a comparison, or where a replay that can be
+    /// started again lists what stands, at this path below it.
     Link(Path),
-    /// A folder holds a name that isn't text. In a rewind or a comparison it is the folder's path below
-    /// its root.
+    /// A folder holds a name that isn't text. In a rewind or a comparison, and where a replay that can be
+    /// started again lists what stands, it is the folder's path below its root.
     NameNotText(Path),
     /// Something stands where a pair is to be made: the first such path.
     Occupied(Path),
@@ -118,8 +120,8 @@ pub enum RewindCause {
     KindsDiffer(Path),
     /// A file of a main fork at this path below a root, and its bytes, which make no whole blocks.
     OddSize(Path, u64),
-    /// The root of a target whose mark holds a plan, and the number, from 1, of its first line that
-    /// isn't of its form or place.
+    /// The root of a target whose mark holds a plan, or of a cluster whose mark holds the list of a
+    /// replay, and the number, from 1, of the first line of it that isn't of its form or place.
     BadPlan(Path, u64),
     /// A file at this path below the source's root isn't the one that a stored plan was made for.
     SourceDiffers(Path),
@@ -165,6 +167,12 @@ pub enum ReplayCause {
     RedoFailed(Lsn, BlockName, RedoWhy),
     /// A block that a record changes, and that wasn't there to the end of the log.
     MissingPage(BlockName),
+    /// The copy of a file, below the folder `pg_walreplay.shadow` at the root of a cluster whose replay
+    /// is started again, isn't a file of the size that the mark lists.
+    ShadowDiffers(Path),
+    /// The least block of a main fork of which the log changes first the page that stands there: a
+    /// replay of it can't be started again.
+    NotRestartable(BlockName),
 }
 
 impl From<SinkFailed> for Cause {

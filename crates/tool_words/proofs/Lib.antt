@@ -6,6 +6,7 @@ mod GrammarLemmas
 mod NumberLemmas
 mod PathLemmas
 mod PieceLemmas
+mod ReplayLemmas
 mod RootLemmas
 mod SlashLemmas
 mod TableLemmas

@@ -1,5 +1,5 @@
 -- What the program's words ask for: PostgreSQL 16 manual, reference pages of pg_rewind, pg_controldata, pg_waldump, pg_resetwal and pg_archivecleanup. Own: "The order of what
--- is wrong with roots", "The folder of a dump", "Commands of this project's own", "A pair from a number".
+-- is wrong with roots", "The folder of a dump", "Commands of this project's own", "A pair from a number", "A replay that can be started again".
 use Rattle.std.specs.Prelude.{ℕ, ◌==◌, ◌||◌, Bool, true, false, if◌then◌else◌, List, length, codes, Option, None, Some, unwrap_or, option_map, Result, Ok, Err}
 use Rattle.cluster_tree.specs.Apart.{overlap}
 use Rattle.cluster_tree.specs.Causes.{given}
@@ -34,18 +34,16 @@ use Rattle.tool_words.specs.declared.waldump.DumpTexts.{DumpTexts}
 use Rattle.tool_words.specs.declared.waldump.SegmentWord.{SegmentWord}
 use Rattle.tool_words.specs.declared.waldump.WaldumpTexts.{WaldumpTexts}
 use Rattle.tool_words.specs.declared.waldump.WaldumpTexts.TheVariants as texts
+use Rattle.tool_words.specs.declared.walreplay.WalreplayTexts.{WalreplayTexts}
 
 -- the one root that words give
 abbrev pub root_asked : Option (List ℕ) → Result PathValue CommandFault
 root_asked None = Err fault.Usage
 root_asked (Some text) = root_named text
 
--- pg_controldata and pg_walreplay at their root
+-- pg_controldata at its root
 abbrev pub controldata_at : PathValue → Command
 controldata_at root = command.Controldata (record { root = root })
-
-abbrev pub walreplay_at : PathValue → Command
-walreplay_at root = command.Walreplay (record { root = root })
 
 -- the text of a path is refused for a part `..`
 abbrev pub climbs : {A : Type 0} → Result A PathFault → Bool
@@ -136,6 +134,16 @@ abbrev pub archivecleanup_asked : Option ArchivecleanupTexts → Result Command 
 archivecleanup_asked None = Err fault.Usage
 archivecleanup_asked (Some words) = given (folder_named words.folder) (λ folder. Ok (cleanup_in_folder words folder))
 
+-- pg_walreplay at its root, once for all or as a replay that can be started again
+abbrev pub walreplay_at : WalreplayTexts → PathValue → Command
+walreplay_at words root =
+    if words.restart then command.Restart (record { root = root })
+    else command.Walreplay (record { root = root })
+
+abbrev pub walreplay_asked : Option WalreplayTexts → Result Command CommandFault
+walreplay_asked None = Err fault.Usage
+walreplay_asked (Some words) = given (root_named words.root) (λ root. Ok (walreplay_at words root))
+
 -- pair in its folder
 abbrev pub pair_in_folder : PairTexts → PathValue → Command
 pair_in_folder words root = command.Pair (record { seed = words.seed; blocks = words.blocks; root = root })
@@ -152,7 +160,7 @@ command_named (Some name.PgWaldump) words = waldump_asked (waldump_of words)
 command_named (Some name.PgControldata) words = given (root_asked (controldata_of words)) (λ root. Ok (controldata_at root))
 command_named (Some name.PgResetwal) words = resetwal_asked (resetwal_of words)
 command_named (Some name.PgArchivecleanup) words = archivecleanup_asked (archivecleanup_of words)
-command_named (Some name.PgWalreplay) words = given (root_asked (walreplay_of words)) (λ root. Ok (walreplay_at root))
+command_named (Some name.PgWalreplay) words = walreplay_asked (walreplay_of words)
 command_named (Some name.PgWalcompare) words = walcompare_asked (walcompare_of words)
 command_named (Some name.Pair) words = pair_asked (pair_texts_of words)
 

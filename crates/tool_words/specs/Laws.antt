@@ -7,11 +7,13 @@ use Rattle.tool_words.specs.Rewind.{rewind_from, rewind_of}
 use Rattle.tool_words.specs.Roots.{root_of}
 use Rattle.tool_words.specs.Forms.{segment_word, with_value}
 use Rattle.tool_words.specs.Waldump.{waldump_of}
+use Rattle.tool_words.specs.Walreplay.{walreplay_from, walreplay_of}
 use Rattle.tool_words.specs.declared.rewind.RewindTexts.{RewindTexts}
 use Rattle.commands.specs.declared.waldump.Filters.{Filters}
 use Rattle.tool_words.specs.declared.waldump.SegmentWord.{SegmentWord}
 use Rattle.tool_words.specs.declared.waldump.WaldumpTexts.{WaldumpTexts}
 use Rattle.tool_words.specs.declared.waldump.WaldumpTexts.TheVariants.{Managers, Dump}
+use Rattle.tool_words.specs.declared.walreplay.WalreplayTexts.{WalreplayTexts}
 
 -- a text that no option looks like: it does not begin with a hyphen (45)
 abbrev pub IsPlainText : List ℕ → Type 0
@@ -51,6 +53,21 @@ pub record ReadsResume (name target source : List ℕ) : Type 0 where
   pub resume : rewind_of (name ∷ codes "-D" ∷ target ∷ codes "--source-pgdata" ∷ source ∷ codes "--resume" ∷ []) ≡ resumed target source false
   pub dry : rewind_of (name ∷ codes "-D" ∷ target ∷ codes "--source-pgdata" ∷ source ∷ codes "--resume" ∷ codes "-n" ∷ []) ≡ resumed target source true
   pub twice : rewind_of (name ∷ codes "-D" ∷ target ∷ codes "--source-pgdata" ∷ source ∷ codes "--resume" ∷ codes "--resume" ∷ []) ≡ None
+
+-- this root, which is not empty, for a replay, or for one that can be started again
+abbrev pub replayed : List ℕ → Bool → Option WalreplayTexts
+replayed dir restart = walreplay_from (root_of dir) restart
+
+-- the root of pg_walreplay stands alone, or with the flag before or behind it; given twice the flag is refused, and so is a root after an `=`
+pub record ReadsRestart (name dir : List ℕ) : Type 0 where
+  pub plain : walreplay_of (name ∷ dir ∷ []) ≡ replayed dir false
+  pub before : walreplay_of (name ∷ codes "--restart" ∷ dir ∷ []) ≡ replayed dir true
+  pub behind : walreplay_of (name ∷ dir ∷ codes "--restart" ∷ []) ≡ replayed dir true
+  pub twice : walreplay_of (name ∷ codes "--restart" ∷ codes "--restart" ∷ dir ∷ []) ≡ None
+  pub attached : walreplay_of (name ∷ (codes "--restart=" ++ dir) ∷ []) ≡ None
+  pub alone : walreplay_of (name ∷ codes "--restart" ∷ []) ≡ None
+  pub further : walreplay_of (name ∷ codes "--restart" ∷ dir ∷ dir ∷ []) ≡ None
+  pub help : walreplay_of (name ∷ codes "--help" ∷ []) ≡ None
 
 -- ---- pg_waldump
 

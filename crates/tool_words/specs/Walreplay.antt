@@ -1,17 +1,25 @@
--- The words of pg_walreplay, the word DIR. Own: "Commands of this project's own".
-use Rattle.std.specs.Prelude.{ℕ, List, [], ◌∷◌, Option, codes, option_and_then}
+-- The words of pg_walreplay, `--restart` and the word DIR. Own: "Commands of this project's own", "A replay that can be started again".
+use Rattle.std.specs.Prelude.{ℕ, Bool, List, [], ◌∷◌, Option, Some, None, codes, option_and_then}
 use Rattle.clap.specs.Walk.{Row, Rule, first_of}
-use Rattle.command_words.specs.Table.{found_in, word}
+use Rattle.command_words.specs.Table.{flag, found_in, is_on, word}
 use Rattle.tool_words.specs.Roots.{root_given}
+use Rattle.tool_words.specs.declared.walreplay.WalreplayTexts.{WalreplayTexts}
 
--- its one word
+-- its flag and its word
 unfoldable pub walreplay_table : List Rule
-walreplay_table = word (codes "DIR") ∷ []
+walreplay_table =
+    flag (codes "restart") None (Some (codes "restart")) ∷
+    word (codes "DIR") ∷ []
 
--- the root that was found in the words
-abbrev pub walreplay_in : List Row → Option (List ℕ)
-walreplay_in rows = root_given (first_of (codes "DIR") rows)
+-- the root is needed
+abbrev pub walreplay_from : Option (List ℕ) → Bool → Option WalreplayTexts
+walreplay_from (Some root) restart = Some (record { root = root; restart = restart })
+walreplay_from None restart = None
 
--- the root that the words give; none where they are not in the grammar
-abbrev pub walreplay_of : List (List ℕ) → Option (List ℕ)
+-- what was found in the words
+abbrev pub walreplay_in : List Row → Option WalreplayTexts
+walreplay_in rows = walreplay_from (root_given (first_of (codes "DIR") rows)) (is_on (codes "restart") rows)
+
+-- what the words ask for; none where they are not in the grammar
+abbrev pub walreplay_of : List (List ℕ) → Option WalreplayTexts
 walreplay_of words = option_and_then walreplay_in (found_in walreplay_table words)

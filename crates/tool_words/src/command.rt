@@ -5,13 +5,14 @@ ghost use Rattle.commands.specs.Faults.{IsFree};
 ghost use Rattle.commands.specs.Fit.{IsFit, IsFitRoot};
 ghost use Rattle.command_words.specs.Answers.{AnswersAs};
 ghost use Rattle.tool_words.specs.Command.{archivecleanup_asked, command_of, resetwal_asked, rewind_asked};
-ghost use Rattle.tool_words.specs.Command.{pair_asked, root_asked, walcompare_asked, waldump_asked};
+ghost use Rattle.tool_words.specs.Command.{pair_asked, root_asked, walcompare_asked, waldump_asked, walreplay_asked};
 ghost use Rattle.tool_words.specs.Archivecleanup.{archivecleanup_of};
 ghost use Rattle.tool_words.specs.Pair.{pair_texts_of};
 ghost use Rattle.tool_words.specs.Resetwal.{resetwal_of};
 ghost use Rattle.tool_words.specs.Rewind.{rewind_of};
 ghost use Rattle.tool_words.specs.Walcompare.{walcompare_of};
 ghost use Rattle.tool_words.specs.Waldump.{waldump_of};
+ghost use Rattle.tool_words.specs.Walreplay.{walreplay_of};
 
 use crate::archivecleanup::archivecleanup_words;
 use crate::controldata::controldata_words;
@@ -134,6 +135,25 @@ fn archivecleanup_asked(alloc: Global, words: &[String]) -> Result<Command, Comm
     }
 }
 
+fn walreplay_asked(alloc: Global, words: &[String]) -> Result<Command, CommandFault>
+    ensures answer { Meets IsFree (walreplay_asked (walreplay_of (map string_bytes words.now))) result }
+    ensures fit { IfOk result IsFit }
+{
+    match walreplay_words(alloc, words) {
+        Ok(texts) => {
+            let root = path_named(alloc, MOST_OF_ROOT, texts.root.as_str())?;
+            let asked = WalreplayWords { root };
+            if texts.restart {
+                Ok(Command::Restart(asked))
+            } else {
+                Ok(Command::Walreplay(asked))
+            }
+        }
+        Err(WordsFault::Usage) => Err(CommandFault::Usage),
+        Err(WordsFault::OutOfMemory) => Err(CommandFault::OutOfMemory),
+    }
+}
+
 fn pair_asked(alloc: Global, words: &[String]) -> Result<Command, CommandFault>
     ensures answer { Meets IsFree (pair_asked (pair_texts_of (map string_bytes words.now))) result }
     ensures fit { IfOk result IsFit }
@@ -171,10 +191,7 @@ pub fn read_command(alloc: Global, words: &[String]) -> Result<Command, CommandF
         }
         Some(CommandName::PgResetwal) => resetwal_asked(alloc, words),
         Some(CommandName::PgArchivecleanup) => archivecleanup_asked(alloc, words),
-        Some(CommandName::PgWalreplay) => {
-            let root = root_asked(alloc, walreplay_words(alloc, words))?;
-            Ok(Command::Walreplay(WalreplayWords { root }))
-        }
+        Some(CommandName::PgWalreplay) => walreplay_asked(alloc, words),
         Some(CommandName::PgWalcompare) => walcompare_asked(alloc, words),
         Some(CommandName::Pair) => pair_asked(alloc, words),
     }

@@ -1,5 +1,5 @@
 // Laws of the grammar: what it comes to at the words that are usual, for every value.
-ghost use Rattle.tool_words.specs.Laws.{IsPlainText, ReadsResume, ReadsRoot, ReadsRoots, ReadsStart};
+ghost use Rattle.tool_words.specs.Laws.{IsPlainText, ReadsRestart, ReadsResume, ReadsRoot, ReadsRoots, ReadsStart};
 
 /// Each usual way to give the root of `pg_controldata` gives it, given twice or not at all it is
 /// refused, and so is a call for help.
@@ -22,6 +22,13 @@ pub fn a_resume_is_read(name: &str, target: &str, source: &str)
     requires target { IsPlainText target.now }
     requires source { IsPlainText source.now }
     ensures { ReadsResume name.now target.now source.now }
+{}
+
+/// The root of `pg_walreplay` is read alone, and with `--restart` before or behind it, which asks for a
+/// replay that can be started again; given twice, with a value or without a root, the flag is refused.
+pub fn a_restart_is_read(name: &str, dir: &str)
+    requires { IsPlainText dir.now }
+    ensures { ReadsRestart name.now dir.now }
 {}
 
 /// `pg_waldump` begins with a segment's file, or in a folder at a position; with neither of them it is

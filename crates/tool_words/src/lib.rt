@@ -20,4 +20,6 @@ mod waldump;
 mod walreplay;
 
 pub use command::read_command;
-pub use laws::{a_resume_is_read, a_root_is_read, a_start_is_read, two_roots_are_read};
+pub use laws::{
+    a_restart_is_read, a_resume_is_read, a_root_is_read, a_start_is_read, two_roots_are_read,
+};
