@@ -1,17 +1,8 @@
 //! Control files from the fields that differ: each its offset, its width, its value, and maybe its name.
-use crate::texts::{cut_at, long, number};
 use std::process::Abort;
-use wal_base::Crc32c;
+use tree_lines::{put_fields, put_number, sum_of};
 
-/// The fields of a cluster that was shut down on timeline 1, for surveys, and the sum of that file. That of another one
-/// stands in its row; they come from a script of its own (tests/pg_control.py).
-const SURVEYED: &str = "\
-0 8 7300000000000000001 sysid, 8 4 1300 version, 12 4 202307071 catalog, 16 4 1 state, 48 4 1 \
-    cp.tli, 52 4 1 cp.prevTli, 176 1 1 walLogHints, 204 4 8 maxAlign, 208 8 4698053236609777664 \
-    floatFormat, 216 4 8192 blcksz, 220 4 131072 relseg, 224 4 8192 walBlcksz, 228 4 1048576 \
-    walSegSize, 288 4 2501938330 crc";
-
-/// The fields of a cluster that was shut down on timeline 1, for resets.
+/// The fields of a cluster that was shut down on timeline 1.
 const RESET: &str = "\
 0 8 7300000000000000001 sysid, 8 4 1300 version, 12 4 202307071 catalog, 16 4 1 state, 24 8 \
     1600000000 time, 32 8 1048800 checkPoint, 40 8 1048800 cp.redo, 48 4 1 cp.tli, 52 4 1 \
@@ -28,51 +19,14 @@ const RESET: &str = "\
     checksumVersion, 256 8 506097522914230528 nonce, 264 8 1084818905618843912 nonce, 272 8 \
     1663540288323457296 nonce, 280 8 2242261671028070680 nonce";
 
-fn put<R: Abort>(rt: &R, file: &mut [u8; 8192], at: usize, width: usize, value: u64) {
-    assert!(rt; at <= 8184 && width <= 8, "no field");
-    file[at..at + width].copy_from_slice(&value.to_le_bytes()[..width]);
-}
-
-fn put_field<R: Abort>(rt: &R, file: &mut [u8; 8192], field: &str) {
-    let (at, behind) = cut_at(field, " ");
-    let (width, behind) = cut_at(behind, " ");
-    let (value, _name) = cut_at(behind, " ");
-    let (at, width) = (number(rt, at), number(rt, width));
-    put(rt, file, at as usize, width as usize, long(rt, value));
-}
-
-fn put_fields<R: Abort>(rt: &R, file: &mut [u8; 8192], fields: &str) {
-    for field in fields.split(", ") {
-        put_field(rt, file, field);
-    }
-}
-
-/// The control file of a survey: `plain`, or `FIELD, ..: SUM`.
-pub(crate) fn surveyed<R: Abort>(rt: &R, text: &str) -> [u8; 8192] {
-    let mut file = [0; 8192];
-    put_fields(rt, &mut file, SURVEYED);
-    if let Some((fields, sum)) = text.split_once(": ") {
-        put_fields(rt, &mut file, fields);
-        put(rt, &mut file, 288, 4, long(rt, sum));
-    }
-    file
-}
-
-/// The sum of the first bytes of some, so many.
-pub(crate) fn sum_of(bytes: &[u8], size: usize) -> u32 {
-    let mut sum = Crc32c::new();
-    sum.add(bytes.get(..size).unwrap_or(&[]));
-    sum.value()
-}
-
 /// The control file of a reset, with its sum: `plain`, or the fields that differ.
 pub(crate) fn reset<R: Abort>(rt: &R, edits: &str) -> [u8; 8192] {
     let mut file = [0; 8192];
-    put_fields(rt, &mut file, RESET);
+    put_fields(&mut file, RESET).expect(rt, "no fields");
     if edits != "plain" {
-        put_fields(rt, &mut file, edits);
+        put_fields(&mut file, edits).expect(rt, "no fields");
     }
     let sum = sum_of(&file, 288);
-    put(rt, &mut file, 288, 4, u64::from(sum));
+    put_number(&mut file, 288, 4, u64::from(sum)).expect(rt, "no sum");
     file
 }

@@ -1,14 +1,14 @@
 //! A device that fails at each call of a reset in turn: the answer is of that call's kind, and what stands is what the
 //! calls before it left, under the mark from the first of them on until the last but one.
-use crate::controls::sum_of;
 use crate::options::options_of;
 use crate::resets::{CONTROL, cluster, found_in, tell_answer};
-use crate::texts::{cut_at, number, says, tell};
+use crate::texts::{number, says, tell};
 use crate::trees::path_of;
 use cluster_tree::{ChangeCall, Kind, Tree};
 use clusters::Found;
 use memory_tree::{FailPlan, FailingTree, MemoryTree};
 use std::process::Abort;
+use tree_lines::{cut_at, sum_of};
 
 /// The first and the last call that fails, the answer, and what stands then: `m` the mark, with its text `t`; `c` the new
 /// control file; `1` and `2` the segments, `p` the unfinished one, `d` what is said of the first; `n` the new segment. The

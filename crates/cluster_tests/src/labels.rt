@@ -1,7 +1,8 @@
 //! Labels, as a script of its own writes and reads them. In rows the end of a line is written as `;`.
-use crate::texts::{cut_at, long, number, says, shows, tell};
+use crate::texts::{long, number, says, shows, tell};
 use backup_label::{Label, read_label};
 use std::process::Abort;
+use tree_lines::cut_at;
 use wal_base::{Lsn, SegSize};
 
 /// The start, the timeline, the size of segments, the checkpoint and the time; how many bytes the label has, and its text.

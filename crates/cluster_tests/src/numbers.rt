@@ -5,16 +5,16 @@ ghost use Rattle.std.specs.Prelude.{◌*◌, ◌<◌, ◌^◌};
 ghost use Rattle.wal_base.specs.Segment.{bytes_of};
 ghost use Rattle.control_file.specs.Admission.{IsControl};
 
-use crate::controls::sum_of;
 use crate::options::options_of;
 use crate::resets::cluster;
-use crate::texts::{cut_at, says, tell, tell_sum};
+use crate::texts::{says, tell, tell_sum};
 use crate::trees::{names_in, root_of};
 use clusters::control_at;
 use control_file::{Control, write_control};
 use memory_tree::MemoryTree;
 use reset_numbers::{ResetOptions, is_fit, is_segment, is_status, new_control, new_segment};
 use std::process::Abort;
+use tree_lines::{cut_at, sum_of};
 use wal_base::{Lsn, Segment};
 
 /// Options, the fields of the control file that differ, and files: the new segment's timeline and number, its

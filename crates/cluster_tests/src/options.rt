@@ -1,7 +1,8 @@
 //! Options of resets as texts.
-use crate::texts::{cut_at, long, number};
+use crate::texts::{long, number};
 use reset_cleanup::ResetOptions;
 use std::process::Abort;
+use tree_lines::cut_at;
 
 /// No option.
 const PLAIN: ResetOptions = ResetOptions {

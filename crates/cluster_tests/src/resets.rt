@@ -1,14 +1,14 @@
 //! Whole resets of clusters in memory. Names, places and checksums come from a script of its own that follows the formats.
 use crate::controls;
-use crate::controls::sum_of;
 use crate::options::options_of;
-use crate::texts::{cut_at, says, tell_sum};
+use crate::texts::{says, tell_sum};
 use crate::trees::{names_in, path_of, put_all, put_file, root_of, tree_of};
 use cluster_tree::{Names, Path, Tree};
 use clusters::{Found, read_whole};
 use memory_tree::MemoryTree;
 use reset_cleanup::{ResetOptions, is_fit, reset_log};
 use std::process::Abort;
+use tree_lines::{cut_at, sum_of};
 use wal_base::Lsn;
 
 /// The control file.

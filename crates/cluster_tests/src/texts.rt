@@ -3,11 +3,6 @@ use std::fmt::{Debug, Display};
 use std::process::Abort;
 use wal_base::{decimal_u32, decimal_u64};
 
-/// What stands before a mark, and what behind it.
-pub(crate) fn cut_at<'a>(text: &'a str, mark: &str) -> (&'a str, &'a str) {
-    text.split_once(mark).unwrap_or((text, ""))
-}
-
 /// A number below 2^32.
 pub(crate) fn number<R: Abort>(rt: &R, text: &str) -> u32 {
     decimal_u32(text.as_bytes()).expect(rt, "no number")

@@ -2,10 +2,11 @@
 //! of its own. In rows the end of a line is written as `;`, the first two lines as HEAD, and as TAIL a label, a control
 //! file of zeros (its digits are ZEROS) and the end.
 use crate::plans::tell_all;
-use crate::texts::{cut_at, number, says, tell};
+use crate::texts::{number, says, tell};
 use crate::trees::{path_of, root_of};
 use plan_text::{MarkText, StoredFault, StoredPlan, mark_text, plan_text, stored_plan};
 use std::process::Abort;
+use tree_lines::cut_at;
 
 /// What the bytes of a mark tell.
 pub(crate) const MARKS: &str = "\

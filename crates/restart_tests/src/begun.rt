@@ -2,11 +2,12 @@
 //! in lists.rt (`-` for no mark; LIST are the lines of a list of two files that have copies), and lines stand beside it. Worked
 //! out by hand by the rules of docs/FORMATS.md; the digits of paths come from a script of its own.
 use crate::lists::{spelled, tell_each};
-use crate::texts::{cut_at, says, tell};
+use crate::texts::{says, tell};
 use crate::trees::{plan_of, put_all, put_file, root_of, tree_of};
 use memory_tree::{FailingTree, MemoryTree};
 use std::process::Abort;
 use stored_replay::{StoredReplay, StoredReplayFault, stored_replay};
+use tree_lines::cut_at;
 
 /// What a mark is, and which one is refused first.
 pub(crate) const MARKS: &str = "\

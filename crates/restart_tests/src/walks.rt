@@ -1,12 +1,12 @@
 //! What lies below a root, and what is wrong there. The expected lines come from a script of its own that sorts the paths
 //! below the root by their bytes.
-use crate::kinds::tell_kind;
-use crate::texts::{cut_at, number, says, tell};
+use crate::texts::{number, says, tell};
 use crate::trees::{path_of, plan_of, tree_of};
 use cluster_tree::{Path, Tree};
-use file_walk::{Entries, Pair, WalkFault, pair_up, walk};
+use file_walk::{Entries, EntryKind, Pair, WalkFault, pair_up, walk};
 use memory_tree::{FailingTree, MemoryTree};
 use std::process::Abort;
+use tree_lines::cut_at;
 
 /// Which read fails, a root, a tree, and the entries below the root in the order of texts.
 pub(crate) const IN_ORDER: &str = "\
@@ -66,6 +66,15 @@ pub(crate) fn tell_fault<R: Abort>(rt: &R, out: &mut String, fault: &WalkFault) 
             says(rt, out, " ", size);
         }
         WalkFault::File(cause) => says(rt, out, "File ", cause),
+    }
+}
+
+/// Tells what stands somewhere.
+fn tell_kind<R: Abort>(rt: &R, out: &mut String, kind: Option<&EntryKind>) {
+    match kind {
+        None => tell(rt, out, "-"),
+        Some(EntryKind::Folder) => tell(rt, out, "/"),
+        Some(EntryKind::File(size)) => says(rt, out, "", size),
     }
 }
 

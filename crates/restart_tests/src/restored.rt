@@ -2,14 +2,14 @@
 //! docs/FORMATS.md.
 use crate::copies::{bytes_in, tell_kind};
 use crate::lists::tell_each;
-use crate::runs::tell_runs;
-use crate::texts::{cut_at, number, says, tell};
+use crate::texts::{number, says, tell, tell_runs};
 use crate::trees::{put_all, root_of, tree_of};
 use memory_tree::{FailPlan, FailingTree, MemoryTree};
 use replay_areas::{AreaList, list_areas};
 use replay_copies::begin_copies;
 use replay_restore::restore_areas;
 use std::process::Abort;
+use tree_lines::cut_at;
 
 /// What is gone, what is of another kind, and what is new; files of main forks that grew or got shorter; and what lies elsewhere.
 pub(crate) const BACK: &str = "\

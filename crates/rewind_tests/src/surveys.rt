@@ -1,13 +1,14 @@
 //! Each answer of a survey over trees in memory: `READ | TARGET | SOURCE | LINE, ..`, where the read of a number fails (none
 //! for 0), a control file is `none`, `plain`, `short` by a byte, or fields and a sum, and lines stand beside them.
 use crate::controls::surveyed;
-use crate::texts::{cut_at, number, says, shows, tell};
+use crate::texts::{number, says, shows, tell};
 use crate::trees::{path_of, plan_of, put_all, put_file, root_of, tree_of};
 use cluster_tree::Tree;
 use clusters::{Found, read_whole};
 use memory_tree::{FailPlan, FailingTree, MemoryTree};
 use rewind_survey::{RewindFault, Surveyed, survey};
 use std::process::Abort;
+use tree_lines::cut_at;
 
 /// Two control files are fit, or refused.
 pub(crate) const CONTROLS: &str = "\

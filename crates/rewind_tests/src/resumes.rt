@@ -3,8 +3,7 @@
 //! out by hand from the steps, by the rules of docs/FORMATS.md.
 ghost use Rattle.rewind_writes.specs.Steps.{AllAreFit};
 
-use crate::runs::tell_runs;
-use crate::texts::{cut_at, number, says, tell};
+use crate::texts::{number, says, tell, tell_runs};
 use crate::trees::{path_of, put_all, root_of, tree_of};
 use cluster_tree::{Kind, Path, Tree};
 use memory_tree::{FailPlan, FailingTree, MemoryTree};
@@ -12,6 +11,7 @@ use plan_text::{MarkText, StoredPlan, mark_text, stored_plan};
 use resumed_writes::{StoredPerformFault, perform_stored};
 use rewind_writes::{Plan, perform};
 use std::process::Abort;
+use tree_lines::cut_at;
 
 /// From what a stop left behind each of its steps, with what a stop may leave of the next ones, it ends alike.
 pub(crate) const ENDS: &str = "\

@@ -1,9 +1,10 @@
 //! Walks over a tree that tells nothing and has no end: each folder of it has one name.
-use crate::texts::{cut_at, says};
+use crate::texts::says;
 use crate::walks::tell_walk;
 use cluster_tree::{Kind, Names, Path, Tree, TreeFault};
 use std::alloc::Global;
 use std::process::Abort;
+use tree_lines::cut_at;
 
 /// A tree that says the same of each path, and changes nothing.
 #[derive(Drop)]

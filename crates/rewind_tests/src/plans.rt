@@ -1,7 +1,7 @@
 //! The steps of a plan. The expected steps are those of the rule of writes in docs/FORMATS.md, worked
 //! out by hand.
 use crate::kinds::kind_of;
-use crate::texts::{cut_at, says, tell};
+use crate::texts::{says, tell};
 use crate::touching::touched;
 use crate::trees::path_of;
 use cluster_tree::Path;
@@ -10,6 +10,7 @@ use rewind_plan::{Clusters, first_lacking, steps_of};
 use rewind_writes::Step;
 use std::collections::VecDeque;
 use std::process::Abort;
+use tree_lines::cut_at;
 
 /// Paths with what target and source have there, touched blocks of relation 16385, and the steps; `-` for none.
 pub(crate) const PLANS: &str = "\

@@ -1,12 +1,13 @@
 //! What a rewind does at a path, which paths are excluded, and which are files of main forks. The expected values are those
 //! of the table in docs/FORMATS.md, and of a script of its own, which reads paths by a regular expression.
 use crate::kinds::kind_of;
-use crate::texts::{cut_at, says, shows, tell};
+use crate::texts::{says, shows, tell};
 use crate::trees::path_of;
 use block_refs::RelName;
 use cluster_tree::Path;
 use file_walk::{decide, excluded, is_relation_file};
 use std::process::Abort;
+use tree_lines::cut_at;
 
 /// A path, what the target and the source have there, and what is done.
 pub(crate) const ACTIONS: &str = "\

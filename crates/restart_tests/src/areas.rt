@@ -1,11 +1,12 @@
 //! What is listed of a cluster at or below the folders that replay changes, worked out by hand by the rules of docs/FORMATS.md.
 use crate::lists::tell_each;
-use crate::texts::{cut_at, tell};
+use crate::texts::tell;
 use crate::trees::{plan_of, root_of, tree_of};
 use crate::walks::tell_fault;
 use memory_tree::FailingTree;
 use replay_areas::list_areas;
 use std::process::Abort;
+use tree_lines::cut_at;
 
 /// Which read fails, a root, a tree, and what is listed.
 pub(crate) const LISTED: &str = "\

@@ -3,12 +3,13 @@
 //! source's control file. Worked out by hand by the rules of docs/FORMATS.md.
 use crate::controls::surveyed;
 use crate::stored::spelled;
-use crate::texts::{cut_at, says, tell};
+use crate::texts::{says, tell};
 use crate::trees::{plan_of, put_all, put_file, root_of, tree_of};
 use memory_tree::{FailingTree, MemoryTree};
 use plan_text::StoredPlan;
 use resume_core::{ResumeFault, stored_rewind};
 use std::process::Abort;
+use tree_lines::cut_at;
 
 /// What is stored, and which marks are refused.
 pub(crate) const MARKS: &str = "\

@@ -1,9 +1,10 @@
 //! Lists in the marks of replays as texts, worked out by hand by the rules of docs/FORMATS.md; the digits of paths come from a
 //! script of its own. In rows the end of a line is written as `;`.
-use crate::texts::{cut_at, number, says, tell};
+use crate::texts::{number, says, tell};
 use crate::trees::path_of;
 use replay_list::{ListFault, Listed, ReplayMark, list_text, replay_mark, stored_list};
 use std::process::Abort;
+use tree_lines::cut_at;
 
 /// What the bytes of a mark tell.
 pub(crate) const KINDS: &str = "\

@@ -1,5 +1,5 @@
 //! What stands at a path, as a text.
-use crate::texts::{long, says, tell};
+use crate::texts::long;
 use file_walk::EntryKind;
 use std::process::Abort;
 
@@ -9,14 +9,5 @@ pub(crate) fn kind_of<R: Abort>(rt: &R, text: &str) -> Option<EntryKind> {
         "-" => None,
         "/" => Some(EntryKind::Folder),
         size => Some(EntryKind::File(long(rt, size))),
-    }
-}
-
-/// Tells what stands somewhere.
-pub(crate) fn tell_kind<R: Abort>(rt: &R, out: &mut String, kind: Option<&EntryKind>) {
-    match kind {
-        None => tell(rt, out, "-"),
-        Some(EntryKind::Folder) => tell(rt, out, "/"),
-        Some(EntryKind::File(size)) => says(rt, out, "", size),
     }
 }
