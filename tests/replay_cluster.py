@@ -5,7 +5,8 @@
 
 makes below DIR the cluster t, as a rewind leaves it, with three empty heap pages and a log on timeline 2 that
 has a checkpoint, an insert into block 2 of 1663/5/16384 and a second checkpoint; and done, which is t as a
-replay leaves it. Control files are those of pg_control.py, and the log that of wal_log.py.
+replay leaves it. r and remade are the same, but that the insert makes its block anew, so that a replay can be
+started again. Control files are those of pg_control.py, and the log that of wal_log.py.
 """
 import os
 import struct
@@ -30,12 +31,13 @@ def inserted():
     return page(0x1000E0, struct.pack("<I", PAGE - 32 | 1 << 15 | 28 << 17), bytes(0) + item + bytes(4))
 
 
-def log_bytes():
-    """A segment on timeline 2."""
+def log_bytes(anew):
+    """A segment on timeline 2, whose insert makes its block anew or changes it."""
     log = Log(MAGIC)
     log.add(checkpoint(log, False, 700))
     record = insert()
-    log.add(record._replace(blocks=(record.blocks[0]._replace(number=2),)))
+    block = record.blocks[0]._replace(number=2, will_init=anew)
+    log.add(record._replace(info=0x80 if anew else 0x00, blocks=(block,)))
     values = dict(EXAMPLE, **{"cp.redo": log.place(), "cp.tli": 2})
     log.add(Record("XLOG", 0x00, 0, "CHECKPOINT_SHUTDOWN", main=front(values)[40:128]))
     assert [start for _, start, _, _ in log.placed] == [0x100028, 0x1000A0, 0x1000E0]
@@ -43,19 +45,20 @@ def log_bytes():
     return bytes(log.bytes).ljust(SEGMENT, b"\0")
 
 
-def cluster(root, last, **values):
+def cluster(root, anew, last, **values):
     write(os.path.join(root, "PG_VERSION"), b"16\n")
     write(os.path.join(root, "base", "5", "16384"), 2 * page(0x100000) + last)
     write(os.path.join(root, "global", "pg_control"), control_file({**EXAMPLE, "cp.tli": 2, **values}))
     write(os.path.join(root, "pg_wal", "00000002.history"), b"1\t0/1000A0\tpromoted\n")
-    write(os.path.join(root, "pg_wal", "000000020000000000000001"), log_bytes())
+    write(os.path.join(root, "pg_wal", "000000020000000000000001"), log_bytes(anew))
 
 
 def main(folder):
-    target, done = (os.path.join(folder, name) for name in ("t", "done"))
-    cluster(target, page(0x100000), state=5, minRecoveryPoint=0x1000E0, minRecoveryPointTli=2)
-    write(os.path.join(target, "backup_label"), LABEL)
-    cluster(done, inserted(), state=2, minRecoveryPoint=END, minRecoveryPointTli=2)
+    for name, replayed, anew in (("t", "done", False), ("r", "remade", True)):
+        target, done = (os.path.join(folder, end) for end in (name, replayed))
+        cluster(target, anew, page(0x100000), state=5, minRecoveryPoint=0x1000E0, minRecoveryPointTli=2)
+        write(os.path.join(target, "backup_label"), LABEL)
+        cluster(done, anew, inserted(), state=2, minRecoveryPoint=END, minRecoveryPointTli=2)
 
 
 if __name__ == "__main__":

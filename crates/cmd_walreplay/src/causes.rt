@@ -10,7 +10,7 @@ use replay_core::ReplayFault as Fault;
 use run_acts::{Cause, LogCause, PathCause, ReplayCause, RewindCause};
 
 /// The cause that a fault of a replay has.
-pub(crate) fn replay_cause(fault: Fault) -> Cause
+pub fn replay_cause(fault: Fault) -> Cause
     ensures value { result ≡ replay_cause fault }
     ensures look { IsOfLook result ⊎ (fault ≡ Fault.WriteFault) }
     ensures files { IsTrue (is_of_files result) ⊎ IsTrue (is_deep result) ⊎

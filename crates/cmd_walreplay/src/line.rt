@@ -11,9 +11,9 @@ use itoa::Buffer;
 use replay_core::Replayed;
 use wal_base::{Lsn, hex_digit};
 
-/// The line, of at most 106 bytes: 49 are its words, 20 the digits of each number, and 17 those of its
+/// A line on a replay, of at most 106 bytes: 49 are its words, 20 the digits of each number, and 17 those of its
 /// position.
-pub(crate) type Line = ArrayString<112>;
+pub type Line = ArrayString<112>;
 
 // Adds a number in decimal.
 fn put_number(line: &mut Line, number: u64)
@@ -52,8 +52,8 @@ fn put_position(line: &mut Line, at: Lsn)
     put_hex(line, (at.0 % 0x1_0000_0000) as u32);
 }
 
-/// The line on what was replayed.
-pub(crate) fn replayed_line(done: Replayed) -> Line
+/// The line on what was replayed: the number of records, where the last of them ends, and the timeline.
+pub fn replayed_line(done: Replayed) -> Line
     ensures { result.bytes ≡ replayed_line done.records done.end.0 done.tli }
 {
     let mut line = Line::new();

@@ -100,6 +100,7 @@ converges_left custom sound (Ok (command.Waldump words)) now tells c c' out out'
 converges_left custom sound (Ok (command.Resetwal words)) now tells c c' out out' left = tt
 converges_left custom sound (Ok (command.Archivecleanup words)) now tells c c' out out' left = tt
 converges_left custom sound (Ok (command.Walreplay words)) now tells c c' out out' left = tt
+converges_left custom sound (Ok (command.Restart words)) now tells c c' out out' left = tt
 converges_left custom sound (Ok (command.Walcompare words)) now tells c c' out out' left = tt
 converges_left custom sound (Ok (command.Pair words)) now tells c c' out out' left = tt
 converges_left custom sound (Err e) now tells c c' out out' left = tt

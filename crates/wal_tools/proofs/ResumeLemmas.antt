@@ -10,12 +10,12 @@ use Rattle.commands.specs.declared.rewind.RewindWords.{RewindWords}
 use Rattle.acts.specs.Acts.{Seen}
 use Rattle.run_acts.specs.Unseen.{CarriesUnseen}
 use Rattle.run_acts.specs.declared.cause.Cause.{Cause}
-use Rattle.run_acts.proofs.UnseenSteps.{unseen_by, unseen_known}
+use Rattle.run_acts.proofs.UnseenSteps.{unseen_by}
 use Rattle.cmd_resume.specs.Resume.{IsLeftByResume, IsResume, IsResumedDurably, LeavesResumed, resume_answer}
 use Rattle.wal_tools.specs.Leaves.{LeavesAsked}
 use Rattle.wal_tools.specs.Stopped.{IsDurableAsked, IsLeftAsked}
 use Rattle.wal_tools.specs.Words.{IsSeen, MayChange}
-use Rattle.wal_tools.proofs.RunLemmas.{CarriesOut, by_tree, undried}
+use Rattle.wal_tools.proofs.RunLemmas.{CarriesOut, undried}
 
 -- what it does is seen where the tree tells, and of a dry run
 seen_resume : (T : Type 0) (words : RewindWords) → IsSeen T (Ok (command.Resume words)) → T ⊎ IsTrue words.dry_run
@@ -32,7 +32,7 @@ module _ {k : Command} {words : RewindWords} (is : k ≡ command.Resume words) w
       → CarriesUnseen (IsTrue tells ⊎ IsTrue words.dry_run) (IsTrue tells) (resume_answer c words now) (IsResume words) o e ended s u → CarriesOut custom tells c now o e (Ok k) ended s u
   of_resume custom tells c now {o} {e} {ended} {s} {u} p =
       let P : Command → Type 0 = λ x. CarriesOut custom tells c now o e (Ok x) ended s u in
-      subst P (sym is) (unseen_by (seen_resume (IsTrue tells) words) (resume_seen (IsTrue tells) words) (unseen_known (by_tree tells) p))
+      subst P (sym is) (unseen_by (seen_resume (IsTrue tells) words) (resume_seen (IsTrue tells) words) p)
 
   -- it changes nothing in a dry run
   pub dried_resume : (MayChange (Ok k) → ⊥) → IsTrue words.dry_run

@@ -15,12 +15,12 @@ use Rattle.cmd_rewind.specs.Rewind.{IsRewind, LeavesRewound, rewind_answer}
 use Rattle.cmd_waldump.specs.Waldump.{AskForList, IsWaldump, waldump_answer}
 use Rattle.clusters.specs.RootControl.{control_at}
 use Rattle.acts.specs.Acts.{Seen, Sunk, seen}
-use Rattle.run_acts.specs.Answers.{Carries, cause_in}
+use Rattle.run_acts.specs.Answers.{Answer, Carries, cause_in}
 use Rattle.run_acts.specs.Causes.{IsFree, cause_of, has_values}
 use Rattle.run_acts.specs.declared.cause.Cause.{Cause}
 use Rattle.run_acts.specs.declared.cause.Cause.TheVariants as cause
-use Rattle.run_acts.proofs.AnswerSteps.{Looks, carries_fault, carries_refused, carries_exact, carries_told}
-use Rattle.run_acts.proofs.UnseenSteps.{seen_of, unseen_by, unseen_known, unseen_seen, unseen_still, unseen_told}
+use Rattle.run_acts.proofs.AnswerSteps.{Looks, carries_as, carries_fault, carries_refused, carries_exact, carries_told}
+use Rattle.run_acts.proofs.UnseenSteps.{seen_of, unseen_by, unseen_seen, unseen_still, unseen_told}
 use Rattle.run_acts.specs.Unseen.{CarriesUnseen}
 use Rattle.cmd_archivecleanup.specs.Archivecleanup.{IsArchivecleanup, archivecleanup_answer}
 use Rattle.cmd_archivecleanup.proofs.FormLemmas.{answer-form as cleanup-form, answer-looks as cleanup-looks}
@@ -37,6 +37,7 @@ use Rattle.commands.specs.declared.walcompare.WalcompareWords.{WalcompareWords}
 use Rattle.cmd_walreplay.specs.Walreplay.{IsWalreplay, LeavesReplayed, StaysMarked, walreplay_answer}
 use Rattle.cmd_walreplay.proofs.FormLemmas.{answer-form as replay-form, answer-looks as replay-looks}
 use Rattle.commands.specs.declared.walreplay.WalreplayWords.{WalreplayWords}
+use Rattle.cmd_restart.proofs.FormLemmas.{memory-form, no_memory, unlined_stays, unmade_stays}
 use Rattle.cmd_pair.specs.Pair.{IsPair, pair_answer}
 use Rattle.cmd_pair.specs.Tried.{LeavesPair}
 use Rattle.cmd_pair.proofs.FormLemmas.{answer-form as pair-form, answer-looks as pair-looks}
@@ -45,37 +46,37 @@ use Rattle.pair_maker.specs.Pair.{StaysBeside}
 use Rattle.wal_tools.specs.Answers.{IsAnswer, answered}
 use Rattle.wal_tools.specs.Leaves.{LeavesAsked, StaysAsked}
 use Rattle.wal_tools.specs.Runs.{Runs}
-use Rattle.wal_tools.specs.Words.{IsSeen, MayChange, NeedsNoTree, refused_by_words, words_cause}
+use Rattle.wal_tools.specs.Words.{IsKnown, IsSeen, MayChange, refused_by_words, words_cause}
 use Rattle.rmgr_hooks.specs.Custom.{Extension}
 
--- what is done has the command's form, and begins with a look
-pub answered-form : (custom : Option Extension) (c : Contents) (now : ℤ) (asked : Result Command CommandFault) → IsAnswer now asked (answered custom c now asked)
-answered-form custom c now (Ok (command.Rewind words)) = rewind-form c c words now
-answered-form custom c now (Ok (command.Resume words)) = resume-form c words now
-answered-form custom c now (Ok (command.Controldata words)) = control-form (control_at c words.root)
-answered-form custom c now (Ok (command.Waldump words)) = waldump-form custom c words
-answered-form custom c now (Ok (command.Resetwal words)) = reset-form c words now
-answered-form custom c now (Ok (command.Archivecleanup words)) = cleanup-form c words
-answered-form custom c now (Ok (command.Walreplay words)) = replay-form custom c words
-answered-form custom c now (Ok (command.Walcompare words)) = compare-form c words
-answered-form custom c now (Ok (command.Pair words)) = pair-form c words
-answered-form custom c now (Err e) = refl
+-- an answer of the command's form that begins with a look; where it is known which is meant, that one
+pub record Formed (custom : Option Extension) (tells : Bool) (c : Contents) (now : ℤ) (asked : Result Command CommandFault) : Type 0 where
+  pub answer : Answer
+  pub known : IsKnown (IsTrue tells) asked → answer ≡ answered custom c now asked
+  pub form : IsAnswer (IsTrue tells) custom c now asked answer
+  pub looks : Looks answer.acts
 
-pub answered-looks : (custom : Option Extension) (c : Contents) (now : ℤ) (asked : Result Command CommandFault) → Looks ((answered custom c now asked).acts)
-answered-looks custom c now (Ok (command.Rewind words)) = rewind-looks c c words now
-answered-looks custom c now (Ok (command.Resume words)) = resume-looks c words now
-answered-looks custom c now (Ok (command.Controldata words)) = control-looks (control_at c words.root)
-answered-looks custom c now (Ok (command.Waldump words)) = waldump-looks custom c words
-answered-looks custom c now (Ok (command.Resetwal words)) = reset-looks c words now
-answered-looks custom c now (Ok (command.Archivecleanup words)) = cleanup-looks c words
-answered-looks custom c now (Ok (command.Walreplay words)) = replay-looks custom c words
-answered-looks custom c now (Ok (command.Walcompare words)) = compare-looks c words
-answered-looks custom c now (Ok (command.Pair words)) = pair-looks c words
-answered-looks custom c now (Err e) = tt
+module _ (custom : Option Extension) (tells : Bool) (c : Contents) (now : ℤ) where
+  -- the one that is meant
+  meant_formed : (asked : Result Command CommandFault) → IsAnswer (IsTrue tells) custom c now asked (answered custom c now asked) → Looks ((answered custom c now asked).acts) → Formed custom tells c now asked
+  meant_formed asked form looks = record { answer = answered custom c now asked; known = λ h. refl; form = form; looks = looks }
+
+  pub formed : (asked : Result Command CommandFault) → Formed custom tells c now asked
+  formed (Ok (command.Rewind words)) = meant_formed (Ok (command.Rewind words)) (rewind-form c c words now) (rewind-looks c c words now)
+  formed (Ok (command.Resume words)) = meant_formed (Ok (command.Resume words)) (resume-form c words now) (resume-looks c words now)
+  formed (Ok (command.Controldata words)) = meant_formed (Ok (command.Controldata words)) (control-form (control_at c words.root)) (control-looks (control_at c words.root))
+  formed (Ok (command.Waldump words)) = meant_formed (Ok (command.Waldump words)) (waldump-form custom c words) (waldump-looks custom c words)
+  formed (Ok (command.Resetwal words)) = meant_formed (Ok (command.Resetwal words)) (reset-form c words now) (reset-looks c words now)
+  formed (Ok (command.Archivecleanup words)) = meant_formed (Ok (command.Archivecleanup words)) (cleanup-form c words) (cleanup-looks c words)
+  formed (Ok (command.Walreplay words)) = meant_formed (Ok (command.Walreplay words)) (replay-form custom c words) (replay-looks custom c words)
+  formed (Ok (command.Restart words)) = record { answer = no_memory words; known = λ never. absurd never; form = memory-form custom (IsTrue tells) c words; looks = tt }
+  formed (Ok (command.Walcompare words)) = meant_formed (Ok (command.Walcompare words)) (compare-form c words) (compare-looks c words)
+  formed (Ok (command.Pair words)) = meant_formed (Ok (command.Pair words)) (pair-form c words) (pair-looks c words)
+  formed (Err e) = meant_formed (Err e) refl tt
 
 -- what is carried out of words
 abbrev pub CarriesOut : Option Extension → Bool → Contents → ℤ → Bool → Bool → Result Command CommandFault → Cause → Seen → Seen → Type 0
-CarriesOut custom tells c now o e asked ended s u = CarriesUnseen (IsSeen (IsTrue tells) asked) (IsTrue tells ⊎ NeedsNoTree asked) (answered custom c now asked) (IsAnswer now asked) o e ended s u
+CarriesOut custom tells c now o e asked ended s u = CarriesUnseen (IsSeen (IsTrue tells) asked) (IsKnown (IsTrue tells) asked) (answered custom c now asked) (IsAnswer (IsTrue tells) custom c now asked) o e ended s u
 
 -- the words ask for this command
 pub of_command : (custom : Option Extension) (tells : Bool) (c : Contents) (now : ℤ) {asked : Result Command CommandFault} {k : Command} {o e : Bool} {ended : Cause} {s u : Seen} → asked ≡ Ok k → CarriesOut custom tells c now o e (Ok k) ended s u → CarriesOut custom tells c now o e asked ended s u
@@ -87,28 +88,24 @@ at_time custom tells c asked {o = o} {e} {ended} {s} {u} is p = subst (λ x. Car
 
 -- a run's end under another name
 pub runs_at : (custom : Option Extension) (tells : Bool) (c : Contents) (asked : Result Command CommandFault) {n m : ℤ} {o e : Bool} {ended : Cause} {line : List ℕ} {s u : Seen} → n ≡ m
-    → Runs (IsSeen (IsTrue tells) asked) (IsTrue tells ⊎ NeedsNoTree asked) (answered custom c n asked) (IsAnswer n asked) o e ended line s u
-    → Runs (IsSeen (IsTrue tells) asked) (IsTrue tells ⊎ NeedsNoTree asked) (answered custom c m asked) (IsAnswer m asked) o e ended line s u
+    → Runs (IsSeen (IsTrue tells) asked) (IsKnown (IsTrue tells) asked) (answered custom c n asked) (IsAnswer (IsTrue tells) custom c n asked) o e ended line s u
+    → Runs (IsSeen (IsTrue tells) asked) (IsKnown (IsTrue tells) asked) (answered custom c m asked) (IsAnswer (IsTrue tells) custom c m asked) o e ended line s u
 runs_at custom tells c asked {o = o} {e} {ended} {line} {s} {u} is p =
-    subst (λ x. Runs (IsSeen (IsTrue tells) asked) (IsTrue tells ⊎ NeedsNoTree asked) (answered custom c x asked) (IsAnswer x asked) o e ended line s u) is p
-
-pub by_tree : (tells : Bool) → IsTrue tells ⊎ ⊥ → IsTrue tells
-by_tree tells (inl t) = t
-by_tree tells (inr none) = absurd none
+    subst (λ x. Runs (IsSeen (IsTrue tells) asked) (IsKnown (IsTrue tells) asked) (answered custom c x asked) (IsAnswer (IsTrue tells) custom c x asked) o e ended line s u) is p
 
 -- pg_controldata was
 pub of_controldata : (custom : Option Extension) (tells : Bool) (c : Contents) (now : ℤ) {k : Command} {words : ControldataWords} {o e : Bool} {ended : Cause} {s u : Seen} → k ≡ command.Controldata words
     → Carries (IsTrue tells) (controldata_answer c words) IsControldata o e ended s u → CarriesOut custom tells c now o e (Ok k) ended s u
 of_controldata custom tells c now {o = o} {e} {ended} {s} {u} is p =
     let P : Command → Type 0 = λ x. CarriesOut custom tells c now o e (Ok x) ended s u in
-    subst P (sym is) (unseen_known (by_tree tells) (unseen_seen (inr (λ may. may)) p))
+    subst P (sym is) (unseen_seen (inr (λ may. may)) p)
 
 -- pg_walcompare was
 pub of_walcompare : (custom : Option Extension) (tells : Bool) (c : Contents) (now : ℤ) {k : Command} {words : WalcompareWords} {o e : Bool} {ended : Cause} {s u : Seen} → k ≡ command.Walcompare words
     → Carries (IsTrue tells) (walcompare_answer c words) IsWalcompare o e ended s u → CarriesOut custom tells c now o e (Ok k) ended s u
 of_walcompare custom tells c now {o = o} {e} {ended} {s} {u} is p =
     let P : Command → Type 0 = λ x. CarriesOut custom tells c now o e (Ok x) ended s u in
-    subst P (sym is) (unseen_known (by_tree tells) (unseen_seen (inr (λ may. may)) p))
+    subst P (sym is) (unseen_seen (inr (λ may. may)) p)
 
 -- where it is done the clusters are the same
 pub same_at : (custom : Option Extension) {k : Command} {words : WalcompareWords} (r : Result (Unit {0}) Cause) (now : ℤ) (tells : Bool) (c c' : Contents) (out out' : List ℕ) → k ≡ command.Walcompare words → OnOk r (AreSame c words)
@@ -138,7 +135,7 @@ pub of_archivecleanup : (custom : Option Extension) (tells : Bool) (c : Contents
     → CarriesUnseen (IsTrue tells ⊎ IsTrue words.dry_run) (IsTrue tells) (archivecleanup_answer c words) (IsArchivecleanup words) o e ended s u → CarriesOut custom tells c now o e (Ok k) ended s u
 of_archivecleanup custom tells c now {words = words} {o} {e} {ended} {s} {u} is p =
     let P : Command → Type 0 = λ x. CarriesOut custom tells c now o e (Ok x) ended s u in
-    subst P (sym is) (unseen_by (seen_dry (IsTrue tells) words) (dry_seen (IsTrue tells) words) (unseen_known (by_tree tells) p))
+    subst P (sym is) (unseen_by (seen_dry (IsTrue tells) words) (dry_seen (IsTrue tells) words) p)
 
 -- it changes nothing in a dry run
 pub dried_cleanup : {k : Command} {words : ArchivecleanupWords} → k ≡ command.Archivecleanup words → (MayChange (Ok k) → ⊥) → IsTrue words.dry_run
@@ -165,7 +162,7 @@ pub of_rewind : (custom : Option Extension) (tells : Bool) (c : Contents) (now :
     → CarriesUnseen (IsTrue tells ⊎ IsTrue words.dry_run) (IsTrue tells) (rewind_answer c c words now) (IsRewind words) o e ended s u → CarriesOut custom tells c now o e (Ok k) ended s u
 of_rewind custom tells c now {words = words} {o} {e} {ended} {s} {u} is p =
     let P : Command → Type 0 = λ x. CarriesOut custom tells c now o e (Ok x) ended s u in
-    subst P (sym is) (unseen_by (seen_rewind (IsTrue tells) words) (rewind_seen (IsTrue tells) words) (unseen_known (by_tree tells) p))
+    subst P (sym is) (unseen_by (seen_rewind (IsTrue tells) words) (rewind_seen (IsTrue tells) words) p)
 
 -- it changes nothing in a dry run
 pub dried_rewind : {k : Command} {words : RewindWords} → k ≡ command.Rewind words → (MayChange (Ok k) → ⊥) → IsTrue words.dry_run
@@ -193,7 +190,7 @@ pub of_walreplay : (custom : Option Extension) (tells : Bool) (c : Contents) (no
     → CarriesUnseen (IsTrue tells) (IsTrue tells) (walreplay_answer custom c words) (IsWalreplay words) o e ended s u → CarriesOut custom tells c now o e (Ok k) ended s u
 of_walreplay custom tells c now {words = words} {o} {e} {ended} {s} {u} is p =
     let P : Command → Type 0 = λ x. CarriesOut custom tells c now o e (Ok x) ended s u in
-    subst P (sym is) (unseen_by (seen_replay (IsTrue tells) words) (λ t. inl t) (unseen_known (by_tree tells) p))
+    subst P (sym is) (unseen_by (seen_replay (IsTrue tells) words) (λ t. inl t) p)
 
 -- it may change files
 pub replay_may : {k : Command} {words : WalreplayWords} → k ≡ command.Walreplay words → MayChange (Ok k)
@@ -218,7 +215,7 @@ pub of_pair : (custom : Option Extension) (tells : Bool) (c : Contents) (now : �
     → CarriesUnseen (IsTrue tells) (IsTrue tells) (pair_answer c words) (IsPair words) o e ended s u → CarriesOut custom tells c now o e (Ok k) ended s u
 of_pair custom tells c now {words = words} {o} {e} {ended} {s} {u} is p =
     let P : Command → Type 0 = λ x. CarriesOut custom tells c now o e (Ok x) ended s u in
-    subst P (sym is) (unseen_by (seen_pair (IsTrue tells) words) (λ t. inl t) (unseen_known (by_tree tells) p))
+    subst P (sym is) (unseen_by (seen_pair (IsTrue tells) words) (λ t. inl t) p)
 
 -- it may change files
 pub pair_may : {k : Command} {words : PairWords} → k ≡ command.Pair words → MayChange (Ok k)
@@ -233,18 +230,19 @@ paired_at custom {k} {words} r now tells c c' out out' is left = let Q : Command
 pub beside_at : (custom : Option Extension) {k : Command} {words : PairWords} (c c' : Contents) (ended : Cause) → k ≡ command.Pair words → StaysBeside words.root c c' → StaysAsked custom (Ok k) c c' ended
 beside_at custom {k} {words} c c' ended is stays = let Q : Command → Type 0 = λ x. StaysAsked custom (Ok x) c c' ended in subst Q (sym is) stays
 
--- what stays does so where a fault of a device, or want of memory, stands in place of the cause
-stays_free : (custom : Option Extension) (asked : Result Command CommandFault) (c c' : Contents) (own : Cause) {ended : Cause} → IsFree ended → StaysAsked custom asked c c' own → StaysAsked custom asked c c' ended
-stays_free custom (Ok (command.Rewind words)) c c' own free stays = tt
-stays_free custom (Ok (command.Resume words)) c c' own free stays = tt
-stays_free custom (Ok (command.Controldata words)) c c' own free stays = tt
-stays_free custom (Ok (command.Waldump words)) c c' own free stays = tt
-stays_free custom (Ok (command.Resetwal words)) c c' own free stays = tt
-stays_free custom (Ok (command.Archivecleanup words)) c c' own free stays = tt
-stays_free custom (Ok (command.Walreplay words)) c c' own free stays = record { log = stays.log; mark = λ s is. inl free }
-stays_free custom (Ok (command.Walcompare words)) c c' own free stays = tt
-stays_free custom (Ok (command.Pair words)) c c' own free stays = stays
-stays_free custom (Err e) c c' own free stays = tt
+-- what stays does so where want of memory for its line stands in place of the cause
+stays_unlined : (custom : Option Extension) (asked : Result Command CommandFault) (c c' : Contents) (own : Cause) {ended : Cause} → ended ≡ cause.OutOfMemory → StaysAsked custom asked c c' own → StaysAsked custom asked c c' ended
+stays_unlined custom (Ok (command.Rewind words)) c c' own none stays = tt
+stays_unlined custom (Ok (command.Resume words)) c c' own none stays = tt
+stays_unlined custom (Ok (command.Controldata words)) c c' own none stays = tt
+stays_unlined custom (Ok (command.Waldump words)) c c' own none stays = tt
+stays_unlined custom (Ok (command.Resetwal words)) c c' own none stays = tt
+stays_unlined custom (Ok (command.Archivecleanup words)) c c' own none stays = tt
+stays_unlined custom (Ok (command.Walreplay words)) c c' own none stays = record { log = stays.log; mark = λ s is. inl (inr (inr (inr none))) }
+stays_unlined custom (Ok (command.Restart words)) c c' own none stays = unlined_stays custom words c c' own _ none stays
+stays_unlined custom (Ok (command.Walcompare words)) c c' own none stays = tt
+stays_unlined custom (Ok (command.Pair words)) c c' own none stays = stays
+stays_unlined custom (Err e) c c' own none stays = tt
 
 -- where nothing was done, for want of memory
 pub stays_unmade : (custom : Option Extension) (asked : Result Command CommandFault) (c : Contents) → StaysAsked custom asked c c cause.OutOfMemory
@@ -255,6 +253,7 @@ stays_unmade custom (Ok (command.Waldump words)) c = tt
 stays_unmade custom (Ok (command.Resetwal words)) c = tt
 stays_unmade custom (Ok (command.Archivecleanup words)) c = tt
 stays_unmade custom (Ok (command.Walreplay words)) c = record { log = λ path holds. refl; mark = λ s is. inl (inr (inr (inr refl))) }
+stays_unmade custom (Ok (command.Restart words)) c = unmade_stays custom words c
 stays_unmade custom (Ok (command.Walcompare words)) c = tt
 stays_unmade custom (Ok (command.Pair words)) c = λ path beside. refl
 stays_unmade custom (Err e) c = tt
@@ -267,7 +266,7 @@ stays_refused custom f asked c {why} is (inr r) = let P : Result Command Command
 -- and with the cause that is told
 pub stays_told : (custom : Option Extension) (asked : Result Command CommandFault) (c c' : Contents) {outcome own ended : Cause} → own ≡ outcome → (ended ≡ own) ⊎ (IsTrue (has_values own) × (ended ≡ cause.OutOfMemory)) → StaysAsked custom asked c c' outcome → StaysAsked custom asked c c' ended
 stays_told custom asked c c' same (inl is) stays = subst (StaysAsked custom asked c c') (sym (is ∙ same)) stays
-stays_told custom asked c c' {outcome} same (inr m) stays = stays_free custom asked c c' outcome (inr (inr (inr m.1))) stays
+stays_told custom asked c c' {outcome} same (inr m) stays = stays_unlined custom asked c c' outcome m.1 stays
 
 -- what pg_resetwal does is seen where the tree tells, and of a dry run
 seen_reset : (T : Type 0) (words : ResetwalWords) → IsSeen T (Ok (command.Resetwal words)) → T ⊎ IsTrue (is_some words.options.dry)
@@ -283,7 +282,7 @@ pub of_resetwal : (custom : Option Extension) (tells : Bool) (c : Contents) (now
     → CarriesUnseen (IsTrue tells ⊎ IsTrue (is_some words.options.dry)) (IsTrue tells) (resetwal_answer c words now) (IsResetwal words now) o e ended s u → CarriesOut custom tells c now o e (Ok k) ended s u
 of_resetwal custom tells c now {words = words} {o} {e} {ended} {s} {u} is p =
     let P : Command → Type 0 = λ x. CarriesOut custom tells c now o e (Ok x) ended s u in
-    subst P (sym is) (unseen_by (seen_reset (IsTrue tells) words) (reset_seen (IsTrue tells) words) (unseen_known (by_tree tells) p))
+    subst P (sym is) (unseen_by (seen_reset (IsTrue tells) words) (reset_seen (IsTrue tells) words) p)
 
 -- it changes nothing in a dry run
 pub dried_reset : {k : Command} {words : ResetwalWords} → k ≡ command.Resetwal words → (MayChange (Ok k) → ⊥) → IsTrue (is_some words.options.dry)
@@ -293,27 +292,27 @@ dried_reset {k} {words} is none = undried (is_some words.options.dry) (let P : C
 pub wet_reset : {k : Command} {words : ResetwalWords} → k ≡ command.Resetwal words → is_some words.options.dry ≡ false → MayChange (Ok k)
 wet_reset {k} {words} is dry = let P : Command → Type 0 = λ x. MayChange (Ok x) in subst P (sym is) (wet (is_some words.options.dry) dry)
 
--- what needs no tree changes nothing
-needless : (asked : Result Command CommandFault) → NeedsNoTree asked → MayChange asked → ⊥
-needless (Ok (command.Rewind words)) need may = need
-needless (Ok (command.Resume words)) need may = need
-needless (Ok (command.Controldata words)) need may = may
-needless (Ok (command.Waldump words)) need may = may
-needless (Ok (command.Resetwal words)) need may = need
-needless (Ok (command.Archivecleanup words)) need may = need
-needless (Ok (command.Walreplay words)) need may = need
-needless (Ok (command.Walcompare words)) need may = need
-needless (Ok (command.Pair words)) need may = need
-needless (Err e) need may = may
-
-seen_by : (T : Type 0) (asked : Result Command CommandFault) → T ⊎ NeedsNoTree asked → IsSeen T asked
-seen_by T asked (inl t) = inl t
-seen_by T asked (inr need) = inr (needless asked need)
+-- where it is known which answer is meant, what is done is seen
+known_seen : (T : Type 0) (asked : Result Command CommandFault) → IsKnown T asked → IsSeen T asked
+known_seen T (Ok (command.Rewind words)) t = inl t
+known_seen T (Ok (command.Resume words)) t = inl t
+known_seen T (Ok (command.Controldata words)) t = inl t
+known_seen T (Ok (command.Waldump words)) (inl t) = inl t
+known_seen T (Ok (command.Waldump words)) (inr list) = inr (λ may. may)
+known_seen T (Ok (command.Resetwal words)) t = inl t
+known_seen T (Ok (command.Archivecleanup words)) t = inl t
+known_seen T (Ok (command.Walreplay words)) t = inl t
+known_seen T (Ok (command.Restart words)) never = absurd never
+known_seen T (Ok (command.Walcompare words)) t = inl t
+known_seen T (Ok (command.Pair words)) t = inl t
+known_seen T (Err e) u = inr (λ may. may)
 
 module _ (custom : Option Extension) (tells : Bool) (c : Contents) (now : ℤ) (asked : Result Command CommandFault) {o e : Bool} {k : List ChangeCall} {out err : Sunk} where
   -- there was no memory for the words
   pub no_words : CarriesOut custom tells c now o e asked cause.OutOfMemory (seen c k out err) (seen c k out err)
-  no_words = unseen_still refl refl (λ d j. carries_fault (answered-form custom c now asked) (answered-looks custom c now asked) (inr refl) refl refl)
+  no_words =
+      let own = formed custom tells c now asked in
+      unseen_still refl refl (λ d j. carries_as (λ h. h) own.known refl refl (carries_fault own.form own.looks (inr refl) refl refl))
 
   refuses : (f : CommandFault) → CarriesOut custom tells c now o e (Err f) (words_cause f) (seen c k out err) (seen c k out err)
   refuses fault.Usage = unseen_still refl refl (λ d j. carries_refused cause.Usage refl (λ h. refl) refl refl refl)
@@ -336,8 +335,8 @@ refused_alone f asked (inr r) e is = let same : Some (words_cause f) ≡ Some e 
 
 -- the cause that is told is the outcome, or want of memory for its line
 pub exact_told : (custom : Option Extension) (tells : Bool) (c : Contents) (now : ℤ) (asked : Result Command CommandFault) {o e : Bool} {outcome own ended : Cause} {s u : Seen} → own ≡ outcome → (ended ≡ own) ⊎ (IsTrue (has_values own) × (ended ≡ cause.OutOfMemory))
-    → CarriesOut custom tells c now o e asked outcome s u → IsTrue tells ⊎ NeedsNoTree asked → IsFree ended ⊎ (ended ≡ cause_in (answered custom c now asked).refusal)
-exact_told custom tells c now asked {o} {e} {outcome} {own} {ended} {s} {u} same (inl is) p h = carries_exact h (carries_told (is ∙ same) (seen_of (seen_by (IsTrue tells) asked h) p))
+    → CarriesOut custom tells c now o e asked outcome s u → IsKnown (IsTrue tells) asked → IsFree ended ⊎ (ended ≡ cause_in (answered custom c now asked).refusal)
+exact_told custom tells c now asked {o} {e} {outcome} {own} {ended} {s} {u} same (inl is) p h = carries_exact h (carries_told (is ∙ same) (seen_of (known_seen (IsTrue tells) asked h) p))
 exact_told custom tells c now asked same (inr m) p h = inl (inr (inr (inr m.1)))
 
 -- a run that is done had that outcome

@@ -36,6 +36,7 @@ within custom (Ok (command.Waldump words)) now first c u = u
 within custom (Ok (command.Resetwal words)) now first c u = inl u
 within custom (Ok (command.Archivecleanup words)) now first c u = (c, u, λ path. inl refl)
 within custom (Ok (command.Walreplay words)) now first c u = inl u
+within custom (Ok (command.Restart words)) now first c u = inl u
 within custom (Ok (command.Walcompare words)) now first c u = u
 within custom (Ok (command.Pair words)) now first c u = (c, u, λ path beside. refl)
 within custom (Err e) now first c u = u

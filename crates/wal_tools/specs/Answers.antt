@@ -9,6 +9,7 @@ use Rattle.cmd_archivecleanup.specs.Archivecleanup.{IsArchivecleanup, archivecle
 use Rattle.cmd_controldata.specs.Controldata.{IsControldata, controldata_answer}
 use Rattle.cmd_pair.specs.Pair.{IsPair, pair_answer}
 use Rattle.cmd_resetwal.specs.Resetwal.{IsResetwal, resetwal_answer}
+use Rattle.cmd_restart.specs.Restart.{IsRestartIn, unknown_answer}
 use Rattle.cmd_resume.specs.Resume.{IsResume, resume_answer}
 use Rattle.cmd_rewind.specs.Rewind.{IsRewind, rewind_answer}
 use Rattle.cmd_walcompare.specs.Walcompare.{IsWalcompare, walcompare_answer}
@@ -17,7 +18,8 @@ use Rattle.cmd_walreplay.specs.Walreplay.{IsWalreplay, walreplay_answer}
 use Rattle.wal_tools.specs.Words.{words_cause}
 use Rattle.rmgr_hooks.specs.Custom.{Extension}
 
--- what is done about the words, from the contents and the time in seconds since 1970
+-- What is done about the words, from the contents and the time in seconds since 1970. Of a replay that can be started again no one answer is known
+-- (`IsKnown`): `IsAnswer` says what those are that may be meant.
 abbrev pub answered : Option Extension → Contents → ℤ → Result Command CommandFault → Answer
 answered custom c now (Ok (command.Rewind words)) = rewind_answer c c words now
 answered custom c now (Ok (command.Resume words)) = resume_answer c words now
@@ -26,19 +28,21 @@ answered custom c now (Ok (command.Waldump words)) = waldump_answer custom c wor
 answered custom c now (Ok (command.Resetwal words)) = resetwal_answer c words now
 answered custom c now (Ok (command.Archivecleanup words)) = archivecleanup_answer c words
 answered custom c now (Ok (command.Walreplay words)) = walreplay_answer custom c words
+answered custom c now (Ok (command.Restart words)) = unknown_answer
 answered custom c now (Ok (command.Walcompare words)) = walcompare_answer c words
 answered custom c now (Ok (command.Pair words)) = pair_answer c words
 answered custom c now (Err e) = refused (words_cause e)
 
--- what the command may do over any tree
-abbrev pub IsAnswer : ℤ → Result Command CommandFault → Answer → Type 0
-IsAnswer now (Ok (command.Rewind words)) answer = IsRewind words answer
-IsAnswer now (Ok (command.Resume words)) answer = IsResume words answer
-IsAnswer now (Ok (command.Controldata words)) answer = IsControldata answer
-IsAnswer now (Ok (command.Waldump words)) answer = IsWaldump words answer
-IsAnswer now (Ok (command.Resetwal words)) answer = IsResetwal words now answer
-IsAnswer now (Ok (command.Archivecleanup words)) answer = IsArchivecleanup words answer
-IsAnswer now (Ok (command.Walreplay words)) answer = IsWalreplay words answer
-IsAnswer now (Ok (command.Walcompare words)) answer = IsWalcompare answer
-IsAnswer now (Ok (command.Pair words)) answer = IsPair words answer
-IsAnswer now (Err e) answer = answer ≡ refused (words_cause e)
+-- what the command may do over any tree; of a replay that can be started again also what may be meant of the contents, where the tree tells them
+abbrev pub IsAnswer : (tells : Type 0) → Option Extension → Contents → ℤ → Result Command CommandFault → Answer → Type 0
+IsAnswer tells custom c now (Ok (command.Rewind words)) answer = IsRewind words answer
+IsAnswer tells custom c now (Ok (command.Resume words)) answer = IsResume words answer
+IsAnswer tells custom c now (Ok (command.Controldata words)) answer = IsControldata answer
+IsAnswer tells custom c now (Ok (command.Waldump words)) answer = IsWaldump words answer
+IsAnswer tells custom c now (Ok (command.Resetwal words)) answer = IsResetwal words now answer
+IsAnswer tells custom c now (Ok (command.Archivecleanup words)) answer = IsArchivecleanup words answer
+IsAnswer tells custom c now (Ok (command.Walreplay words)) answer = IsWalreplay words answer
+IsAnswer tells custom c now (Ok (command.Restart words)) answer = IsRestartIn tells custom c words answer
+IsAnswer tells custom c now (Ok (command.Walcompare words)) answer = IsWalcompare answer
+IsAnswer tells custom c now (Ok (command.Pair words)) answer = IsPair words answer
+IsAnswer tells custom c now (Err e) answer = answer ≡ refused (words_cause e)

@@ -21,6 +21,7 @@ ConvergesAsked custom (Ok (command.Waldump words)) now c c' = Unit {0}
 ConvergesAsked custom (Ok (command.Resetwal words)) now c c' = Unit {0}
 ConvergesAsked custom (Ok (command.Archivecleanup words)) now c c' = Unit {0}
 ConvergesAsked custom (Ok (command.Walreplay words)) now c c' = Unit {0}
+ConvergesAsked custom (Ok (command.Restart words)) now c c' = Unit {0}
 ConvergesAsked custom (Ok (command.Walcompare words)) now c c' = Unit {0}
 ConvergesAsked custom (Ok (command.Pair words)) now c c' = Unit {0}
 ConvergesAsked custom (Err e) now c c' = Unit {0}

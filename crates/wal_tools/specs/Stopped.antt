@@ -9,6 +9,7 @@ use Rattle.commands.specs.declared.fault.CommandFault.{CommandFault}
 use Rattle.cmd_archivecleanup.specs.Left.{IsLeftByCleanup}
 use Rattle.cmd_pair.specs.Left.{IsLeftByPair}
 use Rattle.cmd_resetwal.specs.Resetwal.{IsLeftByReset}
+use Rattle.cmd_restart.specs.Restart.{IsLeftByStart}
 use Rattle.cmd_resume.specs.Resume.{IsLeftByResume, IsResumedDurably}
 use Rattle.cmd_rewind.specs.Rewind.{IsDurable, IsLeftByRewind}
 use Rattle.cmd_walreplay.specs.Walreplay.{IsLeftByWalreplay}
@@ -24,12 +25,13 @@ IsLeftAsked custom (Ok (command.Waldump words)) now first c = IsUntouched first 
 IsLeftAsked custom (Ok (command.Resetwal words)) now first c = IsLeftByReset words now first c
 IsLeftAsked custom (Ok (command.Archivecleanup words)) now first c = IsLeftByCleanup words first c
 IsLeftAsked custom (Ok (command.Walreplay words)) now first c = IsLeftByWalreplay custom words first c
+IsLeftAsked custom (Ok (command.Restart words)) now first c = IsLeftByStart custom words first c
 IsLeftAsked custom (Ok (command.Walcompare words)) now first c = IsUntouched first c
 IsLeftAsked custom (Ok (command.Pair words)) now first c = IsLeftByPair words first c
 IsLeftAsked custom (Err e) now first c = IsUntouched first c
 
 -- Once it is done, a stop leaves what stands, and nothing else: of a rewind that was asked for and needed, of a resume, of a reset that was asked
--- for, and of a replay.
+-- for, and of a replay, also of one that can be started again.
 abbrev pub IsDurableAsked : Result Command CommandFault → ℤ → Contents → Moment → Type 0
 IsDurableAsked (Ok (command.Rewind words)) now c moment = IsDurable words now c moment
 IsDurableAsked (Ok (command.Resume words)) now c moment = IsResumedDurably words now c moment
@@ -38,6 +40,7 @@ IsDurableAsked (Ok (command.Waldump words)) now c moment = Unit {0}
 IsDurableAsked (Ok (command.Resetwal words)) now c moment = words.options.dry ≡ None → StandsSynced moment.state.contents moment
 IsDurableAsked (Ok (command.Archivecleanup words)) now c moment = Unit {0}
 IsDurableAsked (Ok (command.Walreplay words)) now c moment = StandsSynced moment.state.contents moment
+IsDurableAsked (Ok (command.Restart words)) now c moment = StandsSynced moment.state.contents moment
 IsDurableAsked (Ok (command.Walcompare words)) now c moment = Unit {0}
 IsDurableAsked (Ok (command.Pair words)) now c moment = Unit {0}
 IsDurableAsked (Err e) now c moment = Unit {0}

@@ -27,6 +27,7 @@ refused_by_words (Ok (command.Waldump words)) = None
 refused_by_words (Ok (command.Resetwal words)) = None
 refused_by_words (Ok (command.Archivecleanup words)) = None
 refused_by_words (Ok (command.Walreplay words)) = None
+refused_by_words (Ok (command.Restart words)) = None
 refused_by_words (Ok (command.Walcompare words)) = None
 refused_by_words (Ok (command.Pair words)) = None
 refused_by_words (Err e) = Some (words_cause e)
@@ -40,6 +41,7 @@ AreFaulty (Ok (command.Waldump words)) = BreakRule words
 AreFaulty (Ok (command.Resetwal words)) = ⊥
 AreFaulty (Ok (command.Archivecleanup words)) = ⊥
 AreFaulty (Ok (command.Walreplay words)) = ⊥
+AreFaulty (Ok (command.Restart words)) = ⊥
 AreFaulty (Ok (command.Walcompare words)) = ⊥
 AreFaulty (Ok (command.Pair words)) = ⊥
 AreFaulty (Err e) = e ≡ fault.Usage
@@ -53,6 +55,7 @@ NeedsNoTree (Ok (command.Waldump words)) = AskForList words
 NeedsNoTree (Ok (command.Resetwal words)) = ⊥
 NeedsNoTree (Ok (command.Archivecleanup words)) = ⊥
 NeedsNoTree (Ok (command.Walreplay words)) = ⊥
+NeedsNoTree (Ok (command.Restart words)) = ⊥
 NeedsNoTree (Ok (command.Walcompare words)) = ⊥
 NeedsNoTree (Ok (command.Pair words)) = ⊥
 NeedsNoTree (Err e) = Unit {0}
@@ -66,6 +69,7 @@ MayChange (Ok (command.Waldump words)) = ⊥
 MayChange (Ok (command.Resetwal words)) = IsTrue (not (is_some words.options.dry))
 MayChange (Ok (command.Archivecleanup words)) = IsTrue (not words.dry_run)
 MayChange (Ok (command.Walreplay words)) = Unit {0}
+MayChange (Ok (command.Restart words)) = Unit {0}
 MayChange (Ok (command.Walcompare words)) = ⊥
 MayChange (Ok (command.Pair words)) = Unit {0}
 MayChange (Err e) = ⊥
@@ -79,6 +83,7 @@ Walks (Ok (command.Waldump words)) = ⊥
 Walks (Ok (command.Resetwal words)) = ⊥
 Walks (Ok (command.Archivecleanup words)) = ⊥
 Walks (Ok (command.Walreplay words)) = Unit {0}
+Walks (Ok (command.Restart words)) = Unit {0}
 Walks (Ok (command.Walcompare words)) = Unit {0}
 Walks (Ok (command.Pair words)) = ⊥
 Walks (Err e) = ⊥
@@ -86,3 +91,18 @@ Walks (Err e) = ⊥
 -- what a run does to the tree is seen: the tree tells what it holds, or the command changes nothing
 abbrev pub IsSeen : (tells : Type 0) → Result Command CommandFault → Type 0
 IsSeen tells asked = tells ⊎ (MayChange asked → ⊥)
+
+-- It is known which answer is meant: the tree tells what it holds, or what is asked for needs no tree. Of a replay that can be started again no one answer
+-- is: more than one may be meant of the same contents.
+abbrev pub IsKnown : (tells : Type 0) → Result Command CommandFault → Type 0
+IsKnown tells (Ok (command.Rewind words)) = tells
+IsKnown tells (Ok (command.Resume words)) = tells
+IsKnown tells (Ok (command.Controldata words)) = tells
+IsKnown tells (Ok (command.Waldump words)) = tells ⊎ AskForList words
+IsKnown tells (Ok (command.Resetwal words)) = tells
+IsKnown tells (Ok (command.Archivecleanup words)) = tells
+IsKnown tells (Ok (command.Walreplay words)) = tells
+IsKnown tells (Ok (command.Restart words)) = ⊥
+IsKnown tells (Ok (command.Walcompare words)) = tells
+IsKnown tells (Ok (command.Pair words)) = tells
+IsKnown tells (Err e) = Unit {0}

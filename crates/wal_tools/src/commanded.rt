@@ -13,13 +13,14 @@ ghost use Rattle.wal_tools.specs.Answers.{IsAnswer, answered};
 ghost use Rattle.wal_tools.specs.Leaves.{LeavesAsked, StaysAsked};
 ghost use Rattle.wal_tools.specs.Resumable.{LeavesFresh, LeavesStopped, LeavesToResume, MakesResumed};
 ghost use Rattle.wal_tools.specs.Stopped.{IsDurableAsked, IsLeftAsked};
-ghost use Rattle.wal_tools.specs.Words.{AreFaulty, IsSeen, MayChange, NeedsNoTree, Walks, refused_by_words};
+ghost use Rattle.wal_tools.specs.Words.{AreFaulty, IsKnown, IsSeen, MayChange, NeedsNoTree, Walks, refused_by_words};
 
 use cluster_tree::{Sink, Tree};
 use cmd_archivecleanup::archivecleanup;
 use cmd_controldata::controldata;
 use cmd_pair::pair;
 use cmd_resetwal::resetwal;
+use cmd_restart::restart_replay;
 use cmd_resume::resume;
 use cmd_rewind::{OwnMark, rewind};
 use cmd_walcompare::walcompare;
@@ -43,9 +44,10 @@ pub(crate) fn carry_out<F: Tree, O: Sink, E: Sink, M: Manager>(
 ) -> Result<(), Cause>
     requires { IsFit command.now }
     ensures carries { CarriesUnseen (IsSeen (IsTrue F.tells) (Ok command.now))
-        (IsTrue F.tells ⊎ NeedsNoTree (Ok command.now))
+        (IsKnown (IsTrue F.tells) (Ok command.now))
         (answered (handed_in M.Manager custom.entry) (F.contents tree.old) now (Ok command.now))
-        (IsAnswer now (Ok command.now)) O.tells E.tells (cause_of result)
+        (IsAnswer (IsTrue F.tells) (handed_in M.Manager custom.entry) (F.contents tree.old) now
+        (Ok command.now)) O.tells E.tells (cause_of result)
         (seen (F.contents tree.old) (F.calls tree.old)
         (sunk (O.written out.old) (O.failed_writes out.old))
         (sunk (E.written err.old) (E.failed_writes err.old)))
@@ -92,6 +94,7 @@ pub(crate) fn carry_out<F: Tree, O: Sink, E: Sink, M: Manager>(
         Command::Resetwal(words) => resetwal(alloc, tree, out, words, now),
         Command::Archivecleanup(words) => archivecleanup(alloc, tree, out, err, words),
         Command::Walreplay(words) => walreplay(alloc, tree, out, words, custom),
+        Command::Restart(words) => restart_replay(alloc, tree, out, words, custom),
         Command::Walcompare(words) => walcompare(alloc, tree, out, words),
         Command::Pair(words) => pair(alloc, tree, out, words),
     }

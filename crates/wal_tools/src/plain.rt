@@ -16,7 +16,7 @@ ghost use Rattle.wal_tools.specs.Leaves.{LeavesAsked, StaysAsked};
 ghost use Rattle.wal_tools.specs.Runs.{Runs};
 ghost use Rattle.wal_tools.specs.Resumable.{LeavesFresh, LeavesStopped, LeavesToResume, MakesResumed};
 ghost use Rattle.wal_tools.specs.Stopped.{IsDurableAsked, IsLeftAsked};
-ghost use Rattle.wal_tools.specs.Words.{AreFaulty, IsSeen, MayChange, NeedsNoTree, Walks, refused_by_words};
+ghost use Rattle.wal_tools.specs.Words.{AreFaulty, IsKnown, IsSeen, MayChange, NeedsNoTree, Walks, refused_by_words};
 
 use crate::program::run_with;
 use cluster_tree::{Sink, Tree};
@@ -35,15 +35,16 @@ pub fn run<F: Tree, O: Sink, E: Sink>(
     now: i64,
 ) -> Exit
     ensures status { result.status ≡ status_of result.cause }
-    ensures exact { IsTrue F.tells ⊎ NeedsNoTree (command_of (map string_bytes words.now)) →
+    ensures exact { IsKnown (IsTrue F.tells) (command_of (map string_bytes words.now)) →
         IsFree result.cause ⊎ (result.cause ≡ cause_in (answered
         None (F.contents tree.old) now
         (command_of (map string_bytes words.now))).refusal) }
     ensures runs { Runs (IsSeen (IsTrue F.tells) (command_of (map string_bytes words.now)))
-        (IsTrue F.tells ⊎ NeedsNoTree (command_of (map string_bytes words.now)))
+        (IsKnown (IsTrue F.tells) (command_of (map string_bytes words.now)))
         (answered None (F.contents tree.old) now
         (command_of (map string_bytes words.now)))
-        (IsAnswer now (command_of (map string_bytes words.now))) O.tells E.tells result.cause
+        (IsAnswer (IsTrue F.tells) None (F.contents tree.old) now
+        (command_of (map string_bytes words.now))) O.tells E.tells result.cause
         (line_of (name_of (map string_bytes words.now)) result.cause)
         (seen (F.contents tree.old) (F.calls tree.old)
         (sunk (O.written out.old) (O.failed_writes out.old))

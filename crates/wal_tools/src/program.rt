@@ -17,7 +17,7 @@ ghost use Rattle.wal_tools.specs.Leaves.{LeavesAsked, StaysAsked};
 ghost use Rattle.wal_tools.specs.Runs.{Runs};
 ghost use Rattle.wal_tools.specs.Resumable.{LeavesFresh, LeavesStopped, LeavesToResume, MakesResumed};
 ghost use Rattle.wal_tools.specs.Stopped.{IsDurableAsked, IsLeftAsked};
-ghost use Rattle.wal_tools.specs.Words.{AreFaulty, IsSeen, MayChange, NeedsNoTree, Walks, refused_by_words};
+ghost use Rattle.wal_tools.specs.Words.{AreFaulty, IsKnown, IsSeen, MayChange, NeedsNoTree, Walks, refused_by_words};
 
 use crate::commanded::carry_out;
 use crate::ending::finish;
@@ -40,10 +40,11 @@ fn answer<F: Tree, O: Sink, E: Sink, M: Manager>(
 ) -> Result<(), Cause>
     ensures carries { CarriesUnseen
         (IsSeen (IsTrue F.tells) (command_of (map string_bytes words.now)))
-        (IsTrue F.tells ⊎ NeedsNoTree (command_of (map string_bytes words.now)))
+        (IsKnown (IsTrue F.tells) (command_of (map string_bytes words.now)))
         (answered (handed_in M.Manager custom.entry) (F.contents tree.old) now
         (command_of (map string_bytes words.now)))
-        (IsAnswer now (command_of (map string_bytes words.now))) O.tells E.tells (cause_of result)
+        (IsAnswer (IsTrue F.tells) (handed_in M.Manager custom.entry) (F.contents tree.old) now
+        (command_of (map string_bytes words.now))) O.tells E.tells (cause_of result)
         (seen (F.contents tree.old) (F.calls tree.old)
         (sunk (O.written out.old) (O.failed_writes out.old))
         (sunk (E.written err.old) (E.failed_writes err.old)))
@@ -124,16 +125,17 @@ pub fn run_with<F: Tree, O: Sink, E: Sink, M: Manager>(
 ) -> Exit
     ensures status { result.status ≡ status_of result.cause }
     // the cause is that of the words and the contents, a fault of a device, or want of memory
-    ensures exact { IsTrue F.tells ⊎ NeedsNoTree (command_of (map string_bytes words.now)) →
+    ensures exact { IsKnown (IsTrue F.tells) (command_of (map string_bytes words.now)) →
         IsFree result.cause ⊎ (result.cause ≡ cause_in (answered
         (handed_in M.Manager custom.entry) (F.contents tree.old) now
         (command_of (map string_bytes words.now))).refusal) }
     // the acts of the command, in order, as far as they came, and then the line of the cause
     ensures runs { Runs (IsSeen (IsTrue F.tells) (command_of (map string_bytes words.now)))
-        (IsTrue F.tells ⊎ NeedsNoTree (command_of (map string_bytes words.now)))
+        (IsKnown (IsTrue F.tells) (command_of (map string_bytes words.now)))
         (answered (handed_in M.Manager custom.entry) (F.contents tree.old) now
         (command_of (map string_bytes words.now)))
-        (IsAnswer now (command_of (map string_bytes words.now))) O.tells E.tells result.cause
+        (IsAnswer (IsTrue F.tells) (handed_in M.Manager custom.entry) (F.contents tree.old) now
+        (command_of (map string_bytes words.now))) O.tells E.tells result.cause
         (line_of (name_of (map string_bytes words.now)) result.cause)
         (seen (F.contents tree.old) (F.calls tree.old)
         (sunk (O.written out.old) (O.failed_writes out.old))

@@ -45,14 +45,28 @@ fn left_at(
     inventory(alloc, &mut left)
 }
 
-// Whether a mark is a complete one of a rewind.
-fn is_complete(alloc: Global, tree: &mut MemoryTree, mark: &Path) -> Result<bool, LineFault> {
-    if tree.size(mark)? <= 14 {
+// Whether a file has more bytes than this, and begins with these.
+fn begins_with(
+    alloc: Global,
+    tree: &mut MemoryTree,
+    path: &Path,
+    least: u64,
+    head: &[u8],
+) -> Result<bool, LineFault> {
+    if tree.size(path)? <= least {
         return Ok(false);
     }
-    let mut head = zeros(alloc, 13)?;
-    tree.read_at(mark, 0, &mut head)?;
-    Ok(head.as_slice() == b"pg_rewind 2\n+".as_slice())
+    let mut found = zeros(alloc, head.len())?;
+    tree.read_at(path, 0, &mut found)?;
+    Ok(found.as_slice() == head)
+}
+
+// Whether a mark is a complete one of a rewind, or of a replay that can be started again.
+fn is_complete(alloc: Global, tree: &mut MemoryTree, mark: &Path) -> Result<bool, LineFault> {
+    Ok(
+        begins_with(alloc, tree, mark, 14, b"pg_rewind 2\n+")?
+            || begins_with(alloc, tree, mark, 18, b"pg_walreplay 2\n+")?,
+    )
 }
 
 impl Stopped<'_> {

@@ -5,6 +5,7 @@ use Rattle.acts.specs.Acts.{sunk}
 use Rattle.cluster_tree.specs.Frame.{moment_of}
 use Rattle.run_acts.specs.Causes.{cause_of}
 use Rattle.wal_tools.proofs.RunLemmas.{at_time, beside_at, dried_cleanup, dried_reset, dried_rewind, of_archivecleanup, of_controldata, of_pair, of_resetwal, of_rewind, of_waldump, of_walcompare, of_walreplay, pair_may, paired_at, replay_may, replayed_at, rewound_at, same_at, stays_at}
+use Rattle.wal_tools.proofs.RestartLemmas.{durable_restart, left_of_restart, of_restart, restart_may, restart_stays, restarted_at}
 use Rattle.wal_tools.proofs.ResumeLemmas.{dried_resume, durable_resume, left_of_resume, of_resume, resumed_at}
 use Rattle.wal_tools.proofs.ResumableLemmas.{again_resume, resumable_resume, resumable_rewind, tries_resume}
 use Rattle.wal_tools.proofs.StopLemmas.{durable_replay, durable_reset, durable_rewind, left_of_cleanup, left_of_pair, left_of_replay, left_of_reset, left_of_rewind, read_left}
@@ -203,3 +204,31 @@ returns-in-Resume-clause-again g c t resume asked first before n plan stop stand
 pub returns-in-Resume-clause-tries : goal.returns-in-Resume-clause-tries
 returns-in-Resume-clause-tries g c t resume asked =
     tries_resume (g.F.Tree.contents c.args.tree.now) (g.F.Tree.calls c.args.tree.now) (g.F.Tree.calls c.resume.new.tree) (cause_of c.resume.result) c.in-Resume.is (c.resume.ensures.tries t) resume asked
+
+pub returns-in-Restart-clause-carries : goal.returns-in-Restart-clause-carries
+returns-in-Restart-clause-carries g c =
+    of_restart c.in-Restart.is _ g.F.Tree.tells (g.F.Tree.contents c.args.tree.now) c.args.now
+    (c.restart_replay.ensures.carries g.E.Sink.tells (sunk (g.E.Sink.written c.args.err.now) (g.E.Sink.failed_writes c.args.err.now)))
+
+pub returns-in-Restart-clause-blames : goal.returns-in-Restart-clause-blames
+returns-in-Restart-clause-blames g c = c.restart_replay.ensures.blames (g.E.Sink.failed_writes c.args.err.now)
+
+pub returns-in-Restart-clause-reads : goal.returns-in-Restart-clause-reads
+returns-in-Restart-clause-reads g c none = absurd (none (restart_may c.in-Restart.is))
+
+pub returns-in-Restart-clause-leaves : goal.returns-in-Restart-clause-leaves
+returns-in-Restart-clause-leaves g c t =
+    restarted_at c.in-Restart.is (handed_in g.M.Manager c.args.custom) c.restart_replay.result _ g.O.Sink.tells (g.F.Tree.contents c.args.tree.now) (g.F.Tree.contents c.restart_replay.new.tree)
+    (g.O.Sink.written c.args.out.now) (g.O.Sink.written c.restart_replay.new.out) (c.restart_replay.ensures.restarted t)
+
+pub returns-in-Restart-clause-stays : goal.returns-in-Restart-clause-stays
+returns-in-Restart-clause-stays g c t =
+    restart_stays c.in-Restart.is (handed_in g.M.Manager c.args.custom) (g.F.Tree.contents c.args.tree.now) (g.F.Tree.contents c.restart_replay.new.tree) (cause_of c.restart_replay.result) (c.restart_replay.ensures.stays t)
+
+pub returns-in-Restart-clause-stops : goal.returns-in-Restart-clause-stops
+returns-in-Restart-clause-stops g c t =
+    left_of_restart c.in-Restart.is (handed_in g.M.Manager c.args.custom) c.args.now (moment_of g.F.Tree c.args.tree.now) (g.F.Tree.stops c.args.tree.now) (g.F.Tree.stops c.restart_replay.new.tree) (c.restart_replay.ensures.stops t)
+
+pub returns-in-Restart-clause-durable : goal.returns-in-Restart-clause-durable
+returns-in-Restart-clause-durable g c t =
+    durable_restart c.in-Restart.is c.restart_replay.result c.args.now (g.F.Tree.contents c.args.tree.now) (moment_of g.F.Tree c.restart_replay.new.tree) (c.restart_replay.ensures.synced t)

@@ -1,0 +1,3 @@
+pub mod CarryLemmas
+pub mod FormLemmas
+pub mod StayLemmas
