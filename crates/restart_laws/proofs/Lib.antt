@@ -1,0 +1,15 @@
+pub mod PlaceLemmas
+pub mod StartLemmas
+pub mod BegunLemmas
+pub mod AlikeLemmas
+pub mod EndLemmas
+pub mod AgainLemmas
+pub mod DoneLemmas
+pub mod TakenLemmas
+pub mod ControlLemmas
+pub mod StopLemmas
+pub mod WalkLemmas
+pub mod ListedLemmas
+pub mod LaidLemmas
+pub mod RunLemmas
+pub mod LateLemmas
