@@ -15,6 +15,11 @@ use Rattle.replay_restart.specs.declared.outcome.Restarted.{Restarted}
 use Rattle.replay_restart.specs.declared.outcome.Restarted.TheVariants as told
 use Rattle.rmgr_hooks.specs.Custom.{Extension}
 use Rattle.cluster_causes.specs.Walks.{walk_cause}
+use Rattle.replay_restart.specs.Stopped.{IsStopped}
+use Rattle.marked_runs.specs.Moments.{StandsSynced}
+use Rattle.cluster_tree.specs.Frame.{moment_of}
+use Rattle.cluster_tree.specs.Stops.{LeavesOnly}
+use Rattle.cluster_tree.specs.declared.tree.Tree.{Ghosts}
 use Rattle.run_acts.specs.Answers.{Answer, does, refused}
 use Rattle.run_acts.specs.Causes.{IsFree, IsOfLook}
 use Rattle.run_acts.specs.declared.cause.Cause.{Cause}
@@ -94,3 +99,8 @@ pub record StaysRestarted (custom : Option Extension) (words : WalreplayWords) (
 -- a stop at any moment leaves what one could have left at the start; the mark; or what is meant
 abbrev pub IsLeftByStart : Option Extension → WalreplayWords → Moment → Contents → Type 0
 IsLeftByStart custom words first c = IsLeftByRestart custom words.root first c
+
+-- where what stands is synced at the start, a stop at any moment leaves what the same words go on from
+abbrev pub LeavesToGoOn : {F : Type 0} → Ghosts F → Option Extension → WalreplayWords → F → F → Type 0
+LeavesToGoOn tree custom words old new =
+    StandsSynced (tree.contents old) (moment_of tree old) → LeavesOnly (IsStopped custom words.root (tree.contents old)) (tree.stops old) (tree.stops new)

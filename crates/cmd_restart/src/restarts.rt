@@ -9,7 +9,7 @@ ghost use Rattle.run_acts.specs.Answers.{Blames};
 ghost use Rattle.run_acts.specs.Causes.{IsFree, cause_of, is_deep, is_of_files};
 ghost use Rattle.run_acts.specs.Unseen.{CarriesUnseen};
 ghost use Rattle.replay_core.specs.Stops.{IsDurable};
-ghost use Rattle.cmd_restart.specs.Restart.{IsLeftByStart, IsRefused, IsRestartIn, LeavesRestarted, StaysRestarted, unknown_answer};
+ghost use Rattle.cmd_restart.specs.Restart.{IsLeftByStart, IsRefused, IsRestartIn, LeavesRestarted, LeavesToGoOn, StaysRestarted, unknown_answer};
 ghost use Rattle.rmgr_hooks.specs.Custom.{handed_in};
 
 use crate::causes::restart_cause;
@@ -64,6 +64,9 @@ pub fn restart_replay<F: Tree, O: Sink, M: Manager>(
     ensures stops { IsTrue F.tells → LeavesOnly
         (IsLeftByStart (handed_in M.Manager custom.entry) words.now (moment_of F.Tree tree.old))
         (F.stops tree.old) (F.stops tree.new) }
+    // and what the same words go on from
+    ensures left { IsTrue F.tells → LeavesToGoOn F.Tree (handed_in M.Manager custom.entry)
+        words.now tree.old tree.new }
     ensures synced { IsTrue F.tells → OnOk result (IsDurable (moment_of F.Tree tree.new)) }
     ensures blames { (n : ℕ) → Blames (cause_of result)
         (F.failed_reads tree.old) (F.failed_reads tree.new)

@@ -1,5 +1,5 @@
 -- What a mark that was laid tells.
-use Rattle.std.proofs.Common.{◌≡◌, ℕ, suc, ◌<◌, ◌&&◌, Bool, true, false, if◌then◌else◌, List, [], ◌∷◌, ◌++◌, length, codes, nat_eq, nat_lt, bytes_eq, None, Some, Ok, refl, ap, sym, ◌∙◌, true≢false, arith}
+use Rattle.std.proofs.Common.{◌≡◌, ◌≢◌, ℕ, suc, ◌<◌, ◌&&◌, ◌==◌, Bool, true, false, if◌then◌else◌, List, [], ◌∷◌, ◌++◌, length, codes, nat_eq, nat_lt, bytes_eq, None, Some, Ok, refl, ap, sym, ◌∙◌, true≢false, arith}
 use Rattle.std.proofs.lemmas.Bool.Decides.{nat_tests}
 use Rattle.std.proofs.lemmas.List.Elements.{All-head, All-tail}
 use Rattle.std.specs.Cmp.Lexicographic.{same_text}
@@ -27,37 +27,45 @@ use Rattle.stored_replay.specs.Shadows.{first_lost, is_sized, lost_of, or_later,
 use Rattle.stored_replay.specs.declared.fault.StoredReplayFault.TheVariants as fault
 use Rattle.stored_replay.proofs.ShadowLemmas.{lost-none}
 use Rattle.stored_replay.specs.Stored.{Begun, HadEnded, NotBegun, or_bad, told_as, told_in, with_copies}
-use Rattle.replay_copies.specs.Ended.{ended_gate, with_gate}
+use Rattle.replay_copies.specs.Ended.{StandsLaid, ended_gate, with_gate}
 use Rattle.replay_copies.specs.Laid.{AreCopied, IsFound, IsReady, mark_head, mark_of, whole_gate}
-use Rattle.replay_copies.specs.Laws.{EndedIsTold, LaidIsTold, ShutIsNotBegun}
+use Rattle.replay_copies.specs.Laws.{EndedIsTold, LaidIsTold, LaidStands, ShutIsNotBegun, StandingIsTold}
 
 -- ---- bytes
 
--- the head once its gates are open
-abbrev opened : List ℕ
-opened = codes "pg_walreplay 2\n+-\n"
+-- a mark of a text, with its first gate open and this byte in the place of the second one
+abbrev gated : ℕ → List ℕ → List ℕ
+gated byte text = codes "pg_walreplay 2\n+" ++ byte ∷ (codes "\n" ++ text)
 
-abbrev both : List ℕ
-both = codes "pg_walreplay 2\n++\n"
-
-opened-is : splice mark_head whole_gate (plus ∷ []) ≡ opened
+whole-gated : (text : List ℕ) → whole_mark mark_head whole_gate text ≡ gated 45 text
 unfolding splice
-opened-is = refl
+whole-gated text = refl
 
-both-is : (text : List ℕ) → splice (opened ++ text) ended_gate (plus ∷ []) ≡ both ++ text
+gated-over : (old byte : ℕ) (text : List ℕ) → splice (gated old text) ended_gate (byte ∷ []) ≡ gated byte text
 unfolding splice
-both-is text = refl
+gated-over old byte text = refl
 
 longer : (n : ℕ) → 18 < n → nat_lt 18 n ≡ true
 longer n more = grind (arith, nat_tests)
 
-opened-told : (text : List ℕ) → 0 < length text → mark_told (opened ++ text) ≡ mark.Complete
-opened-told text some =
-    ap (λ b. if (b && true && true) && false then mark.Ended else if b && true && true then mark.Complete else mark.NotComplete) (longer (length (opened ++ text)) (omega (arith, some, length-append opened text)))
+gated-longer : (byte : ℕ) (text : List ℕ) → 0 < length text → nat_lt 18 (length (gated byte text)) ≡ true
+gated-longer byte text some = longer (length (gated byte text)) (omega (arith, some, length-append (codes "pg_walreplay 2\n+") (byte ∷ (codes "\n" ++ text))))
 
-both-told : (text : List ℕ) → 0 < length text → mark_told (both ++ text) ≡ mark.Ended
+shut-gate : (byte : ℕ) → byte ≢ plus → (byte == 43) ≡ false
+shut-gate byte shut = by (byte == 43) refl
+  where
+    by : (b : Bool) → (byte == 43) ≡ b → b ≡ false
+    by true is = absurd (shut (grind (arith, nat_tests)))
+    by false is = refl
+
+gated-told : (byte : ℕ) (text : List ℕ) → byte ≢ plus → 0 < length text → mark_told (gated byte text) ≡ mark.Complete
+gated-told byte text shut some =
+    ap (λ b. if (b && true && true) && (byte == 43) then mark.Ended else if b && true && true then mark.Complete else mark.NotComplete) (gated-longer byte text some)
+    ∙ ap (λ b. if b then mark.Ended else mark.Complete) (shut-gate byte shut)
+
+both-told : (text : List ℕ) → 0 < length text → mark_told (gated plus text) ≡ mark.Ended
 both-told text some =
-    ap (λ b. if (b && true && true) && true then mark.Ended else if b && true && true then mark.Complete else mark.NotComplete) (longer (length (both ++ text)) (omega (arith, some, length-append both text)))
+    ap (λ b. if (b && true && true) && true then mark.Ended else if b && true && true then mark.Complete else mark.NotComplete) (gated-longer plus text some)
 
 text-some : (root : PathValue) (listed : List Listed) → 0 < length (list_text root listed)
 text-some root listed = omega (arith, length-append (listed_lines root 0 listed) (line (codes "end" ∷ [])))
@@ -82,26 +90,48 @@ none-lost root c d files (File path size ∷ more) found copied =
 list-read : (root : PathValue) (listed : List Listed) (c d : Contents) → IsReady root listed c → listed_in root (list_text root listed) ≡ Ok listed
 list-read root listed c d ready = all_read root listed ready.list
 
-whole-is : (text : List ℕ) → whole_mark mark_head whole_gate text ≡ opened ++ text
-whole-is text = ap (λ h. h ++ text) opened-is
-
 told-by : (d : Contents) (root : PathValue) (bytes : List ℕ) → entry_at d (mark_of root) ≡ Some (FileEntry bytes) → told_in d root (own_bytes d root) ≡ told_as d root bytes (mark_told bytes)
 told-by d root bytes is = ap (λ o. told_in d root (all_of (file_of o))) is
 
-pub laid-told : LaidIsTold
-laid-told root listed c d ready laid =
+-- the mark that stands
+abbrev pub standing : PathValue → List Listed → (byte : ℕ) → List ℕ
+standing root listed byte = splice (whole_mark mark_head whole_gate (list_text root listed)) ended_gate (byte ∷ [])
+
+standing-is : (root : PathValue) (listed : List Listed) (byte : ℕ) → standing root listed byte ≡ gated byte (list_text root listed)
+standing-is root listed byte = ap (λ b. splice b ended_gate (byte ∷ [])) (whole-gated (list_text root listed)) ∙ gated-over 45 byte (list_text root listed)
+
+pub laid-stands : LaidStands
+laid-stands root listed c d laid = record {
+  byte = 45;
+  shut = λ e. omega (arith, e);
+  mark = laid.mark ∙ ap (λ b. Some (FileEntry b)) (whole-gated (list_text root listed) ∙ sym (standing-is root listed 45));
+  copies = laid.copies;
+  elsewhere = laid.elsewhere;
+}
+
+pub standing-told : StandingIsTold
+standing-told root listed c d ready laid =
     let text = list_text root listed in
-    told-by d root (opened ++ text) (laid.mark ∙ ap (λ b. Some (FileEntry b)) (whole-is text))
-    ∙ ap (told_as d root (opened ++ text)) (opened-told text (text-some root listed))
+    told-by d root (gated laid.byte text) (laid.mark ∙ ap (λ b. Some (FileEntry b)) (standing-is root listed laid.byte))
+    ∙ ap (told_as d root (gated laid.byte text)) (gated-told laid.byte text laid.shut (text-some root listed))
     ∙ ap (λ r. given (or_bad root r) (with_copies d root)) (list-read root listed c d ready)
     ∙ ap (λ o. unless (option_map fault.ShadowDiffers o) (Ok (Begun listed))) (none-lost root c d 0 listed ready.found laid.copies.copied)
+
+pub laid-told : LaidIsTold
+laid-told root listed c d ready laid = standing-told root listed c d ready (laid-stands root listed c d laid)
+
+-- the same mark with another byte there
+pub standing-over : (root : PathValue) (listed : List Listed) (c d : Contents) (byte : ℕ) → StandsLaid root listed c d → with_gate root d byte ≡ standing root listed byte
+standing-over root listed c d byte laid =
+    ap (λ o. splice (bytes_in o) ended_gate (byte ∷ [])) laid.mark ∙ ap (λ b. splice b ended_gate (byte ∷ [])) (standing-is root listed laid.byte)
+    ∙ gated-over laid.byte byte (list_text root listed) ∙ sym (standing-is root listed byte)
 
 pub ended-told : EndedIsTold
 ended-told root listed c d e ready laid is =
     let text = list_text root listed in
-    let gate : with_gate root d plus ≡ both ++ text = ap (λ o. splice (bytes_in o) ended_gate (plus ∷ [])) laid.mark ∙ ap (λ b. splice b ended_gate (plus ∷ [])) (whole-is text) ∙ both-is text in
-    told-by e root (both ++ text) (is ∙ ap (λ b. Some (FileEntry b)) gate)
-    ∙ ap (told_as e root (both ++ text)) (both-told text (text-some root listed))
+    let gate : with_gate root d plus ≡ gated plus text = standing-over root listed c d plus laid ∙ standing-is root listed plus in
+    told-by e root (gated plus text) (is ∙ ap (λ b. Some (FileEntry b)) gate)
+    ∙ ap (told_as e root (gated plus text)) (both-told text (text-some root listed))
     ∙ ap (λ r. given (or_bad root r) (λ l. Ok HadEnded)) (list-read root listed c d ready)
 
 -- ---- a mark that is shut

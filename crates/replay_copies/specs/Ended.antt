@@ -7,11 +7,13 @@ use Rattle.cluster_tree.specs.Run.{Moment}
 use Rattle.cluster_tree.specs.Stops.{LeavesOnly}
 use Rattle.cluster_tree.specs.Tree.{bytes_at}
 use Rattle.cluster_tree.specs.declared.file_fault.FileFault.{FileFault}
-use Rattle.gated_marks.specs.Gates.{plus}
+use Rattle.gated_marks.specs.Gates.{plus, whole_mark}
 use Rattle.layout.specs.Splice.{splice}
 use Rattle.marked_runs.specs.Moments.{StandsSynced}
 use Rattle.replay_copies.specs.Left.{IsKept, LeavesFile}
-use Rattle.replay_copies.specs.Laid.{SameElsewhere, is_laid_at, mark_head, mark_of}
+use Rattle.replay_copies.specs.Laid.{HasCopies, SameElsewhere, is_laid_at, mark_head, mark_of, whole_gate}
+use Rattle.replay_list.specs.Text.{list_text}
+use Rattle.replay_list.specs.declared.listed.Listed.{Listed}
 use Rattle.stored_replay.specs.Shadows.{shadow_folder}
 
 -- the second gate: the replay has ended
@@ -25,6 +27,15 @@ HasMark root c = length mark_head < length (bytes_at c (mark_of root))
 -- the mark's bytes with this one in the place of the second gate
 abbrev pub with_gate : PathValue → Contents → (byte : ℕ) → List ℕ
 with_gate root c byte = splice (bytes_at c (mark_of root)) ended_gate (byte ∷ [])
+
+-- The mark stands whole over the list, its second gate not open, the copies are there, and all else is as it was: as it is laid, but that a stop may have
+-- left any other byte in the place of that gate.
+pub record StandsLaid (root : PathValue) (listed : List Listed) (old new : Contents) : Type 0 where
+  pub byte : ℕ
+  pub shut : byte ≢ plus
+  pub mark : entry_at new (mark_of root) ≡ Some (FileEntry (splice (whole_mark mark_head whole_gate (list_text root listed)) ended_gate (byte ∷ [])))
+  pub copies : HasCopies root listed old new
+  pub elsewhere : SameElsewhere root old new
 
 -- nothing stands at the mark, nor at the folder of copies or below it
 abbrev pub IsGone : PathValue → Contents → Type 0

@@ -1,13 +1,18 @@
 -- A replay that is begun again, and one that had ended, step by step.
-use Rattle.std.proofs.Common.{◌≡◌, ◌∙◌, ◌⊎◌, inl, inr, ⊎_elim, List, Option, is_some, Result, Ok, Err, IfErr, OnOk, false, refl, ap, sym, subst}
+use Rattle.std.proofs.Common.{◌≡◌, ◌∙◌, ◌⊎◌, inl, inr, ⊎_elim, ℕ, true, List, Option, is_some, Result, Ok, Err, IfErr, OnOk, false, refl, ap, sym, subst}
+use Rattle.std.specs.List.{list_all}
 use Rattle.cluster_tree.specs.Contents.{Contents, entry_at}
 use Rattle.cluster_tree.specs.PathValue.{PathValue}
 use Rattle.cluster_tree.specs.Run.{Course, Moment, Occurs}
-use Rattle.cluster_tree.specs.Stops.{LeavesOnly}
+use Rattle.cluster_tree.specs.Stops.{LeavesOnly, MayBeLeft}
+use Rattle.cluster_tree.specs.declared.tree.ChangeCall.{ChangeCall}
+use Rattle.cluster_tree.proofs.Images.{KeptBy, leaves_only}
+use Rattle.cluster_tree.proofs.StepLemmas.{step-elsewhere}
 use Rattle.cluster_tree.specs.declared.file_fault.FileFault.{FileFault}
 use Rattle.cluster_tree.proofs.RunLemmas.{calls_on}
 use Rattle.file_edits.specs.Clearing.{tree_removed}
-use Rattle.file_edits.specs.Own.{GoesOn}
+use Rattle.file_edits.specs.Own.{GoesOn, is_own}
+use Rattle.file_edits.specs.Sparing.{Piece, Shows}
 use Rattle.marked_runs.specs.Moments.{IsBegun, IsMarked, IsUntouched, StandsMarked, StandsSynced}
 use Rattle.marked_runs.proofs.StopLemmas.{leaves_on, leaves_weaker}
 use Rattle.replay_copies.specs.Calls.{LaysOnly}
@@ -15,11 +20,12 @@ use Rattle.replay_copies.specs.Ended.{IsClearLeft, IsGone}
 use Rattle.replay_copies.specs.Laid.{SameElsewhere, mark_of}
 use Rattle.replay_copies.specs.Left.{HasFile, IsKept, LeavesFile}
 use Rattle.replay_core.specs.Within.{LogStays, StaysWithin}
-use Rattle.replay_core.proofs.StopLemmas.{own-left}
+use Rattle.replay_core.proofs.StopLemmas.{own-apart, own-left, own_holds}
 use Rattle.replay_core.proofs.WithinLemmas.{then_within}
 use Rattle.replay_list.specs.declared.listed.Listed.{Listed}
 use Rattle.replay_restore.specs.Freed.{IsRefusal}
-use Rattle.replay_restore.specs.Listing.{is_restored_at}
+use Rattle.replay_restore.specs.Filled.{is_spared}
+use Rattle.replay_restore.specs.Listing.{has_file, is_restored_at}
 use Rattle.replay_restore.specs.Restored.{IsRestored}
 use Rattle.restart_start.specs.Beginning.{WhyNot, without_own}
 use Rattle.restart_start.specs.declared.fault.RestartFault.{RestartFault as StartFault}
@@ -28,6 +34,7 @@ use Rattle.stored_replay.specs.Shadows.{shadow_folder}
 use Rattle.stored_replay.specs.Stored.{Begun, HadEnded}
 use Rattle.replay_restart.specs.Faults.{IsFree, of_files, of_start}
 use Rattle.replay_restart.specs.Left.{BringsBack, IsLeftByRestart, Restarts}
+use Rattle.replay_restart.specs.Stopped.{Clearing, IsBringingBack, IsStopped, Restoring, Untouched}
 use Rattle.replay_restart.specs.Meant.{NotAgain, NotBack, NotEnded, WasEnded, WhyEnded, taken_of}
 use Rattle.replay_start.specs.declared.fault.ReplayFault.TheVariants as replay
 use Rattle.replay_restart.specs.declared.fault.RestartFault.{RestartFault}
@@ -49,18 +56,32 @@ module _ (root : PathValue) (listed : List Listed) (a b : Moment) (ab : Course a
   untouched-begun : LeavesOnly (IsBegun mark a) a.stops b.stops
   untouched-begun = leaves_weaker (IsUntouched a) (IsBegun mark a) a.stops b.stops (λ x u. inl u) stops_ab
 
+  back-still : (x : Contents) → x ≡ C → IsBringingBack root listed C x
+  back-still x is = record { beside = λ path off. ap (λ y. entry_at y path) is; pieces = λ piece bytes has all shows. subst (Shows piece bytes) (sym is) shows }
+
+  untouched-back : StandsSynced C a → (x : Contents) → IsUntouched a x → IsBringingBack root listed C x
+  untouched-back stood x (inl is) = back-still x is
+  untouched-back stood x (inr image) = back-still x (stood.left x image)
+
+  back-b : StandsSynced C a → LeavesOnly (IsBringingBack root listed C) a.stops b.stops
+  back-b stood = leaves_weaker (IsUntouched a) (IsBringingBack root listed C) a.stops b.stops (untouched-back stood) stops_ab
+
   pub first-broken : (e : RestartFault) → IsFree e → BringsBack root listed a b (Err e)
   first-broken e free = record {
     done = tt;
     refused = inl free;
     mark = ap (λ x. entry_at x mark) same_ab;
     stops = λ marked. untouched-begun;
+    left = back-b;
     within = within_ab;
     log = λ path holds. ap (λ x. entry_at x path) same_ab;
   }
 
   module _ (synced : StandsSynced C b) (d : Moment) (bd : Course b d) (own : GoesOn (is_restored_at root) b.state.calls d.state.calls)
-      (elsewhere : (p : PathValue) → is_restored_at root p ≡ false → entry_at d.state.contents p ≡ entry_at b.state.contents p) where
+      (elsewhere : (p : PathValue) → is_restored_at root p ≡ false → entry_at d.state.contents p ≡ entry_at b.state.contents p)
+      (spares : (piece : Piece) (bytes : List ℕ) → has_file listed piece.path ≡ true → list_all (is_spared piece) listed ≡ true → Shows piece bytes b.state.contents → Shows piece bytes d.state.contents)
+      (keeps : (piece : Piece) (bytes : List ℕ) → has_file listed piece.path ≡ true → list_all (is_spared piece) listed ≡ true → Shows piece bytes b.state.contents
+      → ((x : Contents) → MayBeLeft b.stops x → Shows piece bytes x) → LeavesOnly (Shows piece bytes) b.stops d.stops) where
     mark-d : entry_at d.state.contents mark ≡ entry_at C mark
     mark-d = elsewhere mark (laid-not_restored root mark (mark-laid root)) ∙ ap (λ x. entry_at x mark) same_ab
 
@@ -78,12 +99,46 @@ module _ (root : PathValue) (listed : List Listed) (a b : Moment) (ab : Course a
         leaves_on (IsBegun mark a) a b d ab bd untouched-begun
         (leaves_weaker (IsMarked mark) (IsBegun mark a) b.stops d.stops (λ x m. inr m) (own-left (is_restored_at root) mark b d (laid-not_restored root mark (mark-laid root)) (stands-b marked) bd own))
 
+    -- all else is as it was, and so is each such piece
+
+    abbrev Beside : Contents → Type 0
+    Beside x = (path : PathValue) → is_restored_at root path ≡ false → entry_at x path ≡ entry_at C path
+
+    beside-kept : (call : ChangeCall) → is_own (is_restored_at root) call ≡ true → KeptBy Beside call
+    beside-kept call is x y same step path off = step-elsewhere call x y path step (own-apart (is_restored_at root) path call off is) ∙ same path off
+
+    beside-d : LeavesOnly Beside b.stops d.stops
+    beside-d =
+        leaves_only Beside Beside b d
+        (own_holds Beside (is_restored_at root) beside-kept b d (λ path off. ap (λ x. entry_at x path) synced.now) (λ x image path off. ap (λ y. entry_at y path) (synced.left x image)) bd own) (λ x same. same)
+
+    shows-b : (piece : Piece) (bytes : List ℕ) → Shows piece bytes C → Shows piece bytes b.state.contents
+    shows-b piece bytes shows = subst (Shows piece bytes) (sym synced.now) shows
+
+    restoring-d : LeavesOnly (IsBringingBack root listed C) b.stops d.stops
+    restoring-d = record {
+      each = λ x since. record {
+        beside = beside-d.each x since;
+        pieces = λ piece bytes has all shows. (keeps piece bytes has all (shows-b piece bytes shows) (λ y image. subst (Shows piece bytes) (sym (synced.left y image)) shows)).each x since;
+      };
+    }
+
+    back-d : StandsSynced C a → LeavesOnly (IsBringingBack root listed C) a.stops d.stops
+    back-d stood = leaves_on (IsBringingBack root listed C) a b d ab bd (back-b stood) restoring-d
+
+    back-now : IsBringingBack root listed C d.state.contents
+    back-now = record {
+      beside = λ path off. elsewhere path off ∙ ap (λ x. entry_at x path) same_ab;
+      pieces = λ piece bytes has all shows. spares piece bytes has all (shows-b piece bytes shows);
+    }
+
     pub restore-broken : (f : FileFault) → IsRefusal root b.state.contents f → BringsBack root listed a d (Err (of_files f))
     restore-broken f refused = record {
       done = tt;
       refused = inr (f, subst (λ x. IsRefusal root x f) same_ab refused, refl);
       mark = mark-d;
       stops = left-d;
+      left = back-d;
       within = within-d;
       log = log-d;
     }
@@ -101,6 +156,15 @@ module _ (root : PathValue) (listed : List Listed) (a b : Moment) (ab : Course a
           leaves_on (IsBegun mark a) a d e (calls_on Occurs a b d ab bd) de (left-d marked)
           (leaves_weaker (IsUntouched d) (IsBegun mark a) d.stops e.stops (untouched-d marked) stops_de)
 
+      untouched-now : (x : Contents) → IsUntouched d x → IsBringingBack root listed C x
+      untouched-now x (inl is) = subst (IsBringingBack root listed C) (sym is) back-now
+      untouched-now x (inr image) = restoring-d.each x (inl image)
+
+      back-e : StandsSynced C a → LeavesOnly (IsBringingBack root listed C) a.stops e.stops
+      back-e stood =
+          leaves_on (IsBringingBack root listed C) a d e (calls_on Occurs a b d ab bd) de (back-d stood)
+          (leaves_weaker (IsUntouched d) (IsBringingBack root listed C) d.stops e.stops untouched-now stops_de)
+
       mark-e : entry_at e.state.contents mark ≡ entry_at C mark
       mark-e = ap (λ x. entry_at x mark) same_de ∙ mark-d
 
@@ -111,7 +175,7 @@ module _ (root : PathValue) (listed : List Listed) (a b : Moment) (ab : Course a
       within-e = then_within root a.state d.state e.state within-d within_de
 
       pub last-broken : (f : RestartFault) → IsFree f → BringsBack root listed a e (Err f)
-      last-broken f free = record { done = tt; refused = inl free; mark = mark-e; stops = left-e; within = within-e; log = log-e }
+      last-broken f free = record { done = tt; refused = inl free; mark = mark-e; stops = left-e; left = back-e; within = within-e; log = log-e }
 
       pub all-back : IsRestored root listed b.state.contents d.state.contents → StandsSynced d.state.contents e → BringsBack root listed a e (Ok tt)
       all-back restored last = record {
@@ -119,6 +183,7 @@ module _ (root : PathValue) (listed : List Listed) (a b : Moment) (ab : Course a
         refused = tt;
         mark = mark-e;
         stops = left-e;
+        left = back-e;
         within = within-e;
         log = log-e;
       }
@@ -126,6 +191,13 @@ module _ (root : PathValue) (listed : List Listed) (a b : Moment) (ab : Course a
       pub last-synced : (r : Result (Unit {0}) RestartFault) → OnOk r (StandsSynced d.state.contents e) → IfErr r (λ f. f ≡ fault.Replay replay.WriteFault) → IsRestored root listed b.state.contents d.state.contents → BringsBack root listed a e r
       last-synced (Ok u) last is restored = all-back restored last
       last-synced (Err f) last is restored = last-broken f (subst IsFree (sym is) (inr (inl refl)))
+
+-- ---- what a stop leaves while what is listed is brought back
+
+pub restoring-left : (custom : Option Extension) (root : PathValue) (listed : List Listed) (a b : Moment) → taken_of a.state.contents root ≡ Ok (Begun listed)
+    → (StandsSynced a.state.contents a → LeavesOnly (IsBringingBack root listed a.state.contents) a.stops b.stops) → StandsSynced a.state.contents a → LeavesOnly (IsStopped custom root a.state.contents) a.stops b.stops
+restoring-left custom root listed a b taken left synced =
+    leaves_weaker (IsBringingBack root listed a.state.contents) (IsStopped custom root a.state.contents) a.stops b.stops (λ x back. Restoring listed taken back) (left synced)
 
 -- ---- and then the replay is refused
 
@@ -147,6 +219,7 @@ module _ (custom : Option Extension) (root : PathValue) (listed : List Listed) (
     refused = back-why e back.refused;
     stands = inr (inr (mark-stays back.mark));
     stops = leaves_weaker (IsBegun (mark_of root) a) (IsLeftByRestart custom root a) a.stops b.stops begun-left (back.stops marked);
+    left = restoring-left custom root listed a b taken back.left;
     synced = tt;
     within = back.within;
     log = back.log;
@@ -162,6 +235,7 @@ module _ (custom : Option Extension) (root : PathValue) (listed : List Listed) (
     refused = start-why e back.done.0 why;
     stands = inr (inr (mark-stays back.mark));
     stops = leaves_weaker (IsBegun (mark_of root) a) (IsLeftByRestart custom root a) a.stops b.stops begun-left (back.stops marked);
+    left = restoring-left custom root listed a b taken back.left;
     synced = tt;
     within = back.within;
     log = back.log;
@@ -174,12 +248,17 @@ module _ (custom : Option Extension) (root : PathValue) (a b : Moment) (ab : Cou
   untouched-left : LeavesOnly (IsLeftByRestart custom root a) a.stops b.stops
   untouched-left = leaves_weaker (IsUntouched a) (IsLeftByRestart custom root a) a.stops b.stops (λ x u. inl u) stops_ab
 
+  stopped-b : StandsSynced a.state.contents a → LeavesOnly (IsStopped custom root a.state.contents) a.stops b.stops
+  stopped-b synced =
+      leaves_weaker (IsUntouched a) (IsStopped custom root a.state.contents) a.stops b.stops (λ x. ⊎_elim (λ (is : x ≡ a.state.contents). Untouched is) (λ image. Untouched (synced.left x image))) stops_ab
+
   pub end-unsynced : (e : RestartFault) → IsFree e → Restarts custom root a b (Err e)
   end-unsynced e free = record {
     done = tt;
     refused = inl free;
     stands = inl free;
     stops = untouched-left;
+    left = stopped-b;
     synced = tt;
     within = within_ab;
     log = λ path holds. ap (λ x. entry_at x path) same_ab;
@@ -198,6 +277,11 @@ module _ (custom : Option Extension) (root : PathValue) (a b : Moment) (ab : Cou
     stops-end : LeavesOnly (IsLeftByRestart custom root a) a.stops d.stops
     stops-end = leaves_on (IsLeftByRestart custom root a) a b d ab bd untouched-left (leaves_weaker (IsClearLeft root b.state.contents) (IsLeftByRestart custom root a) b.stops d.stops clear-left stops)
 
+    stopped-end : StandsSynced a.state.contents a → LeavesOnly (IsStopped custom root a.state.contents) a.stops d.stops
+    stopped-end synced =
+        leaves_on (IsStopped custom root a.state.contents) a b d ab bd (stopped-b synced)
+        (leaves_weaker (IsClearLeft root b.state.contents) (IsStopped custom root a.state.contents) b.stops d.stops (λ x left. Clearing taken (subst (λ y. IsClearLeft root y x) same_ab left)) stops)
+
     within-end : StaysWithin root a.state d.state
     within-end = then_within root a.state b.state d.state within_ab (lays-within root b.state d.state calls elsewhere)
 
@@ -214,6 +298,7 @@ module _ (custom : Option Extension) (root : PathValue) (a b : Moment) (ab : Cou
       refused = ended-why f kept;
       stands = ⊎_elim (λ free. inl (files-free f free)) (λ there. inr (inr (file-marked root d.state.contents there))) left;
       stops = stops-end;
+      left = stopped-end;
       synced = tt;
       within = within-end;
       log = log-end;
@@ -225,6 +310,7 @@ module _ (custom : Option Extension) (root : PathValue) (a b : Moment) (ab : Cou
       refused = tt;
       stands = tt;
       stops = stops-end;
+      left = stopped-end;
       synced = synced;
       within = within-end;
       log = log-end;

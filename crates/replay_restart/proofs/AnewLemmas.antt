@@ -6,12 +6,12 @@ use Rattle.cluster_tree.specs.Run.{Course, Moment}
 use Rattle.cluster_tree.specs.Stops.{LeavesOnly}
 use Rattle.cluster_tree.specs.declared.file_fault.FileFault.{FileFault}
 use Rattle.cluster_tree.proofs.Images.{holds_first, leaves_only}
-use Rattle.marked_runs.specs.Moments.{IsBegun, IsUntouched}
+use Rattle.marked_runs.specs.Moments.{IsBegun, IsUntouched, StandsSynced}
 use Rattle.marked_runs.proofs.StopLemmas.{leaves_on, leaves_weaker}
 use Rattle.replay_copies.specs.Calls.{LaysOnly}
 use Rattle.replay_copies.specs.Ended.{HasMark}
 use Rattle.replay_copies.specs.Laid.{IsLaid, IsReady, SameElsewhere, mark_of}
-use Rattle.replay_copies.specs.Left.{IsKept, LeavesFile}
+use Rattle.replay_copies.specs.Left.{IsBeginLeft, IsKept, LeavesFile}
 use Rattle.replay_core.specs.Replayed.{control_path, label_path}
 use Rattle.replay_core.specs.Under.{WasStart}
 use Rattle.replay_core.specs.Within.{LogStays, StaysWithin}
@@ -52,12 +52,18 @@ use Rattle.replay_restart.proofs.CallLemmas.{lays-within, still-within}
 use Rattle.replay_restart.proofs.OverLemmas.{NotChanged, file-marked, files-free}
 use Rattle.replay_restart.proofs.PlaceLemmas.{control-own, entry-own, log-not_laid, not-laid}
 use Rattle.replay_restart.proofs.ReadyLemmas.{can-lay, own-file}
+use Rattle.replay_restart.specs.Stopped.{IsRunLeft, IsStopped, Laying, Replaying, Untouched}
 use Rattle.replay_restart.proofs.TakenLemmas.{begun-in, unbegun}
 
 -- ---- a run that changed nothing
 
 untouched-still : (a : Moment) → LeavesOnly (IsUntouched a) a.stops a.stops
 untouched-still a = leaves_only (IsUntouched a) (IsUntouched a) a a (holds_first (IsUntouched a) (IsUntouched a) a (inl refl) (λ c image. inr image)) (λ c q. q)
+
+pub stopped-still : (custom : Option Extension) (root : PathValue) (a : Moment) → StandsSynced a.state.contents a → LeavesOnly (IsStopped custom root a.state.contents) a.stops a.stops
+stopped-still custom root a synced =
+    let P : Contents → Type 0 = IsStopped custom root a.state.contents in
+    leaves_only P P a a (holds_first P P a (Untouched refl) (λ c image. Untouched (synced.left c image))) (λ c q. q)
 
 -- .. and was refused, or met a fault
 pub nothing-done : (custom : Option Extension) (root : PathValue) (a b : Moment) (e : RestartFault) → b ≡ a → IsFree e ⊎ WhyFirst custom a.state.contents root e → Restarts custom root a b (Err e)
@@ -67,6 +73,7 @@ nothing-done custom root a b e same why = record {
   stands = ⊎_elim (λ free. inl free) (λ first. inr (inl first)) why;
   stops = subst (λ (m : Moment). LeavesOnly (IsLeftByRestart custom root a) a.stops m.stops) (sym same)
       (leaves_weaker (IsUntouched a) (IsLeftByRestart custom root a) a.stops a.stops (λ x u. inl u) (untouched-still a));
+  left = λ synced. subst (λ (m : Moment). LeavesOnly (IsStopped custom root a.state.contents) a.stops m.stops) (sym same) (stopped-still custom root a synced);
   synced = tt;
   within = still-within root a.state b.state (ap (λ (m : Moment). m.state) same);
   log = λ path holds. ap (λ (m : Moment). entry_at m.state.contents path) same;
@@ -135,6 +142,19 @@ module _ (custom : Option Extension) (root : PathValue) (a b : Moment) where
   begun-left x (inl untouched) = inl untouched
   begun-left x (inr marked) = inr (inl marked)
 
+  -- what a stop left while both were laid
+  abbrev IsLeftWhileLaid : List Listed → Type 0
+  IsLeftWhileLaid listed = StandsSynced c a → LeavesOnly (IsBeginLeft root listed c) a.stops b.stops
+
+  module _ (s : Start) (listed : List Listed) (taken : taken_of c root ≡ Ok NotBegun) (may : MayBegin custom (without_own c root) root s listed) (list : IsListOf root listed) (begun : IsLeftWhileLaid listed) where
+    begin-stopped : (x : Contents) → IsBeginLeft root listed c x → IsStopped custom root c x
+    begin-stopped x left =
+        ⊎_elim (λ shut. Laying s listed taken may left.elsewhere shut)
+        (λ laid. Replaying s listed x taken may list laid (inl (record { beside = λ p off. refl; blocks = λ name page main off has. has }))) left.told
+
+    pub stopped-begun : StandsSynced c a → LeavesOnly (IsStopped custom root c) a.stops b.stops
+    stopped-begun synced = leaves_weaker (IsBeginLeft root listed c) (IsStopped custom root c) a.stops b.stops begin-stopped (begun synced)
+
   module _ (elsewhere : SameElsewhere root c b.state.contents) (calls : LaysOnly root a.state.calls b.state.calls) (marked : LeavesOnly (IsBegun (mark_of root) a) a.stops b.stops) where
     pub laid-within : StaysWithin root a.state b.state
     laid-within = lays-within root a.state b.state calls elsewhere
@@ -142,13 +162,14 @@ module _ (custom : Option Extension) (root : PathValue) (a b : Moment) where
     pub laid-log : LogStays root c b.state.contents
     laid-log path holds = elsewhere path (log-not_laid root path holds)
 
-    pub not-laid_done : (s : Start) (listed : List Listed) (f : FileFault) → taken_of c root ≡ Ok NotBegun → MayBegin custom (without_own c root) root s listed → IsKept root c f → LeavesFile root b.state.contents f
-        → Restarts custom root a b (Err (of_files f))
-    not-laid_done s listed f taken may kept file = record {
+    pub not-laid_done : (s : Start) (listed : List Listed) (f : FileFault) → taken_of c root ≡ Ok NotBegun → MayBegin custom (without_own c root) root s listed → IsListOf root listed → IsLeftWhileLaid listed
+        → IsKept root c f → LeavesFile root b.state.contents f → Restarts custom root a b (Err (of_files f))
+    not-laid_done s listed f taken may list begun kept file = record {
       done = tt;
       refused = ⊎_elim (λ free. inl (files-free f free)) (λ is. inr (NotLaid s listed f taken may is)) kept;
       stands = ⊎_elim (λ free. inl (files-free f free)) (λ there. inr (inr (file-marked root b.state.contents there))) file;
       stops = leaves_weaker (IsBegun (mark_of root) a) (IsLeftByRestart custom root a) a.stops b.stops begun-left marked;
+      left = stopped-begun s listed taken may list begun;
       synced = tt;
       within = laid-within;
       log = laid-log;
@@ -157,7 +178,8 @@ module _ (custom : Option Extension) (root : PathValue) (a b : Moment) where
   -- ---- and the replay runs over them
 
   module _ (s : Start) (e : Moment) (ab : Course a b) (be : Course b e) (is : IsOver custom c root s b.state.contents) (before : LeavesOnly (IsBegun (mark_of root) a) a.stops b.stops)
-      (within : StaysWithin root a.state b.state) (log : LogStays root c b.state.contents) where
+      (within : StaysWithin root a.state b.state) (log : LogStays root c b.state.contents)
+      (stopped : StandsSynced c a → LeavesOnly (IsStopped custom root c) a.stops b.stops) (run : (x : Contents) → IsRunLeft custom root s b.state.contents x → IsStopped custom root c x) where
     under-left : (x : Contents) → IsLeftUnder custom root s b.state.contents x → IsLeftByRestart custom root a x
     under-left x (inl marked) = inr (inl marked)
     under-left x (inr (count, over)) = inr (inr (told.Replayed count, WasReplayed s b.state.contents is over))
@@ -168,6 +190,10 @@ module _ (custom : Option Extension) (root : PathValue) (a b : Moment) where
         (leaves_weaker (IsBegun (mark_of root) a) (IsLeftByRestart custom root a) a.stops b.stops begun-left before)
         (leaves_weaker (IsLeftUnder custom root s b.state.contents) (IsLeftByRestart custom root a) b.stops e.stops under-left stops)
 
+    stopped-over : LeavesOnly (IsRunLeft custom root s b.state.contents) b.stops e.stops → StandsSynced c a → LeavesOnly (IsStopped custom root c) a.stops e.stops
+    stopped-over left synced =
+        leaves_on (IsStopped custom root c) a b e ab be (stopped synced) (leaves_weaker (IsRunLeft custom root s b.state.contents) (IsStopped custom root c) b.stops e.stops run left)
+
     log-over : LogStays root b.state.contents e.state.contents → LogStays root c e.state.contents
     log-over later path holds = later path holds ∙ log path holds
 
@@ -177,6 +203,7 @@ module _ (custom : Option Extension) (root : PathValue) (a b : Moment) where
       refused = tt;
       stands = tt;
       stops = left-over runs.stops;
+      left = stopped-over runs.left;
       synced = runs.synced;
       within = then_within root a.state b.state e.state within runs.within;
       log = log-over runs.log;
@@ -188,6 +215,7 @@ module _ (custom : Option Extension) (root : PathValue) (a b : Moment) where
       refused = ⊎_elim (λ free. inl free) (λ why. inr (Over s b.state.contents f is why)) runs.refused;
       stands = ⊎_elim (λ free. inl free) (λ marked. inr (inr marked)) runs.stands;
       stops = left-over runs.stops;
+      left = stopped-over runs.left;
       synced = tt;
       within = then_within root a.state b.state e.state within runs.within;
       log = log-over runs.log;

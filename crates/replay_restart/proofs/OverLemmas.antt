@@ -1,5 +1,5 @@
 -- A replay under its mark, and the end of that mark, step by step.
-use Rattle.std.proofs.Common.{◌≡◌, ◌≢◌, ◌∙◌, ◌<◌, ◌⊎◌, inl, inr, ⊎_elim, length, Option, None, Some, is_some, Result, Ok, Err, true, true≢false, refl, ap, sym, subst, arith}
+use Rattle.std.proofs.Common.{◌≡◌, ◌≢◌, ◌∙◌, ◌<◌, ◌⊎◌, ℕ, false, inl, inr, ⊎_elim, List, length, Option, None, Some, is_some, Result, Ok, Err, true, true≢false, refl, ap, sym, subst, arith}
 use Rattle.cluster_tree.specs.Contents.{Contents, Entry, entry_at, is_file}
 use Rattle.cluster_tree.specs.PathValue.{PathValue}
 use Rattle.cluster_tree.specs.Run.{Course, Moment, Occurs}
@@ -20,6 +20,11 @@ use Rattle.replay_copies.specs.Ended.{HasMark, IsEndLeft, IsGone}
 use Rattle.replay_copies.specs.Laid.{SameElsewhere, mark_head, mark_of}
 use Rattle.replay_copies.specs.Left.{HasFile, IsKept, LeavesFile}
 use Rattle.replay_core.specs.Faults.{of_file}
+use Rattle.block_refs.specs.declared.names.BlockName.{BlockName}
+use Rattle.file_effects.specs.Touched.{IsOfMain}
+use Rattle.replay_core.specs.Sparing.{HasPage, LeavesUntouched, StaysThrough}
+use Rattle.replay_world.specs.Touched.{touched_by}
+use Rattle.replay_restart.specs.Stopped.{IsReplaying, IsRunLeft}
 use Rattle.replay_core.specs.Under.{SameBesideReplay, is_changed_by_replay, replayed_under}
 use Rattle.replay_core.specs.Went.{IsAfter, IsCause}
 use Rattle.replay_core.specs.Within.{LogStays, StaysWithin}
@@ -112,7 +117,20 @@ module _ (custom : Option Extension) (root : PathValue) (s : Start) (a : Moment)
   log-kept : (x : Contents) → SameBesideReplay root C x → LogStays root C x
   log-kept x same path holds = same path (log-unchanged root path holds)
 
-  module _ (b : Moment) (same : SameBesideReplay root C b.state.contents) (goes : GoesOn (is_changed_by_replay root) a.state.calls b.state.calls) (left : LeavesOnly (SameBesideReplay root C) a.stops b.stops) where
+  module _ (b : Moment) (same : SameBesideReplay root C b.state.contents) (goes : GoesOn (is_changed_by_replay root) a.state.calls b.state.calls) (left : LeavesOnly (SameBesideReplay root C) a.stops b.stops)
+      (stands : StandsSynced C a) (spares : LeavesUntouched custom root s a b) where
+    stays : (name : BlockName) (page : List ℕ) → IsOfMain name → touched_by custom s.records name ≡ false → HasPage root s.control.relseg name page C → StaysThrough root s.control.relseg name page a b
+    stays name page main off has = spares name page main off (record { now = has; left = λ x image. subst (HasPage root s.control.relseg name page) (sym (stands.left x image)) has })
+
+    replaying : LeavesOnly (IsReplaying custom root s C) a.stops b.stops
+    replaying = record { each = λ x since. record { beside = left.each x since; blocks = λ name page main off has. (stays name page main off has).at_any_stop.each x since } }
+
+    replaying-now : IsReplaying custom root s C b.state.contents
+    replaying-now = record { beside = same; blocks = λ name page main off has. (stays name page main off has).now }
+
+    run-replay : LeavesOnly (IsRunLeft custom root s C) a.stops b.stops
+    run-replay = leaves_weaker (IsReplaying custom root s C) (IsRunLeft custom root s C) a.stops b.stops (λ x is. inl is) replaying
+
     within-replay : StaysWithin root a.state b.state
     within-replay = own-within (is_changed_by_replay root) root a.state b.state (changed-held root) goes same
 
@@ -125,6 +143,7 @@ module _ (custom : Option Extension) (root : PathValue) (s : Start) (a : Moment)
       refused = ⊎_elim (λ free. inl free) (λ is. inr (NotReplayed f is)) cause;
       stands = inr (marked b.state.contents same);
       stops = left-replay;
+      left = run-replay;
       synced = tt;
       within = within-replay;
       log = log-kept b.state.contents same;
@@ -144,12 +163,20 @@ module _ (custom : Option Extension) (root : PathValue) (s : Start) (a : Moment)
       left-synced : LeavesOnly (IsLeftUnder custom root s C) a.stops d.stops
       left-synced = leaves_on (IsLeftUnder custom root s C) a b d ab bd left-replay (leaves_weaker (IsUntouched b) (IsLeftUnder custom root s C) b.stops d.stops untouched-left untouched)
 
+      run-untouched : (x : Contents) → IsUntouched b x → IsRunLeft custom root s C x
+      run-untouched x (inl is) = inl (subst (IsReplaying custom root s C) (sym is) replaying-now)
+      run-untouched x (inr image) = inl (replaying.each x (inl image))
+
+      run-synced : LeavesOnly (IsRunLeft custom root s C) a.stops d.stops
+      run-synced = leaves_on (IsRunLeft custom root s C) a b d ab bd run-replay (leaves_weaker (IsUntouched b) (IsRunLeft custom root s C) b.stops d.stops run-untouched untouched)
+
       pub sync-broken : (e : RestartFault) → IsFree e → RunsOver custom root s a d (Err e)
       sync-broken e free = record {
         done = tt;
         refused = inl free;
         stands = inl free;
         stops = left-synced;
+        left = run-synced;
         synced = tt;
         within = within-synced;
         log = log-kept d.state.contents same-synced;
@@ -179,6 +206,17 @@ module _ (custom : Option Extension) (root : PathValue) (s : Start) (a : Moment)
           left-ended : LeavesOnly (IsLeftUnder custom root s C) a.stops e.stops
           left-ended = leaves_on (IsLeftUnder custom root s C) a d e (calls_on Occurs a b d ab bd) de left-synced (leaves_weaker (IsEndLeft root d.state.contents) (IsLeftUnder custom root s C) d.stops e.stops end-left stops)
 
+          run-end : (x : Contents) → IsEndLeft root d.state.contents x → IsRunLeft custom root s C x
+          run-end x end = inr (record {
+            after = after.after;
+            is = after.is;
+            replayed = subst (IsReplaying custom root s C) after.files_are replaying-now;
+            left = subst (λ y. IsEndLeft root y x) files-are end;
+          })
+
+          run-ended : LeavesOnly (IsRunLeft custom root s C) a.stops e.stops
+          run-ended = leaves_on (IsRunLeft custom root s C) a d e (calls_on Occurs a b d ab bd) de run-synced (leaves_weaker (IsEndLeft root d.state.contents) (IsRunLeft custom root s C) d.stops e.stops run-end stops)
+
           within-ended : StaysWithin root a.state e.state
           within-ended = then_within root a.state d.state e.state within-synced (lays-within root d.state e.state calls elsewhere)
 
@@ -199,6 +237,7 @@ module _ (custom : Option Extension) (root : PathValue) (s : Start) (a : Moment)
             refused = kept-why f kept;
             stands = file-left f file;
             stops = left-ended;
+            left = run-ended;
             synced = tt;
             within = within-ended;
             log = log-ended;
@@ -210,6 +249,7 @@ module _ (custom : Option Extension) (root : PathValue) (s : Start) (a : Moment)
             refused = tt;
             stands = tt;
             stops = left-ended;
+            left = run-ended;
             synced = synced;
             within = within-ended;
             log = log-ended;

@@ -16,6 +16,7 @@ use Rattle.replay_restore.specs.Restored.{IsRestored}
 use Rattle.replay_start.specs.Checked.{Start}
 use Rattle.rmgr_hooks.specs.Custom.{Extension}
 use Rattle.replay_restart.specs.Faults.{IsFree, of_files}
+use Rattle.replay_restart.specs.Stopped.{IsBringingBack, IsRunLeft, IsStopped}
 use Rattle.replay_restart.specs.Meant.{IsLeftBy, IsLeftOver, WhyEnded, WhyFirst, WhyOver}
 use Rattle.replay_restart.specs.declared.fault.RestartFault.{RestartFault}
 use Rattle.replay_restart.specs.declared.outcome.Restarted.{Restarted}
@@ -38,6 +39,7 @@ pub record Restarts (custom : Option Extension) (root : PathValue) (first last :
   pub refused : IfErr result (λ e. IsFree e ⊎ WhyEnded custom first.state.contents root e)
   pub stands : IfErr result (LeavesMark custom root first.state.contents last.state.contents)
   pub stops : LeavesOnly (IsLeftByRestart custom root first) first.stops last.stops
+  pub left : StandsSynced first.state.contents first → LeavesOnly (IsStopped custom root first.state.contents) first.stops last.stops
   pub synced : OnOk result (IsDurable last)
   pub within : StaysWithin root first.state last.state
   pub log : LogStays root first.state.contents last.state.contents
@@ -52,6 +54,7 @@ pub record RunsOver (custom : Option Extension) (root : PathValue) (s : Start) (
   pub refused : IfErr result (λ e. IsFree e ⊎ WhyOver custom root s first.state.contents e)
   pub stands : IfErr result (λ e. IsFree e ⊎ IsMarked (mark_of root) last.state.contents)
   pub stops : LeavesOnly (IsLeftUnder custom root s first.state.contents) first.stops last.stops
+  pub left : LeavesOnly (IsRunLeft custom root s first.state.contents) first.stops last.stops
   pub synced : OnOk result (IsDurable last)
   pub within : StaysWithin root first.state last.state
   pub log : LogStays root first.state.contents last.state.contents
@@ -62,5 +65,6 @@ pub record BringsBack (root : PathValue) (listed : List Listed) (first last : Mo
   pub refused : IfErr result (λ e. IsFree e ⊎ ((f : FileFault) × IsRefusal root first.state.contents f × (e ≡ of_files f)))
   pub mark : entry_at last.state.contents (mark_of root) ≡ entry_at first.state.contents (mark_of root)
   pub stops : IsMarked (mark_of root) first.state.contents → LeavesOnly (IsBegun (mark_of root) first) first.stops last.stops
+  pub left : StandsSynced first.state.contents first → LeavesOnly (IsBringingBack root listed first.state.contents) first.stops last.stops
   pub within : StaysWithin root first.state last.state
   pub log : LogStays root first.state.contents last.state.contents

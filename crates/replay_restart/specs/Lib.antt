@@ -1,3 +1,4 @@
 pub mod Faults
 pub mod Meant
+pub mod Stopped
 pub mod Left

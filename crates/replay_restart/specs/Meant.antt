@@ -9,6 +9,7 @@ use Rattle.replay_copies.specs.Laid.{IsLaid, SameElsewhere}
 use Rattle.replay_core.specs.Replayed.{After}
 use Rattle.replay_core.specs.Under.{replayed_under}
 use Rattle.replay_core.specs.declared.outcome.Replayed.{Replayed as Count}
+use Rattle.replay_list.specs.Laws.{IsListOf}
 use Rattle.replay_list.specs.declared.listed.Listed.{Listed}
 use Rattle.replay_restore.specs.Freed.{IsRefusal}
 use Rattle.replay_restore.specs.Loose.{loose_line}
@@ -58,8 +59,8 @@ CanGoOn root c stored.HadEnded = Unit {0}
 -- Where no replay was begun, the log is replayed over the cluster with the mark and the copies laid in it; where one was, over the cluster with what
 -- stood before brought back. Each is checked first, with its own mark unseen.
 pub data IsOver (custom : Option Extension) (c : Contents) (root : PathValue) : Start → Contents → Type 0 where
-  Anew : {s : Start} {d : Contents} (listed : List Listed) → taken_of c root ≡ Ok NotBegun → MayBegin custom (without_own c root) root s listed → IsLaid root listed c d
-      → IsOver custom c root s d
+  Anew : {s : Start} {d : Contents} (listed : List Listed) → taken_of c root ≡ Ok NotBegun → MayBegin custom (without_own c root) root s listed → IsListOf root listed
+      → IsLaid root listed c d → IsOver custom c root s d
   Again : {s : Start} {d : Contents} (listed again : List Listed) → taken_of c root ≡ Ok (Begun listed) → IsRestored root listed c d → MayBegin custom (without_own d root) root s again
       → IsOver custom c root s d
 

@@ -7,12 +7,14 @@ ghost use Rattle.cluster_tree.specs.Stops.{LeavesOnly};
 ghost use Rattle.cluster_tree.specs.declared.file_fault.FileFault.TheVariants as file;
 ghost use Rattle.clusters.specs.declared.fault.ClusterFault.TheVariants as cluster;
 ghost use Rattle.file_walk.specs.declared.fault.WalkFault.TheVariants as walk;
+ghost use Rattle.marked_runs.specs.Moments.{StandsSynced};
 ghost use Rattle.replay_core.specs.Stops.{IsDurable};
 ghost use Rattle.replay_core.specs.Within.{LogStays, StaysWithin};
 ghost use Rattle.replay_start.specs.declared.fault.ReplayFault.TheVariants as replay;
 ghost use Rattle.replay_restart.specs.Faults.{IsFree};
 ghost use Rattle.replay_restart.specs.Left.{IsLeftByRestart, LeavesMark, Restarts};
 ghost use Rattle.replay_restart.specs.Meant.{IsLeftBy, WhyEnded, WhyFirst};
+ghost use Rattle.replay_restart.specs.Stopped.{IsStopped};
 ghost use Rattle.rmgr_hooks.specs.Custom.{handed_in};
 
 use crate::again::replay_again;
@@ -102,6 +104,12 @@ pub fn restart<F: Tree, M: Manager>(
     // replay is done, it leaves what stands
     ensures stops { IsTrue F.tells → LeavesOnly (IsLeftByRestart
         (handed_in M.Manager custom.entry) root.now (moment_of F.Tree tree.old))
+        (F.stops tree.old) (F.stops tree.new) }
+    // and where what stands is synced at the start, it leaves what the same call goes on from: the mark
+    // with its copies, and each block that no record touches
+    ensures left { IsTrue F.tells →
+        StandsSynced (F.contents tree.old) (moment_of F.Tree tree.old) → LeavesOnly
+        (IsStopped (handed_in M.Manager custom.entry) root.now (F.contents tree.old))
         (F.stops tree.old) (F.stops tree.new) }
     ensures synced { IsTrue F.tells → OnOk result (IsDurable (moment_of F.Tree tree.new)) }
     // what is below the root alone is changed, and the log is not

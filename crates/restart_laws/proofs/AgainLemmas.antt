@@ -55,7 +55,7 @@ module _ (custom : Option Extension) (sound : IsSound custom) (root : PathValue)
   keeps : KeepsUntouched custom root root per s.records (world_under s d) (world_under s b)
   keeps name page main none has =
       block-back root per d x b name page back has
-      (stopped.blocks name page (record { main = main.main; block = main.block }) (start-touches custom e root s name holds begun.may.passes main none) has)
+      (λ own. stopped.blocks name page (record { main = main.main; block = main.block }) own (start-touches custom e root s name holds begun.may.passes main none) has)
 
   again : AreAgain custom root root per s.records (world_under s d) (world_under s b)
   again = record {

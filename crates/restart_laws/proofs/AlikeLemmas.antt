@@ -83,8 +83,8 @@ laid_main root parts laid =
     (top_main root parts (codes "pg_walreplay.unfinished") refl refl) (top_main root parts (codes "pg_walreplay.shadow") refl refl)
 
 -- files of relations lie in areas
-file_named : (rel : RelName) (fork : Fork) (segment : ℕ) → is_named (file_parts rel fork segment) ≡ true
-file_named rel fork segment = by (rel.space == 1664)
+pub file-named : (rel : RelName) (fork : Fork) (segment : ℕ) → is_named (file_parts rel fork segment) ≡ true
+file-named rel fork segment = by (rel.space == 1664)
   where
     by : (t : Bool) → is_named ((if t then global_parts else database_parts rel.database) ++ name_of rel.relation fork segment ∷ []) ≡ true
     by true = refl
@@ -119,7 +119,7 @@ module _ (custom : Option Extension) (root : PathValue) (s : Start) (listed : Li
 
   first_file : (rel : RelName) (fork : Fork) (segment : ℕ) → entry_at d (below root (file_parts rel fork segment)) ≡ entry_at c (below root (file_parts rel fork segment))
   first_file rel fork segment =
-      begun.laid.elsewhere (below root (file_parts rel fork segment)) (not-laid_named root (below root (file_parts rel fork segment)) (restored-below root (file_parts rel fork segment) ∙ file_named rel fork segment))
+      begun.laid.elsewhere (below root (file_parts rel fork segment)) (not-laid_named root (below root (file_parts rel fork segment)) (restored-below root (file_parts rel fork segment) ∙ file-named rel fork segment))
 
   -- as a walk found them
   pub whole-blocks : HasWholeBlocks d root
@@ -130,7 +130,7 @@ module _ (custom : Option Extension) (root : PathValue) (s : Start) (listed : Li
       let path = below root (file_parts at.0 Main at.1) in
       ap (λ o. length (bytes_in o) % 8192)
       (ap (λ l. entry_at d (below root l)) own ∙ first_file at.0 Main at.1
-      ∙ sym (named-seen c root path (restored-below root (file_parts at.0 Main at.1) ∙ file_named at.0 Main at.1)) ∙ sym (file_seen e root at.0 Main at.1) ∙ ap (λ l. entry_at (areas_of e root) (below root l)) (sym own))
+      ∙ sym (named-seen c root path (restored-below root (file_parts at.0 Main at.1) ∙ file-named at.0 Main at.1)) ∙ sym (file_seen e root at.0 Main at.1) ∙ ap (λ l. entry_at (areas_of e root) (below root l)) (sym own))
       ∙ walked-whole (areas_of e root) root of.entries (parts-seen c root begun.proper) of.told parts at is
 
   module _ (per : ℕ) (served : IsServed root per c) where

@@ -38,7 +38,7 @@ use Rattle.restart_laws.proofs.StartLemmas.{MarksSame, ReadsSame, start-same}
 
 -- ---- what is seen without the mark
 
-own-seen : (c : Contents) (root path : PathValue) → entry_at (without_own c root) path ≡ seen (path_eq path (mark_of root)) (entry_at c path)
+pub own-seen : (c : Contents) (root path : PathValue) → entry_at (without_own c root) path ≡ seen (path_eq path (mark_of root)) (entry_at c path)
 own-seen c root path = entry-seen c (mark_of root) path (omega (arith, mark-size root))
 
 -- what is brought back isn't the mark
@@ -109,7 +109,7 @@ module _ (custom : Option Extension) (root : PathValue) (s : Start) (listed : Li
   }
 
   pub begun-from : IsBegunFrom root listed d
-  begun-from = laid-begun root listed c d begun.laid begun_first begun.laid_tree
+  begun-from = laid-begun root listed c d begun.laid.elsewhere begun_first begun.laid_tree
 
   pub seen-same : (b : Contents) (path : PathValue) → entry_at b path ≡ entry_at c path → entry_at (without_own b root) path ≡ entry_at e path
   seen-same b path same = own-seen b root path ∙ ap (seen (path_eq path (mark_of root))) same ∙ sym (own-seen c root path)
@@ -142,7 +142,7 @@ module _ (custom : Option Extension) (root : PathValue) (s : Start) (listed : Li
 
   module _ (x b : Contents) (stopped : IsStoppedIn custom root s d x) (restored : IsRestored root listed x b) where
     pub is-left : IsLeftOf root listed d x
-    is-left = laid-left root listed c d x begun.laid stopped.beside begun.list
+    is-left = laid-left root listed c d x begun.laid.elsewhere stopped.beside begun.laid.copies.copied begun.list
 
     pub is-back : IsBack root d x b
     is-back = all-back root listed d x b begun-from is-left restored

@@ -31,8 +31,8 @@ one-start a b e = cc
 abbrev OkTold : Told → Result Told RestartFault
 OkTold t = Ok t
 
-begun_list : (a b : List Listed) → OkTold (Begun a) ≡ OkTold (Begun b) → a ≡ b
-begun_list a b e = cc
+pub begun-list : (a b : List Listed) → OkTold (Begun a) ≡ OkTold (Begun b) → a ≡ b
+begun-list a b e = cc
 
 pub no-begun : {P : Type 0} (a : List Listed) → OkTold NotBegun ≡ OkTold (Begun a) → P
 no-begun a e = absurd cc
@@ -46,13 +46,13 @@ OkList l = Ok l
 pub one-list : (a b : List Listed) → OkList a ≡ OkList b → a ≡ b
 one-list a b e = cc
 
-record First (root : PathValue) (r : Result After ReplayFault) (b : After) : Type 0 where
-  after : After
-  is : r ≡ Ok after
-  same : AreSameEnd root after b
+pub record First (root : PathValue) (r : Result After ReplayFault) (b : After) : Type 0 where
+  pub after : After
+  pub is : r ≡ Ok after
+  pub same : AreSameEnd root after b
 
-first_of : (root : PathValue) (r q : Result After ReplayFault) (b : After) → q ≡ Ok b → EndAsOne root r q → First root r b
-first_of root r q b is one = by r refl (subst (EndAsOne root r) is one)
+pub first-of : (root : PathValue) (r q : Result After ReplayFault) (b : After) → q ≡ Ok b → EndAsOne root r q → First root r b
+first-of root r q b is one = by r refl (subst (EndAsOne root r) is one)
   where
     by : (t : Result After ReplayFault) → r ≡ t → EndAsOne root t (Ok b) → First root r b
     by (Ok a) so same = record { after = a; is = so; same = same }
@@ -64,7 +64,7 @@ module _ (custom : Option Extension) (sound : IsSound custom) (root : PathValue)
 
   abbrev first_end : (b : Contents) (after : After) → IsRestored root listed x b → replayed_under custom root s b ≡ Ok after → First root (replayed_under custom root s d) after
   first_end b after restored is =
-      first_of root (replayed_under custom root s d) (replayed_under custom root s b) after is
+      first-of root (replayed_under custom root s d) (replayed_under custom root s b) after is
       (ends-as_first custom sound root s listed c d begun served x b stopped (is-back custom root s listed c d begun x b stopped restored) (beside-back custom root s listed c d begun x b stopped restored))
 
   abbrev left_first : (after : After) → First root (replayed_under custom root s d) after → IsCleared root after.files new → IsLeftBelow custom root s d new
@@ -88,9 +88,9 @@ module _ (custom : Option Extension) (sound : IsSound custom) (root : PathValue)
   taken = is-taken custom root s listed c d x begun stopped
 
   by_over : (count : Count) (t : Start) (b : Contents) → IsOver custom x root t b → IsLeftOver custom root t b new count → IsDone count
-  by_over count t b (Anew other not may laid) over = no-begun listed (sym not ∙ taken)
+  by_over count t b (Anew other not may placed laid) over = no-begun listed (sym not ∙ taken)
   by_over count t b (Again other again is restored may) over =
-      let back : IsRestored root listed x b = subst (λ l. IsRestored root l x b) (begun_list other listed (sym is ∙ taken)) restored in
+      let back : IsRestored root listed x b = subst (λ l. IsRestored root l x b) (begun-list other listed (sym is ∙ taken)) restored in
       let same : t ≡ s = one-start t s (sym may.passes ∙ starts-same custom root s listed c d begun x b stopped back ∙ begun.may.passes) in
       from_over count b back (subst (λ u. IsLeftOver custom root u b new count) same over)
 

@@ -23,14 +23,14 @@ both_end : (root : PathValue) (r q : Result After ReplayFault) (a b : After) →
 both_end root r q a b is so one = subst (λ x. EndAsOne root x (Ok b)) is (subst (EndAsOne root r) so one)
 
 module _ (custom : Option Extension) (sound : IsSound custom) (root : PathValue) (s : Start) (listed : List Listed) (c d new one : Contents)
-    (begun : WasBegun custom root s listed c d) (served : IsServed root s.control.relseg c) where
+    (begun : WasBegun custom root s listed c d) (own : IsLaid root listed c d) (served : IsServed root s.control.relseg c) where
   -- nothing was stopped yet
   no_stop : IsStoppedIn custom root s d d
-  no_stop = record { beside = λ path off. refl; blocks = λ name page main free has. has }
+  no_stop = record { beside = λ path off. refl; blocks = λ name page main own free has. has }
 
   laid_end : (e : Contents) → IsLaid root listed c e → EndAsOne root (replayed_under custom root s d) (replayed_under custom root s e)
   laid_end e laid =
-      let same = laid-same root listed c e d laid begun.laid in
+      let same = laid-same root listed c e d laid own in
       ends-as_first custom sound root s listed c d begun served d e no_stop (λ parts. inl (same (below root parts))) (λ path off. same path)
 
   module _ (left : IsLeftBelow custom root s d new) where
@@ -49,7 +49,7 @@ module _ (custom : Option Extension) (sound : IsSound custom) (root : PathValue)
         by parts same false off = left.files.elsewhere parts off ∙ same parts ∙ sym (over.files.elsewhere (below root parts) off)
 
     by_over : (count : Count) (t : Start) (e : Contents) → IsOver custom c root t e → IsLeftOver custom root t e one count → IsRun count
-    by_over count t e (Anew other not may laid) over =
+    by_over count t e (Anew other not may placed laid) over =
         let start : t ≡ s = one-start t s (sym may.passes ∙ begun.may.passes) in
         let list : other ≡ listed = one-list other listed (sym may.lists ∙ begun.may.lists) in
         from_over count e (subst (λ l. IsLaid root l c e) list laid) (subst (λ u. IsLeftOver custom root u e one count) start over)

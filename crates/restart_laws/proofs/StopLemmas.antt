@@ -15,16 +15,16 @@ pub back-stopped : (custom : Option Extension) (root : PathValue) (s : Start) (l
     → WasBegun custom root s listed c d → IsStoppedIn custom root s d x → IsRestored root listed x b → IsStoppedIn custom root s d b
 back-stopped custom root s listed c d x b begun stopped restored = record {
   beside = beside-back custom root s listed c d begun x b stopped restored;
-  blocks = λ name page main free has.
-      block-back root s.control.relseg d x b name page (is-back custom root s listed c d begun x b stopped restored) has (stopped.blocks name page main free has);
+  blocks = λ name page main own free has.
+      block-back root s.control.relseg d x b name page (is-back custom root s listed c d begun x b stopped restored) has (λ inside. stopped.blocks name page main inside free has);
 }
 
 pub stops-one : StopsAreOne
 stops-one custom root s d x y first (inl next) = record {
   beside = λ path off. next.beside path off ∙ first.beside path off;
-  blocks = λ name page main free has. next.blocks name page main free (first.blocks name page main free has);
+  blocks = λ name page main own free has. next.blocks name page main own free (first.blocks name page main own free has);
 }
 stops-one custom root s d x y first (inr next) = record {
   beside = λ path off. next.beside path off ∙ first.beside path off;
-  blocks = λ name page main free has. next.blocks name page main free has (first.blocks name page main free has);
+  blocks = λ name page main own free has. next.blocks name page main own free has (first.blocks name page main own free has);
 }

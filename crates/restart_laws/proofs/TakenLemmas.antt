@@ -13,7 +13,7 @@ use Rattle.clusters.specs.WholeFile.{all_of}
 use Rattle.replay_areas.specs.Listing.{label_listed, label_path}
 use Rattle.replay_areas.proofs.ListLemmas.{list_is}
 use Rattle.replay_copies.specs.Laid.{mark_of}
-use Rattle.replay_copies.proofs.TellLemmas.{laid-told}
+use Rattle.replay_copies.proofs.TellLemmas.{standing-told}
 use Rattle.replay_core.proofs.StartedLemmas.{is_given}
 use Rattle.replay_list.specs.Lines.{files_behind, path_at}
 use Rattle.replay_list.specs.Mark.{mark_told}
@@ -121,7 +121,7 @@ module _ (custom : Option Extension) (root : PathValue) (s : Start) (listed : Li
   told_there : told_in x root (own_bytes x root) ≡ Ok (Begun listed)
   told_there =
       in_same (own_bytes x root) ∙ ap (told_in d root) own_same
-      ∙ laid-told root listed c d (can-lay c root custom s listed begun.tree (unbegun c root begun.anew) begun.may begun.list) begun.laid
+      ∙ standing-told root listed c d (can-lay c root custom s listed begun.tree (unbegun c root begun.anew) begun.may begun.list) begun.laid
 
   -- a mark that tells that is none of version 1
   not_old : (o : Option (List ℕ)) → told_in x root o ≡ Ok (Begun listed) → is_old_file o ≡ false

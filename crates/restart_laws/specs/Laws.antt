@@ -2,12 +2,14 @@
 use Rattle.std.specs.Prelude.{◌≡◌, ◌⊎◌, List, Option, Ok}
 use Rattle.cluster_tree.specs.Contents.{Contents}
 use Rattle.cluster_tree.specs.PathValue.{PathValue}
+use Rattle.replay_copies.specs.Ended.{StandsLaid}
 use Rattle.replay_copies.specs.Laid.{IsLaid, SameElsewhere}
 use Rattle.replay_core.specs.Replayed.{After}
 use Rattle.replay_core.specs.Under.{SameBesideReplay, replayed_under}
 use Rattle.replay_core.specs.declared.outcome.Replayed.{Replayed as Count}
 use Rattle.replay_list.specs.Laws.{IsListOf}
 use Rattle.replay_list.specs.declared.listed.Listed.{Listed}
+use Rattle.replay_restart.specs.Stopped.{IsReplaying}
 use Rattle.replay_restart.specs.Meant.{IsLeftBy, Tells, taken_of}
 use Rattle.replay_restart.specs.declared.outcome.Restarted.{Restarted}
 use Rattle.replay_restart.specs.declared.outcome.Restarted.TheVariants as told
@@ -24,6 +26,10 @@ use Rattle.restart_laws.specs.Stopped.{AreOneRun, EndAsOne, IsLeftBelow, IsServe
 abbrev pub ReplayIsBeside : Type 0
 ReplayIsBeside = (root : PathValue) (old new : Contents) → SameBesideReplay root old new → SameBeside root old new
 
+-- so what a stop of `restart` leaves while it replays is what stops may leave
+abbrev pub ReplayingIsStopped : Type 0
+ReplayingIsStopped = (custom : Option Extension) (root : PathValue) (s : Start) (d x : Contents) → IsReplaying custom root s d x → IsStoppedIn custom root s d x
+
 -- a stop leaves the mark and the copies as they were
 abbrev pub StoppedKeepsMark : Type 0
 StoppedKeepsMark = (custom : Option Extension) (root : PathValue) (s : Start) (d x : Contents) → IsStoppedIn custom root s d x → SameLaid root d x
@@ -31,7 +37,7 @@ StoppedKeepsMark = (custom : Option Extension) (root : PathValue) (s : Start) (d
 -- and so the copies of what stood before, with all that replay doesn't change
 abbrev pub StoppedIsLeft : Type 0
 StoppedIsLeft = (custom : Option Extension) (root : PathValue) (s : Start) (listed : List Listed) (c d x : Contents)
-    → IsListOf root listed → IsLaid root listed c d → IsStoppedIn custom root s d x → IsLeftOf root listed d x
+    → IsListOf root listed → StandsLaid root listed c d → IsStoppedIn custom root s d x → IsLeftOf root listed d x
 
 -- so its mark is taken up, with the list that it was begun from
 abbrev pub StoppedIsTaken : Type 0
@@ -81,17 +87,17 @@ EndedIsDone = (custom : Option Extension) → IsSound custom → (root : PathVal
 -- Either is what one run leaves that begins where that replay was begun, and isn't stopped,
 abbrev pub LeftIsOneRun : Type 0
 LeftIsOneRun = (custom : Option Extension) → IsSound custom → (root : PathValue) (s : Start) (listed : List Listed) (c d new one : Contents) (count : Count)
-    → WasBegun custom root s listed c d → IsServed root s.control.relseg c → (left : IsLeftBelow custom root s d new)
+    → WasBegun custom root s listed c d → IsLaid root listed c d → IsServed root s.control.relseg c → (left : IsLeftBelow custom root s d new)
     → IsLeftBy custom c root one (told.Replayed count) → HaveSameFiles new root one root × Tells left.after count
 
 -- and so the runs that were stopped and the one that was done are together as that one.
 abbrev pub RestartedIsOneRun : Type 0
 RestartedIsOneRun = (custom : Option Extension) → IsSound custom → (root : PathValue) (s : Start) (listed : List Listed) (c d x new one : Contents) (count single : Count)
-    → WasBegun custom root s listed c d → IsServed root s.control.relseg c → IsStoppedIn custom root s d x
+    → WasBegun custom root s listed c d → IsLaid root listed c d → IsServed root s.control.relseg c → IsStoppedIn custom root s d x
     → IsLeftBy custom x root new (told.Replayed count) → IsLeftBy custom c root one (told.Replayed single) → AreOneRun root new one count single
 
 -- Where a stop came while the mark and the copies were laid, and left all but these as it was and no mark of a list, one that is done then leaves what one
 -- may leave that begins where that replay was begun.
 abbrev pub BegunLateIsBegun : Type 0
-BegunLateIsBegun = (custom : Option Extension) (root : PathValue) (s : Start) (listed : List Listed) (c d x new : Contents) (told : Restarted)
-    → WasBegun custom root s listed c d → SameElsewhere root c x → taken_of x root ≡ Ok NotBegun → IsLeftBy custom x root new told → IsLeftBy custom c root new told
+BegunLateIsBegun = (custom : Option Extension) (root : PathValue) (c x new : Contents) (told : Restarted)
+    → taken_of c root ≡ Ok NotBegun → SameElsewhere root c x → taken_of x root ≡ Ok NotBegun → IsLeftBy custom x root new told → IsLeftBy custom c root new told

@@ -7,8 +7,8 @@ use Rattle.cluster_tree.specs.Contents.{Contents, IsTree, entry_at}
 use Rattle.cluster_tree.specs.PathValue.{PathValue, below}
 use Rattle.file_effects.specs.Touched.{IsOfMain}
 use Rattle.file_walk.specs.Walk.{HasParts}
-use Rattle.replay_copies.specs.Ended.{IsGone}
-use Rattle.replay_copies.specs.Laid.{IsLaid, is_laid_at}
+use Rattle.replay_copies.specs.Ended.{IsGone, StandsLaid}
+use Rattle.replay_copies.specs.Laid.{is_laid_at}
 use Rattle.replay_core.specs.Replayed.{After}
 use Rattle.replay_core.specs.Sparing.{HasPage}
 use Rattle.replay_core.specs.Under.{replayed_under}
@@ -23,14 +23,14 @@ use Rattle.replay_start.specs.declared.fault.ReplayFault.{ReplayFault}
 use Rattle.replay_world.specs.Touched.{touched_by}
 use Rattle.replayed_bytes.specs.Bytes.{HaveSameFiles}
 use Rattle.restart_start.specs.Beginning.{MayBegin, without_own}
-use Rattle.restored_laws.specs.Back.{SameBeside}
+use Rattle.restored_laws.specs.Back.{IsInMain, SameBeside}
 use Rattle.rmgr_hooks.specs.Custom.{Extension}
 use Rattle.stored_replay.specs.Stored.{NotBegun}
 
 -- ---- a replay that was begun
 
--- In these contents no replay was begun, and of them one passed its checks, with this start and this list; with its mark and its copies laid they
--- are those.
+-- In these contents no replay was begun, and of them one passed its checks, with this start and this list; with its mark, whose second gate isn't open,
+-- and its copies they are those.
 pub record WasBegun (custom : Option Extension) (root : PathValue) (s : Start) (listed : List Listed) (c d : Contents) : Type 0 where
   pub tree : IsTree c
   pub proper : HasParts c root
@@ -38,7 +38,7 @@ pub record WasBegun (custom : Option Extension) (root : PathValue) (s : Start) (
   pub may : MayBegin custom (without_own c root) root s listed
   pub list : IsListOf root listed
   pub laid_tree : IsTree d
-  pub laid : IsLaid root listed c d
+  pub laid : StandsLaid root listed c d
 
 -- a cluster that servers can have left: no fork has a gap, no file of a main fork has more blocks than it may, and the files of the log hold bytes
 pub record IsServed (root : PathValue) (per_file : ℕ) (c : Contents) : Type 0 where
@@ -49,18 +49,18 @@ pub record IsServed (root : PathValue) (per_file : ℕ) (c : Contents) : Type 0 
 -- ---- a stop
 
 -- What stops may leave where a log is replayed over contents with a mark and copies, and where of that what stood there is brought back: all but
--- what is at or below the areas and the label is as it was, so the mark and the copies too; and each block of a main fork that no record of the log
--- touches has the page that it had.
+-- what is at or below the areas and the label is as it was, so the mark and the copies too; and each block in a file of a main fork that no record of the
+-- log touches has the page that it had.
 pub record IsStoppedIn (custom : Option Extension) (root : PathValue) (s : Start) (d x : Contents) : Type 0 where
   pub beside : SameBeside root d x
-  pub blocks : (name : BlockName) (page : List ℕ) → IsOfMain name → touched_by custom s.records name ≡ false
+  pub blocks : (name : BlockName) (page : List ℕ) → IsOfMain name → IsInMain s.control.relseg name → touched_by custom s.records name ≡ false
       → HasPage root s.control.relseg name page d → HasPage root s.control.relseg name page x
 
 -- What a further stop may leave of what such stops left: all but what is at or below the areas and the label is as it was; and each such block that
 -- has its page in both has it still.
 pub record IsStoppedOn (custom : Option Extension) (root : PathValue) (s : Start) (d x y : Contents) : Type 0 where
   pub beside : SameBeside root x y
-  pub blocks : (name : BlockName) (page : List ℕ) → IsOfMain name → touched_by custom s.records name ≡ false
+  pub blocks : (name : BlockName) (page : List ℕ) → IsOfMain name → IsInMain s.control.relseg name → touched_by custom s.records name ≡ false
       → HasPage root s.control.relseg name page d → HasPage root s.control.relseg name page x → HasPage root s.control.relseg name page y
 
 -- the mark and the copies are as they were

@@ -1,10 +1,15 @@
 //! Laws: what holds of the definitions, whatever calls them.
 
-ghost use Rattle.restart_laws.specs.Laws.{AgainEndsAsFirst, BackIsStopped, BegunLateIsBegun, EndedIsDone, LeftIsOneRun, MayBeginAgain, ReplayIsBeside, RestartedIsDone, RestartedIsOneRun, StartsAreTheSame, StoppedIsLeft, StoppedIsTaken, StoppedKeepsMark, StopsAreOne};
+ghost use Rattle.restart_laws.specs.Laws.{AgainEndsAsFirst, BackIsStopped, BegunLateIsBegun, EndedIsDone, LeftIsOneRun, MayBeginAgain, ReplayIsBeside, ReplayingIsStopped, RestartedIsDone, RestartedIsOneRun, StartsAreTheSame, StoppedIsLeft, StoppedIsTaken, StoppedKeepsMark, StopsAreOne};
 
 /// What a replay leaves as it was is all but what is brought back where it is begun again.
 pub fn replay_is_beside()
     ensures { ReplayIsBeside }
+{}
+
+/// So what a stop of a replay that can be started again leaves while it replays is what stops may leave.
+pub fn replaying_is_stopped()
+    ensures { ReplayingIsStopped }
 {}
 
 /// A stop of a replay leaves its mark and its copies as they were.

@@ -1,16 +1,18 @@
 -- A block that a stop left as it stood before stands there again.
-use Rattle.std.proofs.Common.{◌≡◌, ◌⊎◌, ℕ, ◌+◌, ◌-◌, ◌*◌, ◌/◌, ◌%◌, ◌≤◌, List, length, take, drop, replicate, None, Some, ap, sym, ◌∙◌, inl, inr, arith}
+use Rattle.std.proofs.Common.{◌≡◌, ◌⊎◌, ℕ, ◌+◌, ◌-◌, ◌*◌, ◌/◌, ◌%◌, ◌≤◌, List, length, take, drop, replicate, true, false, None, Some, is_some, ap, sym, ◌∙◌, inl, inr, arith}
 use Rattle.std.proofs.lemmas.List.{drop-append-le, drop-take, length-drop, length-take, take-append-le, take-take}
 use Rattle.alike_clusters.proofs.NameLemmas.{file-lies, file_parts}
 use Rattle.block_refs.specs.declared.names.BlockName.{BlockName}
 use Rattle.cluster_tree.specs.Contents.{Contents, entry_at}
-use Rattle.cluster_tree.specs.PathValue.{PathValue, below}
+use Rattle.cluster_tree.specs.PathValue.{PathValue, below, path_of}
+use Rattle.file_walk.specs.Actions.{here}
+use Rattle.file_walk.specs.Relations.{relation_of}
 use Rattle.cluster_tree.specs.Tree.{bytes_at, bytes_in}
 use Rattle.replay_restore.specs.Filled.{resized}
 use Rattle.storage_laws.specs.States.{block_in, whole_block}
 use Rattle.storage_laws.proofs.NumberLemmas.{by_order}
 use Rattle.storage_laws.proofs.WholeLemmas.{whole-none, whole-there}
-use Rattle.restored_laws.specs.Back.{IsBack, IsResized}
+use Rattle.restored_laws.specs.Back.{IsBack, IsInMain, IsResized}
 use Rattle.restored_laws.proofs.AlikeLemmas.{resized-size}
 
 -- a block that is there lies in the file
@@ -52,15 +54,22 @@ module _ (root : PathValue) (per : ℕ) (first left again : Contents) (name : Bl
   lies : (c : Contents) → block_in root per name c ≡ whole_block place (bytes_in (entry_at c (below root parts)))
   lies c = ap (λ p. whole_block place (bytes_in (entry_at c p))) (file-lies root name.rel name.fork (name.block / per))
 
-  by_path : block_in root per name first ≡ Some page → block_in root per name left ≡ Some page → (entry_at again (below root parts) ≡ entry_at first (below root parts)) ⊎ IsResized root parts first left again
+  -- where its file is one of a main fork, it is still there
+  abbrev StillThere : Type 0
+  StillThere = IsInMain per name → block_in root per name left ≡ Some page
+
+  in_main : is_some (relation_of (path_of false parts)) ≡ true → IsInMain per name
+  in_main main = ap (λ p. is_some (relation_of p)) (file-lies here name.rel name.fork (name.block / per)) ∙ main
+
+  by_path : block_in root per name first ≡ Some page → StillThere → (entry_at again (below root parts) ≡ entry_at first (below root parts)) ⊎ IsResized root parts first left again
       → whole_block place (bytes_in (entry_at again (below root parts))) ≡ Some page
   by_path had kept (inl same) = ap (λ o. whole_block place (bytes_in o)) same ∙ sym (lies first) ∙ had
   by_path had kept (inr is) =
       ap (λ o. whole_block place (bytes_in o)) is.has
       ∙ same_block place (length is.bytes) (bytes_at left (below root parts))
       (inside place is.bytes page (sym (ap (λ o. whole_block place (bytes_in o)) is.had) ∙ sym (lies first) ∙ had))
-      (inside place (bytes_at left (below root parts)) page (sym (lies left) ∙ kept))
-      ∙ sym (lies left) ∙ kept
+      (inside place (bytes_at left (below root parts)) page (sym (lies left) ∙ kept (in_main is.main)))
+      ∙ sym (lies left) ∙ kept (in_main is.main)
 
-  pub block-back : IsBack root first left again → block_in root per name first ≡ Some page → block_in root per name left ≡ Some page → block_in root per name again ≡ Some page
+  pub block-back : IsBack root first left again → block_in root per name first ≡ Some page → StillThere → block_in root per name again ≡ Some page
   block-back back had kept = lies again ∙ by_path had kept (back parts)

@@ -16,7 +16,7 @@ use Rattle.mark_lines.specs.Paths.{parts_below}
 use Rattle.mark_lines.specs.Ways.{LiesBelow}
 use Rattle.replay_areas.specs.Laws.{TellsAreas}
 use Rattle.replay_areas.specs.Listing.{label_listed, label_path, listed_by}
-use Rattle.replay_copies.specs.Laid.{AreCopied, IsLaid, is_laid_at, mark_of}
+use Rattle.replay_copies.specs.Laid.{AreCopied, SameElsewhere, is_laid_at, mark_of}
 use Rattle.replay_list.specs.Areas.{is_area, is_listed}
 use Rattle.replay_list.specs.Laws.{IsListOf}
 use Rattle.replay_list.specs.Lines.{files_behind, path_at}
@@ -43,12 +43,12 @@ laid_off root path laid =
       | false ↦ λ e rest. shadow_off root path rest
     ] refl laid
 
-module _ (root : PathValue) (listed : List Listed) (before first : Contents) (laid : IsLaid root listed before first) where
+module _ (root : PathValue) (listed : List Listed) (before first : Contents) (elsewhere : SameElsewhere root before first) where
   as_before : (path : PathValue) → is_restored_at root path ≡ true → entry_at first path ≡ entry_at before path
   as_before path restored =
       elim (is_laid_at root path) as (λ b. is_laid_at root path ≡ b → entry_at first path ≡ entry_at before path) [
         | true ↦ λ e. absurd (true≢false (sym restored ∙ laid_off root path e))
-        | false ↦ λ e. laid.elsewhere path e
+        | false ↦ λ e. elsewhere path e
       ] refl
 
   as_named : (parts : List (List ℕ)) → is_named parts ≡ true → entry_at first (below root parts) ≡ entry_at before (below root parts)
@@ -88,11 +88,11 @@ second_of : (a b : Bool) → (a && b) ≡ true → b ≡ true
 second_of true b e = e
 second_of false b e = absurd cc
 
-module _ (root : PathValue) (all : List Listed) (before first left : Contents) (laid : IsLaid root all before first) (beside : SameBeside root first left) where
+module _ (root : PathValue) (all : List Listed) (before first left : Contents) (elsewhere : SameElsewhere root before first) (beside : SameBeside root first left) where
   one_left : (files : ℕ) (path : PathValue) → is_restored_at root path ≡ true → entry_at first (shadow_at root files) ≡ entry_at before path → entry_at left (shadow_at root files) ≡ entry_at first path
   one_left files path restored copied =
       beside (shadow_at root files) (restored-below root (codes "pg_walreplay.shadow" ∷ decimal files ∷ []))
-      ∙ copied ∙ sym (as_before root all before first laid path restored)
+      ∙ copied ∙ sym (as_before root all before first elsewhere path restored)
 
   all_left : (files : ℕ) (listed : List Listed) → AllByRecursion (λ l. LiesBelow (length root.parts) root (path_at l)) listed → list_all (λ l. is_listed (parts_below root (path_at l))) listed ≡ true
       → AreCopied root before first files listed → AreCopied root first left files listed
@@ -105,8 +105,8 @@ module _ (root : PathValue) (all : List Listed) (before first left : Contents) (
     all_left (files_behind files (File path size)) more placed.1 (second_of _ _ areas) copied.1,
   )
 
-  pub laid-left : IsListOf root all → IsLeftOf root all first left
-  laid-left list = record {
-    copied = all_left 0 all (recursion_from_All (λ l. LiesBelow (length root.parts) root (path_at l)) all list.placed) list.areas laid.copies.copied;
+  pub laid-left : AreCopied root before first 0 all → IsListOf root all → IsLeftOf root all first left
+  laid-left copied list = record {
+    copied = all_left 0 all (recursion_from_All (λ l. LiesBelow (length root.parts) root (path_at l)) all list.placed) list.areas copied;
     beside = beside;
   }

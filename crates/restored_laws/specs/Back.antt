@@ -1,9 +1,12 @@
 -- What is brought back of a cluster in which a replay was stopped, beside what stood there before. Own: "What a replay brings back".
-use Rattle.std.specs.Prelude.{◌≡◌, ◌⊎◌, ℕ, true, false, List, length, Some, is_some}
+use Rattle.std.specs.Prelude.{◌≡◌, ◌⊎◌, ℕ, ◌/◌, true, false, List, length, Some, is_some}
+use Rattle.block_refs.specs.declared.names.BlockName.{BlockName}
 use Rattle.cluster_tree.specs.Contents.{Contents, FileEntry, IsTree, entry_at, is_file}
 use Rattle.cluster_tree.specs.PathValue.{PathValue, below, path_of}
 use Rattle.cluster_tree.specs.Tree.{bytes_at}
+use Rattle.file_walk.specs.Actions.{here}
 use Rattle.file_walk.specs.Relations.{relation_of}
+use Rattle.relation_files.specs.Paths.{relation_file}
 use Rattle.replay_areas.specs.Laws.{TellsAreas}
 use Rattle.replay_areas.specs.Listing.{label_path}
 use Rattle.replay_copies.specs.Laid.{AreCopied}
@@ -27,6 +30,10 @@ SameBeside root old new = (path : PathValue) → is_restored_at root path ≡ fa
 pub record IsLeftOf (root : PathValue) (listed : List Listed) (first left : Contents) : Type 0 where
   pub copied : AreCopied root first left 0 listed
   pub beside : SameBeside root first left
+
+-- the file that holds a block is one of a main fork, by its name
+abbrev pub IsInMain : (per_file : ℕ) → BlockName → Type 0
+IsInMain per_file name = is_some (relation_of (relation_file here name.rel name.fork (name.block / per_file))) ≡ true
 
 -- a file of a main fork has as many bytes as it had, those that the stop left of it where there are so many
 pub record IsResized (root : PathValue) (parts : List (List ℕ)) (first left again : Contents) : Type 0 where

@@ -12,7 +12,7 @@ use Rattle.replay_restore.specs.Listing.{is_closed}
 use Rattle.replay_restore.specs.Restored.{IsRestored}
 use Rattle.replayed_bytes.specs.Bytes.{HaveSameVersions}
 use Rattle.storage_laws.specs.States.{block_in}
-use Rattle.restored_laws.specs.Back.{IsBack, IsBegunFrom, IsLeftOf, SameBeside}
+use Rattle.restored_laws.specs.Back.{IsBack, IsBegunFrom, IsInMain, IsLeftOf, SameBeside}
 
 -- what is listed of a tree has each folder of a path before it
 abbrev pub ListsAreClosed : Type 0
@@ -39,7 +39,7 @@ BackIsAlike = (per_file : ℕ) (root : PathValue) (first left again : Contents)
     → IsBack root first left again → AlikeClusters per_file first root first root
     → AlikeClusters per_file first root again root × HaveSameVersions first root again root
 
--- and a block that stood there, and still does in what the stop left, stands there again, byte for byte
+-- and a block that stood there stands there again, byte for byte, where it still does in what the stop left, or its file isn't one of a main fork
 abbrev pub BackKeepsBlocks : Type 0
 BackKeepsBlocks = (root : PathValue) (per_file : ℕ) (first left again : Contents) (name : BlockName) (page : List ℕ) → IsBack root first left again
-    → block_in root per_file name first ≡ Some page → block_in root per_file name left ≡ Some page → block_in root per_file name again ≡ Some page
+    → block_in root per_file name first ≡ Some page → (IsInMain per_file name → block_in root per_file name left ≡ Some page) → block_in root per_file name again ≡ Some page

@@ -26,7 +26,10 @@ returns-in_err-restore_areas-clause-brings g c = λ told can.
     let elsewhere : (q : PathValue) → is_restored_at root q ≡ false → entry_at (g.F.Tree.contents c.restore_areas.new.tree) q ≡ entry_at (g.F.Tree.contents c.sync.new.tree) q = λ q off. own-elsewhere (is_restored_at root) (state_of g.F.Tree c.sync.new.tree) (state_of g.F.Tree c.restore_areas.new.tree) q (run_of g.F.Tree _ _ c.restore_areas.ensures.frame) own off in
     handed (BringsBack root c.args.listed.now a d) c.from_residual-in_err-restore_areas.result _ (err_from_is_err_and c.from_residual-in_err-restore_areas.result c.from_residual-in_err-restore_areas.ensures.1)
     (restore-broken root c.args.listed.now a b (course_of g.F.Tree _ _ c.sync.ensures.frame) still (c.sync.ensures.stops told) (c.sync.ensures.within told root) (c.in_ok-sync.ensures.synced told)
-    d (course_of g.F.Tree _ _ c.restore_areas.ensures.frame) own elsewhere _ (c.in_err-restore_areas.ensures.refused told can_b))
+    d (course_of g.F.Tree _ _ c.restore_areas.ensures.frame) own elsewhere
+    (λ piece bytes has all shows. (c.restore_areas.ensures.spares told can_b piece has all bytes (g.F.Tree.calls c.sync.new.tree) (record { calls = Same; shows = shows })).shows)
+    (λ piece bytes has all shows left. c.restore_areas.ensures.keeps told can_b piece bytes has all shows left)
+    _ (c.in_err-restore_areas.ensures.refused told can_b))
 
 pub returns-in_err-restore_areas-clause-changed : goal.returns-in_err-restore_areas-clause-changed
 returns-in_err-restore_areas-clause-changed g c = λ told can.
@@ -46,5 +49,7 @@ returns-clause-brings g c = λ told can.
     let elsewhere : (q : PathValue) → is_restored_at root q ≡ false → entry_at (g.F.Tree.contents c.restore_areas.new.tree) q ≡ entry_at (g.F.Tree.contents c.sync.new.tree) q = λ q off. own-elsewhere (is_restored_at root) (state_of g.F.Tree c.sync.new.tree) (state_of g.F.Tree c.restore_areas.new.tree) q (run_of g.F.Tree _ _ c.restore_areas.ensures.frame) own off in
     last-synced root c.args.listed.now a b (course_of g.F.Tree _ _ c.sync.ensures.frame) still (c.sync.ensures.stops told) (c.sync.ensures.within told root) (c.in_ok-sync.ensures.synced told)
     d (course_of g.F.Tree _ _ c.restore_areas.ensures.frame) own elsewhere
+    (λ piece bytes has all shows. (c.restore_areas.ensures.spares told can_b piece has all bytes (g.F.Tree.calls c.sync.new.tree) (record { calls = Same; shows = shows })).shows)
+    (λ piece bytes has all shows left. c.restore_areas.ensures.keeps told can_b piece bytes has all shows left)
     (moment_of g.F.Tree c.sync-2.new.tree) (course_of g.F.Tree _ _ c.sync-2.ensures.frame) (c.sync-2.ensures.same told) (c.sync-2.ensures.stops told) (c.sync-2.ensures.within told root)
     c.sync-2.result (c.sync-2.ensures.synced told) c.sync-2.ensures.fault (c.in_ok-restore_areas.ensures.done told can_b)

@@ -11,7 +11,8 @@ use Rattle.restart_start.specs.Beginning.{MayBegin, without_own}
 use Rattle.rmgr_hooks.specs.Custom.{handed_in}
 use Rattle.replay_restart.specs.Left.{Restarts}
 use Rattle.replay_restart.specs.Meant.{Again}
-use Rattle.replay_restart.proofs.AgainLemmas.{not-again, not-back}
+use Rattle.replay_restart.specs.Stopped.{ReplayingAgain}
+use Rattle.replay_restart.proofs.AgainLemmas.{not-again, not-back, restoring-left}
 use Rattle.replay_restart.proofs.AnewLemmas.{again-begun, err-not_start, over-broken, over-done, reads-still, runs-same, start-free, start-not_changed, was-start}
 use Rattle.replay_restart.proofs.OverLemmas.{NotChanged, as-any, handed, has-same, has-there}
 use Rattle.replay_restart.proofs.TakenLemmas.{begun-was, taken-told}
@@ -113,6 +114,7 @@ returns-in_err-count-clause-restarts g c = λ told.
     let synced = subst (λ (m : Moment). StandsSynced m.state.contents m) (sym still) back.done.1 in
     handed (Restarts custom root a e) c.from_residual-in_err-count.result _ (err_from_is_err_and c.from_residual-in_err-count.result c.from_residual-in_err-count.ensures.1)
     (over-broken custom root a b x.start e (course_of g.F.Tree _ _ c.bring_back.ensures.frame) be (Again c.args.listed.now _ taken back.done.0 may) (back.stops marked) back.within back.log
+    (restoring-left custom root c.args.listed.now a b taken back.left) (λ y run. ReplayingAgain x.start c.args.listed.now c.in_ok-begun.begun.listed _ taken back.done.0 may run)
     _ (runs-same custom root x.start _ _ e _ still (c.in_err-count.ensures.runs told x.start start there synced)))
 
 pub returns-clause-restarts : goal.returns-clause-restarts
@@ -139,4 +141,5 @@ returns-clause-restarts g c = λ told.
     let may = subst (λ y. MayBegin custom (without_own y root) root x.start c.in_ok-begun.begun.listed) same x.may in
     let synced = subst (λ (m : Moment). StandsSynced m.state.contents m) (sym still) back.done.1 in
     over-done custom root a b x.start e (course_of g.F.Tree _ _ c.bring_back.ensures.frame) be (Again c.args.listed.now _ taken back.done.0 may) (back.stops marked) back.within back.log
+    (restoring-left custom root c.args.listed.now a b taken back.left) (λ y run. ReplayingAgain x.start c.args.listed.now c.in_ok-begun.begun.listed _ taken back.done.0 may run)
     _ (runs-same custom root x.start _ _ e _ still (c.in_ok-count.ensures.runs told x.start start there synced))

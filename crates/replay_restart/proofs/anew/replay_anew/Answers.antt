@@ -5,7 +5,8 @@ use Rattle.cluster_tree.proofs.RunLemmas.{course_of}
 use Rattle.rmgr_hooks.specs.Custom.{handed_in}
 use Rattle.replay_restart.specs.Left.{Restarts}
 use Rattle.replay_restart.specs.Meant.{Anew}
-use Rattle.replay_restart.proofs.AnewLemmas.{err-not_start, first-not, from-same, has-laid, laid-log, laid-within, not-laid_done, nothing-done, over-broken, over-done, prepared, reads-still, start-not_changed, start-why, was-start}
+use Rattle.replay_restart.specs.Stopped.{Replaying}
+use Rattle.replay_restart.proofs.AnewLemmas.{err-not_start, first-not, from-same, has-laid, laid-log, laid-within, not-laid_done, nothing-done, over-broken, over-done, prepared, reads-still, start-not_changed, start-why, stopped-begun, was-start}
 use Rattle.replay_restart.proofs.OverLemmas.{NotChanged, as-any, err-not, files-not_changed, handed}
 use Rattle.replay_restart.proofs.anew.replay_anew.Goals as goal
 
@@ -35,7 +36,7 @@ returns-in_err-begin_copies-clause-restarts g c = λ told.
     handed (Restarts custom root a b) c.from_residual-in_err-begin_copies.result _ (err_from_is_err_and c.from_residual-in_err-begin_copies.result c.from_residual-in_err-begin_copies.ensures.1)
     (from-same custom root a a1 b _ (reads-still g.F.Tree _ _ c.start_again.ensures.reads)
     (not-laid_done custom root a1 b (c.begin_copies.ensures.elsewhere told p.ready) (c.begin_copies.ensures.calls told p.ready) (c.begin_copies.ensures.marked told p.ready)
-    p.s c.listed.result.now _ p.taken p.may (c.in_err-begin_copies.ensures.refused told p.ready) (c.in_err-begin_copies.ensures.stands told p.ready)))
+    p.s c.listed.result.now _ p.taken p.may p.ready.list (c.begin_copies.ensures.stops told p.ready) (c.in_err-begin_copies.ensures.refused told p.ready) (c.in_err-begin_copies.ensures.stands told p.ready)))
 
 pub returns-in_err-begin_copies-clause-first : goal.returns-in_err-begin_copies-clause-first
 returns-in_err-begin_copies-clause-first g c = λ told e why. first-not _ (g.F.Tree.contents c.args.tree.now) c.args.root.now _ _ e (c.requires.taken told) (c.in_ok-begun.ensures.exact told).may why
@@ -103,7 +104,8 @@ returns-in_err-count-clause-restarts g c = λ told.
     let has = has-laid root c.listed.result.now c1 (g.F.Tree.contents c.begin_copies.new.tree) p.ready laid in
     handed (Restarts custom root a e) c.from_residual-in_err-count.result _ (err_from_is_err_and c.from_residual-in_err-count.result c.from_residual-in_err-count.ensures.1)
     (from-same custom root a a1 e _ (reads-still g.F.Tree _ _ c.start_again.ensures.reads)
-    (over-broken custom root a1 b p.s e (course_of g.F.Tree _ _ c.begin_copies.ensures.frame) (course_of g.F.Tree _ _ c.replay_over.ensures.frame) (Anew c.listed.result.now p.taken p.may laid) marked (laid-within custom root a1 b elsewhere calls marked) log
+    (over-broken custom root a1 b p.s e (course_of g.F.Tree _ _ c.begin_copies.ensures.frame) (course_of g.F.Tree _ _ c.replay_over.ensures.frame) (Anew c.listed.result.now p.taken p.may p.ready.list laid) marked (laid-within custom root a1 b elsewhere calls marked) log
+    (stopped-begun custom root a1 b p.s c.listed.result.now p.taken p.may p.ready.list (c.begin_copies.ensures.stops told p.ready)) (λ y run. Replaying p.s c.listed.result.now _ p.taken p.may p.ready.list laid run)
     _ (c.in_err-count.ensures.runs told p.s start has (c.in_ok-begin_copies.ensures.synced told p.ready))))
 
 pub returns-clause-restarts : goal.returns-clause-restarts
@@ -126,5 +128,6 @@ returns-clause-restarts g c = λ told.
     let laid = c.in_ok-begin_copies.ensures.done told p.ready in
     let has = has-laid root c.listed.result.now c1 (g.F.Tree.contents c.begin_copies.new.tree) p.ready laid in
     from-same custom root a a1 e _ (reads-still g.F.Tree _ _ c.start_again.ensures.reads)
-    (over-done custom root a1 b p.s e (course_of g.F.Tree _ _ c.begin_copies.ensures.frame) (course_of g.F.Tree _ _ c.replay_over.ensures.frame) (Anew c.listed.result.now p.taken p.may laid) marked (laid-within custom root a1 b elsewhere calls marked) log
+    (over-done custom root a1 b p.s e (course_of g.F.Tree _ _ c.begin_copies.ensures.frame) (course_of g.F.Tree _ _ c.replay_over.ensures.frame) (Anew c.listed.result.now p.taken p.may p.ready.list laid) marked (laid-within custom root a1 b elsewhere calls marked) log
+    (stopped-begun custom root a1 b p.s c.listed.result.now p.taken p.may p.ready.list (c.begin_copies.ensures.stops told p.ready)) (λ y run. Replaying p.s c.listed.result.now _ p.taken p.may p.ready.list laid run)
     _ (c.in_ok-count.ensures.runs told p.s start has (c.in_ok-begin_copies.ensures.synced told p.ready)))

@@ -1,14 +1,23 @@
-use Rattle.std.proofs.Common.{subst, sym}
+use Rattle.std.proofs.Common.{inl, inr, refl, subst, sym}
 use Rattle.std.proofs.lemmas.Result.{err_from_is_err_and}
 use Rattle.cluster_tree.specs.Frame.{moment_of}
 use Rattle.cluster_tree.specs.declared.file_fault.FileFault.TheVariants as file
 use Rattle.cluster_tree.proofs.RunLemmas.{course_of}
 use Rattle.replay_copies.specs.Left.{HasFile}
+use Rattle.replay_restart.specs.Faults.{IsFree}
 use Rattle.replay_restart.specs.Left.{Restarts}
-use Rattle.replay_restart.proofs.AgainLemmas.{all-ended, end-broken}
+use Rattle.replay_restart.proofs.AgainLemmas.{all-ended, end-broken, end-unsynced}
 use Rattle.replay_restart.proofs.OverLemmas.{NotChanged, err-not, files-not_changed, handed, own-synced}
 use Rattle.replay_restart.proofs.TakenLemmas.{ended-file}
 use Rattle.replay_restart.proofs.ended.end_again.Goals as goal
+
+pub returns-in_err-sync-clause-restarts : goal.returns-in_err-sync-clause-restarts
+returns-in_err-sync-clause-restarts g c = λ told taken custom.
+    let a = moment_of g.F.Tree c.args.tree.now in
+    let b = moment_of g.F.Tree c.sync.new.tree in
+    handed (Restarts custom c.args.root.now a b) c.from_residual.result _ (err_from_is_err_and c.from_residual.result c.from_residual.ensures.1)
+    (end-unsynced custom c.args.root.now a b (course_of g.F.Tree _ _ c.sync.ensures.frame) (c.sync.ensures.same told) (c.sync.ensures.stops told) (c.sync.ensures.within told c.args.root.now) taken
+    _ (subst IsFree (sym c.in_err-sync.ensures.fault) (inr (inl refl))))
 
 pub returns-in_err-clear_copies-clause-restarts : goal.returns-in_err-clear_copies-clause-restarts
 returns-in_err-clear_copies-clause-restarts g c = λ told taken custom.

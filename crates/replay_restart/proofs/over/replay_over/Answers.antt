@@ -18,7 +18,7 @@ returns-in_err-count-clause-runs g c = λ told s start has stands.
     let b = moment_of g.F.Tree c.replay_marked.new.tree in
     let left = c.replay_marked.ensures.stops told (record { now = stands.now; left = stands.left }) in
     handed (RunsOver _ c.args.root.now s a b) c.from_residual.result _ (err_from_is_err_and c.from_residual.result c.from_residual.ensures.1)
-    (replay-broken _ c.args.root.now s a has b (c.replay_marked.ensures.elsewhere told) (c.replay_marked.ensures.own told _ Same) left _ (c.in_err-count.ensures.exact told s start))
+    (replay-broken _ c.args.root.now s a has b (c.replay_marked.ensures.elsewhere told) (c.replay_marked.ensures.own told _ Same) left stands (c.replay_marked.ensures.spares told s start) _ (c.in_err-count.ensures.exact told s start))
 
 pub returns-in_err-sync-clause-runs : goal.returns-in_err-sync-clause-runs
 returns-in_err-sync-clause-runs g c = λ told s start has stands.
@@ -26,7 +26,7 @@ returns-in_err-sync-clause-runs g c = λ told s start has stands.
     let b = moment_of g.F.Tree c.replay_marked.new.tree in
     let d = moment_of g.F.Tree c.sync.new.tree in
     handed (RunsOver _ c.args.root.now s a d) c.from_residual-in_err-sync.result _ (err_from_is_err_and c.from_residual-in_err-sync.result c.from_residual-in_err-sync.ensures.1)
-    (sync-broken _ c.args.root.now s a has b (c.replay_marked.ensures.elsewhere told) (c.replay_marked.ensures.own told _ Same) (c.replay_marked.ensures.stops told stands)
+    (sync-broken _ c.args.root.now s a has b (c.replay_marked.ensures.elsewhere told) (c.replay_marked.ensures.own told _ Same) (c.replay_marked.ensures.stops told stands) stands (c.replay_marked.ensures.spares told s start)
     d (course_of g.F.Tree _ _ c.replay_marked.ensures.frame) (course_of g.F.Tree _ _ c.sync.ensures.frame) (c.sync.ensures.same told) (c.sync.ensures.stops told) (c.sync.ensures.within told c.args.root.now)
     _ (subst IsFree (sym c.in_err-sync.ensures.fault) (inr (inl refl))))
 
@@ -44,10 +44,10 @@ returns-in_err-end_copies-clause-runs g c = λ told s start has stands.
     let still = c.sync.ensures.same told in
     let untouched = c.sync.ensures.stops told in
     let within = c.sync.ensures.within told c.args.root.now in
-    let there = has-synced (handed_in g.M.Manager c.args.custom) c.args.root.now s a has b same goes left d ab bd still untouched within in
+    let there = has-synced (handed_in g.M.Manager c.args.custom) c.args.root.now s a has b same goes left stands (c.replay_marked.ensures.spares told s start) d ab bd still untouched within in
     let synced = c.in_ok-sync.ensures.synced told in
     handed (RunsOver _ c.args.root.now s a e) c.from_residual-in_err-end_copies.result _ (err_from_is_err_and c.from_residual-in_err-end_copies.result c.from_residual-in_err-end_copies.ensures.1)
-    (end-broken _ c.args.root.now s a has b same goes left d ab bd still untouched within c.in_ok-count.count (c.in_ok-count.ensures.exact told s start)
+    (end-broken _ c.args.root.now s a has b same goes left stands (c.replay_marked.ensures.spares told s start) d ab bd still untouched within c.in_ok-count.count (c.in_ok-count.ensures.exact told s start)
     e (course_of g.F.Tree _ _ c.end_copies.ensures.frame) (c.end_copies.ensures.calls told there) (c.end_copies.ensures.elsewhere told there)
     (c.end_copies.ensures.stops told there (own-synced (g.F.Tree.contents c.replay_marked.new.tree) d synced)) _ (c.in_err-end_copies.ensures.refused told there) (c.in_err-end_copies.ensures.stands told there))
 
@@ -72,8 +72,8 @@ returns-clause-runs g c = λ told s start has stands.
     let still = c.sync.ensures.same told in
     let untouched = c.sync.ensures.stops told in
     let within = c.sync.ensures.within told c.args.root.now in
-    let there = has-synced (handed_in g.M.Manager c.args.custom) c.args.root.now s a has b same goes left d ab bd still untouched within in
+    let there = has-synced (handed_in g.M.Manager c.args.custom) c.args.root.now s a has b same goes left stands (c.replay_marked.ensures.spares told s start) d ab bd still untouched within in
     let synced = c.in_ok-sync.ensures.synced told in
-    all-over _ c.args.root.now s a has b same goes left d ab bd still untouched within c.in_ok-count.count (c.in_ok-count.ensures.exact told s start)
+    all-over _ c.args.root.now s a has b same goes left stands (c.replay_marked.ensures.spares told s start) d ab bd still untouched within c.in_ok-count.count (c.in_ok-count.ensures.exact told s start)
     e (course_of g.F.Tree _ _ c.end_copies.ensures.frame) (c.end_copies.ensures.calls told there) (c.end_copies.ensures.elsewhere told there)
     (c.end_copies.ensures.stops told there (own-synced (g.F.Tree.contents c.replay_marked.new.tree) d synced)) (c.in_ok-end_copies.ensures.done told there) (c.in_ok-end_copies.ensures.synced told there)
