@@ -34,6 +34,7 @@ use Rattle.commands.specs.declared.rewind.RewindWords.{RewindWords}
 use Rattle.cmd_resume.specs.Resume.{LeavesResumed}
 use Rattle.cmd_resume.proofs.ResumeLemmas.{changes-as}
 use Rattle.cmd_resume.proofs.ShutLemmas.{stored-shut}
+use Rattle.stopped_restarts.proofs.OneLemmas.{one-run}
 use Rattle.wal_tools.specs.Converges.{ConvergesAsked}
 use Rattle.wal_tools.specs.Leaves.{LeavesAsked}
 use Rattle.wal_tools.specs.Resumed.{ConvergesResumed}
@@ -100,7 +101,8 @@ converges_left custom sound (Ok (command.Waldump words)) now tells c c' out out'
 converges_left custom sound (Ok (command.Resetwal words)) now tells c c' out out' left = tt
 converges_left custom sound (Ok (command.Archivecleanup words)) now tells c c' out out' left = tt
 converges_left custom sound (Ok (command.Walreplay words)) now tells c c' out out' left = tt
-converges_left custom sound (Ok (command.Restart words)) now tells c c' out out' left = tt
+converges_left custom sound (Ok (command.Restart words)) now tells c c' out out' left =
+    λ first is_first stops. (left.what, one-run custom sound words.root first c c' is_first left.what stops left.left)
 converges_left custom sound (Ok (command.Walcompare words)) now tells c c' out out' left = tt
 converges_left custom sound (Ok (command.Pair words)) now tells c c' out out' left = tt
 converges_left custom sound (Err e) now tells c c' out out' left = tt

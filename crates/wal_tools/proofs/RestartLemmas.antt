@@ -1,19 +1,28 @@
 -- A replay that can be started again, as the command that was carried out.
-use Rattle.std.proofs.Common.{Option, ◌≡◌, ℕ, ℤ, Bool, IsTrue, List, inl, inr, sym, subst, Result, Ok, OnOk}
+use Rattle.std.proofs.Common.{Option, ◌≡◌, ℕ, ℤ, Bool, IsTrue, List, inl, inr, ⊎_elim, sym, subst, Result, Ok, OnOk}
 use Rattle.cluster_tree.specs.Contents.{Contents}
 use Rattle.cluster_tree.specs.Run.{Moment}
 use Rattle.cluster_tree.specs.Stops.{LeavesOnly, Stops}
 use Rattle.commands.specs.declared.command.Command.{Command}
 use Rattle.commands.specs.declared.command.Command.TheVariants as command
+use Rattle.commands.specs.declared.fault.CommandFault.{CommandFault}
 use Rattle.commands.specs.declared.walreplay.WalreplayWords.{WalreplayWords}
 use Rattle.marked_runs.specs.Moments.{StandsSynced}
-use Rattle.rmgr_hooks.specs.Custom.{Extension}
+use Rattle.cluster_tree.specs.PathValue.{PathValue}
+use Rattle.marked_runs.proofs.StopLemmas.{leaves_weaker}
+use Rattle.stopped_restarts.specs.Course.{IsFirst, IsLeftByStops}
+use Rattle.stopped_restarts.proofs.CourseLemmas.{stops-on}
+use Rattle.stopped_restarts.proofs.RefusedLemmas.{refused-as_one}
+use Rattle.rmgr_hooks.specs.Custom.{Extension, IsSound}
 use Rattle.acts.specs.Acts.{Seen}
 use Rattle.run_acts.specs.Unseen.{CarriesUnseen}
 use Rattle.run_acts.specs.declared.cause.Cause.{Cause}
 use Rattle.run_acts.proofs.UnseenSteps.{unseen_by}
-use Rattle.cmd_restart.specs.Restart.{IsLeftByStart, IsRestartIn, LeavesRestarted, StaysRestarted, unknown_answer}
+use Rattle.replay_restart.specs.Stopped.{IsStopped, Untouched}
+use Rattle.cmd_rewind.proofs.StopLemmas.{still-same}
+use Rattle.cmd_restart.specs.Restart.{IsLeftByStart, IsRefused, IsRestartIn, LeavesRestarted, StaysRestarted, unknown_answer}
 use Rattle.wal_tools.specs.Leaves.{LeavesAsked, StaysAsked}
+use Rattle.wal_tools.specs.Restarted.{GoesOn}
 use Rattle.wal_tools.specs.Stopped.{IsDurableAsked, IsLeftAsked}
 use Rattle.wal_tools.specs.Words.{IsSeen, MayChange}
 use Rattle.wal_tools.proofs.RunLemmas.{CarriesOut}
@@ -51,3 +60,28 @@ module _ {k : Command} {words : WalreplayWords} (is : k ≡ command.Restart word
   -- and once it is done
   pub durable_restart : (r : Result (Unit {0}) Cause) (now : ℤ) (c : Contents) (moment : Moment) → OnOk r (StandsSynced moment.state.contents moment) → OnOk r (IsDurableAsked (Ok k) now c moment)
   durable_restart r now c moment durable = let P : Command → Type 0 = λ x. OnOk r (IsDurableAsked (Ok x) now c moment) in subst P (sym is) durable
+
+-- what a stop leaves of a run over what stops left
+pub stops_left : (custom : Option Extension) → IsSound custom → (root : PathValue) (first i : Contents) → IsFirst custom root first → IsLeftByStops custom root first i → (a b : Stops) → LeavesOnly (IsStopped custom root i) a b
+    → LeavesOnly (IsLeftByStops custom root first) a b
+stops_left custom sound root first i is_first stops a b left =
+    leaves_weaker (IsStopped custom root i) (IsLeftByStops custom root first) a b (λ y stopped. stops-on custom sound root first i is_first y stops stopped) left
+
+-- why it isn't done, over what goes on
+pub goes_on_but : (custom : Option Extension) → IsSound custom → (asked : Result Command CommandFault) (c c' : Contents) (ended : Cause) → StaysAsked custom asked c c' ended → GoesOn custom asked c ended
+goes_on_but custom sound asked c c' ended stays words is s listed first d begun served stopped =
+    let stood : StaysRestarted custom words c c' ended = subst (λ a. StaysAsked custom a c c' ended) is stays in
+    ⊎_elim (λ free. inl free)
+    (⊎_elim (λ done. inr (inl done))
+    (λ (why : IsRefused custom words c ended). inr (inr (why.0, refused-as_one custom sound words.root s listed first d c begun served stopped why.0 why.1, why.2))))
+    stood.exact
+
+-- what a stop leaves, for the same words
+pub restart_stopped : {k : Command} {words : WalreplayWords} → k ≡ command.Restart words → (custom : Option Extension) (i : Contents) (a b : Stops) → LeavesOnly (IsStopped custom words.root i) a b
+    → (asked : WalreplayWords) → ◌≡◌ {A = Result Command CommandFault} (Ok k) (Ok (command.Restart asked)) → LeavesOnly (IsStopped custom asked.root i) a b
+restart_stopped {k} {words} is custom i a b left asked same =
+    let own : words ≡ asked = cc (is, same) in
+    subst (λ (w : WalreplayWords). LeavesOnly (IsStopped custom w.root i) a b) own left
+
+pub stopped_still : (custom : Option Extension) (words : WalreplayWords) (i : Contents) (first : Moment) → StandsSynced i first → LeavesOnly (IsStopped custom words.root i) first.stops first.stops
+stopped_still custom words i first stands = still-same (IsStopped custom words.root i) i first stands (λ x same. Untouched same)

@@ -2,6 +2,7 @@ pub mod Words
 pub mod Answers
 pub mod Leaves
 pub mod Resumed
+pub mod Restarted
 pub mod Converges
 pub mod Runs
 pub mod Stopped

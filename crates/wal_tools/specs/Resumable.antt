@@ -1,5 +1,5 @@
 -- What a stop of a rewind, or of its resume, leaves for the next resume, and the calls of a resume: PostgreSQL 16 manual, reference page of pg_rewind. Own: "A rewind that is resumed".
-use Rattle.std.specs.Prelude.{◌≡◌, ℤ, None, Result, Ok}
+use Rattle.std.specs.Prelude.{Option, ◌≡◌, ℤ, None, Result, Ok}
 use Rattle.cluster_tree.specs.Contents.{Contents}
 use Rattle.cluster_tree.specs.Frame.{moment_of}
 use Rattle.cluster_tree.specs.Stops.{LeavesOnly}
@@ -8,13 +8,16 @@ use Rattle.commands.specs.declared.command.Command.{Command}
 use Rattle.commands.specs.declared.command.Command.TheVariants as command
 use Rattle.commands.specs.declared.fault.CommandFault.{CommandFault}
 use Rattle.commands.specs.declared.rewind.RewindWords.{RewindWords}
+use Rattle.commands.specs.declared.walreplay.WalreplayWords.{WalreplayWords}
 use Rattle.marked_runs.specs.Moments.{StandsSynced}
 use Rattle.rewind_core.specs.Over.{without_own}
 use Rattle.rewind_core.specs.Planned.{Needing}
 use Rattle.rewind_core.specs.declared.outcome.Plan.{Plan}
 use Rattle.resume_core.specs.Stored.{stored_of}
 use Rattle.stored_laws.specs.Laws.{IsStopped, IsStoppedAgain}
+use Rattle.cmd_restart.specs.Restart.{LeavesToGoOn}
 use Rattle.cmd_rewind.specs.Rewind.{IsLeftToResume}
+use Rattle.rmgr_hooks.specs.Custom.{Extension}
 use Rattle.cmd_resume.specs.Calls.{MakesAgain}
 use Rattle.run_acts.specs.declared.cause.Cause.{Cause}
 
@@ -40,3 +43,7 @@ LeavesStopped tree asked old new = (words : RewindWords) → asked ≡ Ok (comma
 abbrev pub MakesResumed : {F : Type 0} → Ghosts F → Result Command CommandFault → F → F → (ended : Cause) → Type 0
 MakesResumed tree asked old new ended =
     (words : RewindWords) → asked ≡ Ok (command.Resume words) → MakesAgain words (tree.contents old) (tree.calls old) (tree.calls new) ended
+
+-- a replay with --restart, where what stands is synced at the start, leaves at any stop what the same words go on from
+abbrev pub LeavesToRestart : {F : Type 0} → Ghosts F → Option Extension → Result Command CommandFault → F → F → Type 0
+LeavesToRestart tree custom asked old new = (words : WalreplayWords) → asked ≡ Ok (command.Restart words) → LeavesToGoOn tree custom words old new

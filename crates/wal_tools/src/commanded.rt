@@ -11,7 +11,7 @@ ghost use Rattle.run_acts.specs.Unseen.{CarriesUnseen};
 ghost use Rattle.rmgr_hooks.specs.Custom.{handed_in};
 ghost use Rattle.wal_tools.specs.Answers.{IsAnswer, answered};
 ghost use Rattle.wal_tools.specs.Leaves.{LeavesAsked, StaysAsked};
-ghost use Rattle.wal_tools.specs.Resumable.{LeavesFresh, LeavesStopped, LeavesToResume, MakesResumed};
+ghost use Rattle.wal_tools.specs.Resumable.{LeavesFresh, LeavesStopped, LeavesToRestart, LeavesToResume, MakesResumed};
 ghost use Rattle.wal_tools.specs.Stopped.{IsDurableAsked, IsLeftAsked};
 ghost use Rattle.wal_tools.specs.Words.{AreFaulty, IsKnown, IsSeen, MayChange, NeedsNoTree, Walks, refused_by_words};
 
@@ -81,6 +81,8 @@ pub(crate) fn carry_out<F: Tree, O: Sink, E: Sink, M: Manager>(
         LeavesToResume F.Tree (Ok command.now) now tree.old tree.new }
     ensures fresh { IsTrue F.tells → LeavesFresh F.Tree (Ok command.now) now tree.old tree.new }
     ensures again { IsTrue F.tells → LeavesStopped F.Tree (Ok command.now) tree.old tree.new }
+    ensures restartable { IsTrue F.tells → LeavesToRestart F.Tree (handed_in M.Manager custom.entry)
+        (Ok command.now) tree.old tree.new }
     ensures tries { IsTrue F.tells →
         MakesResumed F.Tree (Ok command.now) tree.old tree.new (cause_of result) }
     ensures durable { IsTrue F.tells → OnOk result (IsDurableAsked

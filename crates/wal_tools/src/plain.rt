@@ -14,6 +14,7 @@ ghost use Rattle.wal_tools.specs.Answers.{IsAnswer, answered};
 ghost use Rattle.wal_tools.specs.Converges.{ConvergesAsked};
 ghost use Rattle.wal_tools.specs.Leaves.{LeavesAsked, StaysAsked};
 ghost use Rattle.wal_tools.specs.Runs.{Runs};
+ghost use Rattle.wal_tools.specs.Restarted.{GoesOn, LeavesStops};
 ghost use Rattle.wal_tools.specs.Resumable.{LeavesFresh, LeavesStopped, LeavesToResume, MakesResumed};
 ghost use Rattle.wal_tools.specs.Stopped.{IsDurableAsked, IsLeftAsked};
 ghost use Rattle.wal_tools.specs.Words.{AreFaulty, IsKnown, IsSeen, MayChange, NeedsNoTree, Walks, refused_by_words};
@@ -78,6 +79,10 @@ pub fn run<F: Tree, O: Sink, E: Sink>(
         (command_of (map string_bytes words.now)) now tree.old tree.new }
     ensures again { IsTrue F.tells → LeavesStopped F.Tree
         (command_of (map string_bytes words.now)) tree.old tree.new }
+    ensures restartable { IsTrue F.tells → LeavesStops F.Tree None
+        (command_of (map string_bytes words.now)) tree.old tree.new }
+    ensures goes_on { IsTrue F.tells → GoesOn None (command_of (map string_bytes words.now))
+        (F.contents tree.old) result.cause }
     ensures tries { IsTrue F.tells → MakesResumed F.Tree
         (command_of (map string_bytes words.now)) tree.old tree.new result.cause }
     ensures durable { IsTrue F.tells → result.cause ≡ Cause.Done → IsDurableAsked

@@ -15,7 +15,8 @@ ghost use Rattle.wal_tools.specs.Answers.{IsAnswer, answered};
 ghost use Rattle.wal_tools.specs.Converges.{ConvergesAsked};
 ghost use Rattle.wal_tools.specs.Leaves.{LeavesAsked, StaysAsked};
 ghost use Rattle.wal_tools.specs.Runs.{Runs};
-ghost use Rattle.wal_tools.specs.Resumable.{LeavesFresh, LeavesStopped, LeavesToResume, MakesResumed};
+ghost use Rattle.wal_tools.specs.Restarted.{GoesOn, LeavesStops};
+ghost use Rattle.wal_tools.specs.Resumable.{LeavesFresh, LeavesStopped, LeavesToRestart, LeavesToResume, MakesResumed};
 ghost use Rattle.wal_tools.specs.Stopped.{IsDurableAsked, IsLeftAsked};
 ghost use Rattle.wal_tools.specs.Words.{AreFaulty, IsKnown, IsSeen, MayChange, NeedsNoTree, Walks, refused_by_words};
 
@@ -84,6 +85,8 @@ fn answer<F: Tree, O: Sink, E: Sink, M: Manager>(
     ensures fresh { IsTrue F.tells → LeavesFresh F.Tree
         (command_of (map string_bytes words.now)) now tree.old tree.new }
     ensures again { IsTrue F.tells → LeavesStopped F.Tree
+        (command_of (map string_bytes words.now)) tree.old tree.new }
+    ensures restartable { IsTrue F.tells → LeavesToRestart F.Tree (handed_in M.Manager custom.entry)
         (command_of (map string_bytes words.now)) tree.old tree.new }
     ensures tries { IsTrue F.tells → MakesResumed F.Tree
         (command_of (map string_bytes words.now)) tree.old tree.new (cause_of result) }
@@ -162,7 +165,7 @@ pub fn run_with<F: Tree, O: Sink, E: Sink, M: Manager>(
         (F.contents tree.old) (F.contents tree.new) (O.written out.old) (O.written out.new) }
     // and the rewound target follows its source, also of a rewind that was stopped and is resumed: where
     // both grew from one state, replay of the source's log gives below it what it gives below a whole
-    // copy of the source
+    // copy of the source; and a replay that was stopped and is started again leaves what one run does
     ensures converges { IsTrue F.tells → result.cause ≡ Cause.Done → ConvergesAsked
         (handed_in M.Manager custom.entry) (command_of (map string_bytes words.now)) now
         (F.contents tree.old) (F.contents tree.new) }
@@ -186,6 +189,14 @@ pub fn run_with<F: Tree, O: Sink, E: Sink, M: Manager>(
     // or the rewound tree
     ensures again { IsTrue F.tells → LeavesStopped F.Tree
         (command_of (map string_bytes words.now)) tree.old tree.new }
+    // a stop of a replay that can be started again, from synced contents on that such stops left, leaves
+    // what such stops leave
+    ensures restartable { IsTrue F.tells → LeavesStops F.Tree (handed_in M.Manager custom.entry)
+        (command_of (map string_bytes words.now)) tree.old tree.new }
+    // and it goes on from that, unless something is in its way or the run that was stopped would have
+    // broken off too
+    ensures goes_on { IsTrue F.tells → GoesOn (handed_in M.Manager custom.entry)
+        (command_of (map string_bytes words.now)) (F.contents tree.old) result.cause }
     // the calls of a resume are the first of the changes that its mark's plan says; where what stands
     // differs, just those before the first change that it refuses
     ensures tries { IsTrue F.tells → MakesResumed F.Tree

@@ -5,7 +5,7 @@ use Rattle.acts.specs.Acts.{sunk}
 use Rattle.cluster_tree.specs.Frame.{moment_of}
 use Rattle.run_acts.specs.Causes.{cause_of}
 use Rattle.wal_tools.proofs.RunLemmas.{at_time, beside_at, dried_cleanup, dried_reset, dried_rewind, of_archivecleanup, of_controldata, of_pair, of_resetwal, of_rewind, of_waldump, of_walcompare, of_walreplay, pair_may, paired_at, replay_may, replayed_at, rewound_at, same_at, stays_at}
-use Rattle.wal_tools.proofs.RestartLemmas.{durable_restart, left_of_restart, of_restart, restart_may, restart_stays, restarted_at}
+use Rattle.wal_tools.proofs.RestartLemmas.{durable_restart, left_of_restart, of_restart, restart_may, restart_stays, restart_stopped, restarted_at}
 use Rattle.wal_tools.proofs.ResumeLemmas.{dried_resume, durable_resume, left_of_resume, of_resume, resumed_at}
 use Rattle.wal_tools.proofs.ResumableLemmas.{again_resume, resumable_resume, resumable_rewind, tries_resume}
 use Rattle.wal_tools.proofs.StopLemmas.{durable_replay, durable_reset, durable_rewind, left_of_cleanup, left_of_pair, left_of_replay, left_of_reset, left_of_rewind, read_left}
@@ -232,3 +232,7 @@ returns-in-Restart-clause-stops g c t =
 pub returns-in-Restart-clause-durable : goal.returns-in-Restart-clause-durable
 returns-in-Restart-clause-durable g c t =
     durable_restart c.in-Restart.is c.restart_replay.result c.args.now (g.F.Tree.contents c.args.tree.now) (moment_of g.F.Tree c.restart_replay.new.tree) (c.restart_replay.ensures.synced t)
+
+pub returns-in-Restart-clause-restartable : goal.returns-in-Restart-clause-restartable
+returns-in-Restart-clause-restartable g c t words asked stands =
+    restart_stopped c.in-Restart.is (handed_in g.M.Manager c.args.custom) (g.F.Tree.contents c.args.tree.now) (g.F.Tree.stops c.args.tree.now) (g.F.Tree.stops c.restart_replay.new.tree) (c.restart_replay.ensures.left t stands) words asked

@@ -6,6 +6,7 @@ use Rattle.tool_words.specs.Command.{command_of}
 use Rattle.wal_tools.specs.Words.{MayChange}
 use Rattle.wal_tools.proofs.RunLemmas.{at_time, no_words, of_command, stays_refused, stays_unmade, words_refused}
 use Rattle.wal_tools.proofs.ResumableLemmas.{again_still, resumable_at, resumable_still, tries_refused, tries_unmade}
+use Rattle.wal_tools.proofs.RestartLemmas.{stopped_still}
 use Rattle.wal_tools.proofs.StopLemmas.{durable_command, left_at, left_of_command, still_left}
 use Rattle.rewind_core.specs.Over.{without_own}
 use Rattle.wal_tools.proofs.program.answer.Goals as goal
@@ -95,3 +96,14 @@ returns-in-Err-OutOfMemory-clause-tries g c t resume asked = tries_unmade resume
 pub returns-in-Err-clause-tries : goal.returns-in-Err-clause-tries
 returns-in-Err-clause-tries g c t resume asked =
     tries_refused resume (g.F.Tree.contents c.args.tree.now) (g.F.Tree.calls c.args.tree.now) c.in-Err.fault c.words_cause.result c.words_cause.ensures
+
+pub returns-in-Ok-clause-restartable : goal.returns-in-Ok-clause-restartable
+returns-in-Ok-clause-restartable g c t words asked stands = c.carry_out.ensures.restartable t words (sym c.in-Ok.ensures.answer ∙ asked) stands
+
+pub returns-in-Err-OutOfMemory-clause-restartable : goal.returns-in-Err-OutOfMemory-clause-restartable
+returns-in-Err-OutOfMemory-clause-restartable g c t words asked stands =
+    stopped_still (handed_in g.M.Manager c.args.custom) words (g.F.Tree.contents c.args.tree.now) (moment_of g.F.Tree c.args.tree.now) stands
+
+pub returns-in-Err-clause-restartable : goal.returns-in-Err-clause-restartable
+returns-in-Err-clause-restartable g c t words asked stands =
+    stopped_still (handed_in g.M.Manager c.args.custom) words (g.F.Tree.contents c.args.tree.now) (moment_of g.F.Tree c.args.tree.now) stands

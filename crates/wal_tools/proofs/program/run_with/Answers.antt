@@ -7,6 +7,7 @@ use Rattle.run_acts.proofs.UnseenSteps.{unseen_grow, unseen_told}
 use Rattle.tool_words.specs.Command.{command_of}
 use Rattle.cause_lines.specs.Lines.{line_of}
 use Rattle.wal_tools.specs.Runs.{Says}
+use Rattle.wal_tools.proofs.RestartLemmas.{goes_on_but, stops_left}
 use Rattle.wal_tools.proofs.ConvergeLemmas.{converges_left, handed-sound}
 use Rattle.wal_tools.proofs.RunLemmas.{at_time, exact_told, leaves_done, stays_told}
 use Rattle.wal_tools.proofs.ResumableLemmas.{resumable_at, tries_told}
@@ -82,3 +83,15 @@ pub returns-clause-tries : goal.returns-clause-tries
 returns-clause-tries g c t resume asked =
     tries_told resume (g.F.Tree.contents c.args.tree.now) (g.F.Tree.calls c.args.tree.now) (g.F.Tree.calls c.answer-outcome.new.tree) c.cause_of.ensures c.finish.ensures.cause
     (c.answer-outcome.ensures.tries t resume asked)
+
+pub returns-clause-restartable : goal.returns-clause-restartable
+returns-clause-restartable g c t words asked first is_first stops stands =
+    stops_left (handed_in g.M.Manager c.args.custom)
+    (handed-sound g.M.Manager c.args.custom (record { respects = g.met.M.Manager.respects; makes_anew = g.met.M.Manager.makes_anew }))
+    words.root first (g.F.Tree.contents c.args.tree.now) is_first stops (g.F.Tree.stops c.args.tree.now) (g.F.Tree.stops c.answer-outcome.new.tree) (c.answer-outcome.ensures.restartable t words asked stands)
+
+pub returns-clause-goes_on : goal.returns-clause-goes_on
+returns-clause-goes_on g c t =
+    goes_on_but (handed_in g.M.Manager c.args.custom)
+    (handed-sound g.M.Manager c.args.custom (record { respects = g.met.M.Manager.respects; makes_anew = g.met.M.Manager.makes_anew }))
+    (command_of (map string_bytes c.args.words.now)) (g.F.Tree.contents c.args.tree.now) (g.F.Tree.contents c.answer-outcome.new.tree) c.finish.result.cause (returns-clause-stays g c t)
