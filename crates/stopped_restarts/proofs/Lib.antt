@@ -6,3 +6,9 @@ pub mod RunLemmas
 pub mod OneLemmas
 pub mod CourseLemmas
 pub mod RefusedLemmas
+pub use Rattle.restart_laws.proofs.AlikeLemmas
+pub use Rattle.restart_laws.proofs.BegunLemmas
+pub use Rattle.restart_laws.proofs.DoneLemmas
+pub use Rattle.restart_laws.proofs.ListedLemmas
+pub use Rattle.restart_laws.proofs.StartLemmas
+pub use Rattle.restored_laws.proofs.BackLemmas

@@ -16,6 +16,7 @@ use Rattle.restart_laws.proofs.AgainLemmas.{ends-as_first}
 use Rattle.restart_laws.proofs.BegunLemmas.{beside-back, is-back, starts-same}
 use Rattle.restart_laws.proofs.DoneLemmas.{begun-list, one-start}
 use Rattle.restart_laws.proofs.ListedLemmas.{may-begin}
+use Rattle.restart_laws.proofs.StopLemmas.{back-stopped}
 use Rattle.restart_laws.proofs.TakenLemmas.{is-taken}
 use Rattle.restart_start.specs.Beginning.{Changed, MayBegin, Refused, WhyNot, Wrong, without_own}
 use Rattle.restart_start.specs.Gathered.{splits_of}
@@ -63,7 +64,8 @@ module _ (custom : Option Extension) (sound : IsSound custom) (root : PathValue)
       (is-back custom root s listed c d begun x b stopped restored) (beside-back custom root s listed c d begun x b stopped restored) in
       let first = first_breaks root (replayed_under custom root s d) (replayed_under custom root s b) f (ap (λ u. replayed_under custom root u b) (sym same) ∙ is) ends in
       BreaksOff f first.0 first.1
-  by_over t b _ same restored (NotCleared after f is kept) = CopiesStay after f kept
+  by_over t b _ same restored (NotCleared after f is kept) =
+      CopiesStay b after f (back-stopped custom root s listed c d x b begun stopped restored) (ap (λ u. replayed_under custom root u b) (sym same) ∙ is) kept
 
   by_what : (t : Start) (b : Contents) (e : RestartFault) → IsOver custom x root t b → WhyOver custom root t b e → Why e
   by_what t b e (Anew other is may placed laid) why = not-both NotBegun (Begun listed) (taken_of x root) is taken (begun-not listed)

@@ -34,7 +34,8 @@ use Rattle.commands.specs.declared.rewind.RewindWords.{RewindWords}
 use Rattle.cmd_resume.specs.Resume.{LeavesResumed}
 use Rattle.cmd_resume.proofs.ResumeLemmas.{changes-as}
 use Rattle.cmd_resume.proofs.ShutLemmas.{stored-shut}
-use Rattle.stopped_restarts.proofs.OneLemmas.{one-run}
+use Rattle.plain_restarts.proofs.DoneLemmas.{run-replayed}
+use Rattle.plain_restarts.proofs.RunLemmas.{done-leaves}
 use Rattle.wal_tools.specs.Converges.{ConvergesAsked}
 use Rattle.wal_tools.specs.Leaves.{LeavesAsked}
 use Rattle.wal_tools.specs.Resumed.{ConvergesResumed}
@@ -102,7 +103,10 @@ converges_left custom sound (Ok (command.Resetwal words)) now tells c c' out out
 converges_left custom sound (Ok (command.Archivecleanup words)) now tells c c' out out' left = tt
 converges_left custom sound (Ok (command.Walreplay words)) now tells c c' out out' left = tt
 converges_left custom sound (Ok (command.Restart words)) now tells c c' out out' left =
-    λ first is_first stops. (left.what, one-run custom sound words.root first c c' is_first left.what stops left.left)
+    record {
+      fresh = λ anew. run-replayed custom words.root c c' anew left.what left.left;
+      stopped = λ first is_first stops. (left.what, done-leaves custom sound words.root first c is_first stops c' left.what left.left);
+    }
 converges_left custom sound (Ok (command.Walcompare words)) now tells c c' out out' left = tt
 converges_left custom sound (Ok (command.Pair words)) now tells c c' out out' left = tt
 converges_left custom sound (Err e) now tells c c' out out' left = tt

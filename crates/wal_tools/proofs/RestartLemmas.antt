@@ -10,9 +10,8 @@ use Rattle.commands.specs.declared.walreplay.WalreplayWords.{WalreplayWords}
 use Rattle.marked_runs.specs.Moments.{StandsSynced}
 use Rattle.cluster_tree.specs.PathValue.{PathValue}
 use Rattle.marked_runs.proofs.StopLemmas.{leaves_weaker}
-use Rattle.stopped_restarts.specs.Course.{IsFirst, IsLeftByStops}
-use Rattle.stopped_restarts.proofs.CourseLemmas.{stops-on}
-use Rattle.stopped_restarts.proofs.RefusedLemmas.{refused-as_one}
+use Rattle.plain_restarts.specs.Course.{IsFirst, IsLeftByStops}
+use Rattle.plain_restarts.proofs.RunLemmas.{refused-why, stop-leaves}
 use Rattle.rmgr_hooks.specs.Custom.{Extension, IsSound}
 use Rattle.acts.specs.Acts.{Seen}
 use Rattle.run_acts.specs.Unseen.{CarriesUnseen}
@@ -65,7 +64,7 @@ module _ {k : Command} {words : WalreplayWords} (is : k ≡ command.Restart word
 pub stops_left : (custom : Option Extension) → IsSound custom → (root : PathValue) (first i : Contents) → IsFirst custom root first → IsLeftByStops custom root first i → (a b : Stops) → LeavesOnly (IsStopped custom root i) a b
     → LeavesOnly (IsLeftByStops custom root first) a b
 stops_left custom sound root first i is_first stops a b left =
-    leaves_weaker (IsStopped custom root i) (IsLeftByStops custom root first) a b (λ y stopped. stops-on custom sound root first i is_first y stops stopped) left
+    leaves_weaker (IsStopped custom root i) (IsLeftByStops custom root first) a b (stop-leaves custom sound root first i is_first stops) left
 
 -- why it isn't done, over what goes on
 pub goes_on_but : (custom : Option Extension) → IsSound custom → (asked : Result Command CommandFault) (c c' : Contents) (ended : Cause) → StaysAsked custom asked c c' ended → GoesOn custom asked c ended
@@ -73,7 +72,7 @@ goes_on_but custom sound asked c c' ended stays words is s listed first d begun 
     let stood : StaysRestarted custom words c c' ended = subst (λ a. StaysAsked custom a c c' ended) is stays in
     ⊎_elim (λ free. inl free)
     (⊎_elim (λ done. inr (inl done))
-    (λ (why : IsRefused custom words c ended). inr (inr (why.0, refused-as_one custom sound words.root s listed first d c begun served stopped why.0 why.1, why.2))))
+    (λ (why : IsRefused custom words c ended). inr (inr (why.0, refused-why custom sound words.root first c s listed d begun served stopped why.0 why.1, why.2))))
     stood.exact
 
 -- what a stop leaves, for the same words

@@ -1,0 +1,5 @@
+pub mod Plain
+pub mod Kinds
+pub mod Laws
+pub use Rattle.stopped_restarts.specs.Course
+pub use Rattle.stopped_restarts.specs.Stopped
