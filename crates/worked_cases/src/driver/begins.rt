@@ -1,5 +1,5 @@
 // The line that says what a replay that can be started again begins from.
-use super::fault::LineFault;
+use case_lines::LineFault;
 use cluster_tree::Path;
 use memory_tree::MemoryTree;
 use restart_start::start_again;

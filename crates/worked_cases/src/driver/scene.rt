@@ -1,14 +1,11 @@
 // What the lines so far made.
-use super::asked::Asked;
-use super::fault::{LineFault, TextFault};
-use super::files::holds;
-use super::line::{first_word, narrow, path};
-use super::log::NewLog;
-use super::names::Named;
+use super::begins::begins;
 use super::outcome::run_and_compare;
-use super::setup::set_up;
+use super::pairs::{are_broken_off, pair, writes_at_most};
 use super::stops::tell_stops;
-use super::told::Told;
+use case_lines::{
+    Asked, LineFault, Named, NewLog, TextFault, Told, first_word, holds, narrow, path, set_up,
+};
 use cluster_tree::Path;
 use memory_tree::MemoryTree;
 use std::alloc::Global;
@@ -97,6 +94,20 @@ impl Scene {
         }
     }
 
+    // Whether the tree is as a line says, if it says what has to stand at a path.
+    fn is_so(
+        &mut self,
+        alloc: Global,
+        verb: &str,
+        at: &Path,
+        words: &str,
+    ) -> Result<bool, LineFault> {
+        match verb {
+            "begins" => begins(alloc, &mut self.tree, at, words),
+            _ => holds(alloc, &mut self.tree, verb, at, words),
+        }
+    }
+
     // A line of what has to stand at a path.
     fn check(
         &mut self,
@@ -106,7 +117,7 @@ impl Scene {
         behind: &str,
     ) -> Result<(), LineFault> {
         let (_, words) = first_word(behind);
-        if !holds(alloc, &mut self.tree, verb, at, words)? {
+        if !self.is_so(alloc, verb, at, words)? {
             self.told.tell(&["not so: ", verb, " ", behind])?;
         }
         Ok(())
@@ -122,6 +133,24 @@ impl Scene {
         }
     }
 
+    // `pair SEED BLOCKS`: the tree of a pair, in the place of what stood so far.
+    fn take_pair(&mut self, alloc: Global, behind: &str) -> Result<(), LineFault> {
+        self.tree = pair(alloc, behind)?;
+        Ok(())
+    }
+
+    // A line that asks for something without a path.
+    fn take_asked(&mut self, alloc: Global, verb: &str, behind: &str) -> Result<(), LineFault> {
+        let is_so = match verb {
+            "writes" => writes_at_most(&self.tree, behind)?,
+            _ => are_broken_off(alloc, behind)?,
+        };
+        if !is_so {
+            self.told.tell(&["not so: ", verb, " ", behind])?;
+        }
+        Ok(())
+    }
+
     // Takes a line that belongs to no run.
     fn take_other(&mut self, alloc: Global, verb: &str, behind: &str) -> Result<(), LineFault> {
         match verb {
@@ -129,6 +158,8 @@ impl Scene {
             "name" => self.named.add(alloc, behind),
             "log" => self.begin_log(alloc, behind),
             "record" | "filler" | "end" => self.take_log(alloc, verb, behind),
+            "pair" => self.take_pair(alloc, behind),
+            "writes" | "broken_pairs" => self.take_asked(alloc, verb, behind),
             _ => self.take_path(alloc, verb, behind),
         }
     }

@@ -1,10 +1,6 @@
 // What the stops of a run leave: the tree as it was, the mark, or the tree as the run leaves it.
-use super::asked::{Asked, Fails, command_of};
-use super::fault::LineFault;
-use super::inventory::inventory;
-use super::line::zeros;
 use super::outcome::{Ran, run_on};
-use super::told::Told;
+use case_lines::{Asked, Fails, LineFault, Told, command_of, inventory, zeros};
 use cluster_tree::{Kind, Path, Tree};
 use memory_tree::{FailPlan, MemoryTree};
 use std::alloc::Global;
@@ -41,7 +37,7 @@ fn left_at(
 ) -> Result<String, LineFault> {
     let start = tree.image(alloc, 1)?;
     let fails = Fails::of_tree(FailPlan::Never);
-    let mut left = run_on(alloc, start, words, now, fails, None).tree;
+    let mut left = run_on(alloc, start, words, now, fails, false).tree;
     inventory(alloc, &mut left)
 }
 
@@ -74,7 +70,7 @@ impl Stopped<'_> {
     fn run_in(&self, image: &MemoryTree, words: &[String], now: i64) -> Result<Ran, LineFault> {
         let tree = image.image(self.alloc, 1)?;
         let fails = Fails::of_tree(FailPlan::Never);
-        Ok(run_on(self.alloc, tree, words, now, fails, None))
+        Ok(run_on(self.alloc, tree, words, now, fails, false))
     }
 
     // Whether a run was refused for the mark, and changed nothing.
@@ -166,7 +162,7 @@ impl Stopped<'_> {
                 &self.asked.words,
                 self.asked.now,
                 fails,
-                None,
+                false,
             );
             goes_on = self.tell_images(&ran.tree, told)? || goes_on;
             if ran.status == 0 {

@@ -1,12 +1,12 @@
 // The words of a line.
-use super::fault::LineFault;
+use crate::fault::LineFault;
 use cluster_tree::Path;
 use memory_tree::FailPlan;
 use std::alloc::Global;
 use wal_base::decimal_u64;
 
 /// A line's first word, and what stands behind the blank after it.
-pub(crate) fn first_word(line: &str) -> (&str, &str) {
+pub fn first_word(line: &str) -> (&str, &str) {
     line.split_once(' ').unwrap_or((line, ""))
 }
 
@@ -16,7 +16,7 @@ pub(crate) fn number(text: &str) -> Result<u64, LineFault> {
 }
 
 /// A decimal number of a narrower type.
-pub(crate) fn narrow<N: TryFrom<u64>>(text: &str) -> Result<N, LineFault>
+pub fn narrow<N: TryFrom<u64>>(text: &str) -> Result<N, LineFault>
 where
     <N as TryFrom<u64>>::Error: Drop,
 {
@@ -27,7 +27,7 @@ where
 }
 
 /// A path.
-pub(crate) fn path(alloc: Global, text: &str) -> Result<Path, LineFault> {
+pub fn path(alloc: Global, text: &str) -> Result<Path, LineFault> {
     Ok(Path::parse(alloc, text)?)
 }
 
@@ -42,7 +42,7 @@ pub(crate) fn bytes(alloc: Global, text: &str) -> Result<Vec<u8>, LineFault> {
 }
 
 /// So many zeros.
-pub(crate) fn zeros(alloc: Global, size: usize) -> Result<Vec<u8>, LineFault> {
+pub fn zeros(alloc: Global, size: usize) -> Result<Vec<u8>, LineFault> {
     Ok(vec![in alloc; 0; size]?)
 }
 

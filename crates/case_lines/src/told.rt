@@ -1,17 +1,17 @@
 // What differs from what is wanted.
-use super::fault::LineFault;
+use crate::fault::LineFault;
 use std::alloc::{AllocError, Global};
 
 /// What differs, a line for each difference, with the case that it stands in.
 #[derive(Drop)]
-pub(crate) struct Told {
-    pub(crate) case: String,
-    pub(crate) text: String,
+pub struct Told {
+    pub case: String,
+    pub text: String,
 }
 
 impl Told {
     /// Nothing differs.
-    pub(crate) fn new(alloc: Global) -> Told {
+    pub fn new(alloc: Global) -> Told {
         Told {
             case: String::new(alloc),
             text: String::new(alloc),
@@ -19,7 +19,7 @@ impl Told {
     }
 
     /// Tells a difference, by its pieces.
-    pub(crate) fn tell(&mut self, pieces: &[&str]) -> Result<(), AllocError> {
+    pub fn tell(&mut self, pieces: &[&str]) -> Result<(), AllocError> {
         self.text.push_str(&self.case)?;
         self.text.push_str(": ")?;
         for piece in pieces {
@@ -29,7 +29,7 @@ impl Told {
     }
 
     /// Tells where bytes aren't those of the text that is wanted.
-    pub(crate) fn compare(
+    pub fn compare(
         &mut self,
         alloc: Global,
         what: &str,

@@ -7,7 +7,7 @@ use wal_records::LogWriteFault;
 
 /// Why a line can't be taken.
 #[derive(Clone, Copy, Debug, Error)]
-pub(crate) enum LineFault {
+pub enum LineFault {
     /// There is no memory for it.
     #[error("out of memory")]
     OutOfMemory,
@@ -44,6 +44,9 @@ pub(crate) enum LineFault {
     /// Its record isn't written.
     #[error("the record can't be written: {0}")]
     NotWritten(#[from] LogWriteFault),
+    /// No pair can be made.
+    #[error("no pair is made")]
+    NoPair,
     /// The tree holds too many entries.
     #[error("too many entries")]
     TooMany,
@@ -79,7 +82,7 @@ impl From<cluster_tree::OutOfMemory> for LineFault {
 /// Which line of a text can't be taken, from 1, and why.
 #[derive(Clone, Copy, Debug, Error)]
 #[error("line {line}: {fault}")]
-pub(crate) struct TextFault {
-    pub(crate) line: usize,
-    pub(crate) fault: LineFault,
+pub struct TextFault {
+    pub line: usize,
+    pub fault: LineFault,
 }

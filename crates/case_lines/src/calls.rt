@@ -42,11 +42,7 @@ fn add_call(lines: &mut String, call: &ChangeCall, end: u64) -> Result<(), Alloc
 }
 
 /// The changing calls from this one on.
-pub(crate) fn calls_from(
-    alloc: Global,
-    tree: &MemoryTree,
-    first: usize,
-) -> Result<String, AllocError> {
+pub fn calls_from(alloc: Global, tree: &MemoryTree, first: usize) -> Result<String, AllocError> {
     let mut lines = String::new(alloc);
     for at in first..tree.changes() {
         if at > first && goes_on(tree, at) {

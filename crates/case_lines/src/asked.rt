@@ -1,49 +1,50 @@
 // The lines that say what is run, and what it has to do.
-use super::fault::LineFault;
-use super::line::{first_word, narrow, number, plan};
+use crate::fault::LineFault;
+use crate::line::{first_word, narrow, number, plan};
 use memory_tree::FailPlan;
-use sample_manager::SampleManager;
 use std::alloc::Global;
 
 /// Which calls of a run fail.
 #[derive(Clone, Copy)]
-pub(crate) struct Fails {
-    pub(crate) tree: FailPlan,
-    pub(crate) out: FailPlan,
-    pub(crate) err: FailPlan,
+pub struct Fails {
+    pub tree: FailPlan,
+    pub out: FailPlan,
+    pub err: FailPlan,
     /// How many of the first reads are made to fail once each, before the words run as they are asked to.
-    pub(crate) reads: u64,
+    pub reads: u64,
 }
 
 /// How a run has to end, and what it has to write and to change.
 #[derive(Drop)]
-pub(crate) struct Wanted {
-    pub(crate) status: u8,
-    pub(crate) out: String,
-    pub(crate) err: String,
+pub struct Wanted {
+    pub status: u8,
+    pub out: String,
+    pub err: String,
     /// Lines that standard output has among others, in place of `out`.
-    pub(crate) has: String,
-    pub(crate) calls: String,
+    pub has: String,
+    pub calls: String,
+    /// Whether it may make any changing calls, in place of `calls`.
+    pub any_calls: bool,
 }
 
 /// What a run is asked to do, and what it has to do then.
 #[derive(Drop)]
-pub(crate) struct Asked {
-    pub(crate) words: Vec<String>,
-    pub(crate) now: i64,
-    pub(crate) fails: Fails,
-    /// The manager of an extension, where one is handed in.
-    pub(crate) custom: Option<SampleManager>,
-    pub(crate) wanted: Wanted,
+pub struct Asked {
+    pub words: Vec<String>,
+    pub now: i64,
+    pub fails: Fails,
+    /// Whether the manager of an extension is handed in.
+    pub has_manager: bool,
+    pub wanted: Wanted,
     /// The words of each run that the mark of a stopped run has to refuse.
-    pub(crate) refused: Vec<Vec<String>>,
+    pub refused: Vec<Vec<String>>,
     /// The words of the run that has to complete a stopped one, or none.
-    pub(crate) resumed: Vec<String>,
+    pub resumed: Vec<String>,
 }
 
 impl Fails {
     /// Of the tree's calls these, and no others.
-    pub(crate) fn of_tree(tree: FailPlan) -> Fails {
+    pub fn of_tree(tree: FailPlan) -> Fails {
         Fails {
             tree,
             out: FailPlan::Never,
@@ -103,7 +104,14 @@ impl Wanted {
             err: String::new(alloc),
             has: String::new(alloc),
             calls: String::new(alloc),
+            any_calls: false,
         }
+    }
+
+    // `any`: its changing calls aren't looked at.
+    fn let_change(&mut self) -> Result<(), LineFault> {
+        self.any_calls = true;
+        Ok(())
     }
 
     // Takes a line that says what is wanted.
@@ -113,6 +121,7 @@ impl Wanted {
             "err" => add_line(&mut self.err, behind),
             "has" => add_line(&mut self.has, behind),
             "call" => add_line(&mut self.calls, behind),
+            "any" => self.let_change(),
             _ => Err(LineFault::NotALine),
         }
     }
@@ -120,12 +129,12 @@ impl Wanted {
 
 impl Asked {
     /// Nothing is asked for yet.
-    pub(crate) fn new(alloc: Global) -> Asked {
+    pub fn new(alloc: Global) -> Asked {
         Asked {
             words: Vec::new(alloc),
             now: 1700000000,
             fails: Fails::of_tree(FailPlan::Never),
-            custom: None,
+            has_manager: false,
             wanted: Wanted::new(alloc),
             refused: Vec::new(alloc),
             resumed: Vec::new(alloc),
@@ -138,9 +147,9 @@ impl Asked {
         Ok(())
     }
 
-    // `manager`: the sample's manager is handed in.
+    // `manager`: the manager of an extension is handed in.
     fn add_manager(&mut self) -> Result<(), LineFault> {
-        self.custom = Some(SampleManager);
+        self.has_manager = true;
         Ok(())
     }
 
@@ -153,12 +162,7 @@ impl Asked {
     }
 
     /// Takes a line that says what is run or wanted. Answers `NotALine` where it says something else.
-    pub(crate) fn take(
-        &mut self,
-        alloc: Global,
-        verb: &str,
-        behind: &str,
-    ) -> Result<(), LineFault> {
+    pub fn take(&mut self, alloc: Global, verb: &str, behind: &str) -> Result<(), LineFault> {
         match verb {
             "run" => add_words(alloc, &mut self.words, behind),
             "word" => add_text(alloc, &mut self.words, behind),
@@ -174,7 +178,7 @@ impl Asked {
 }
 
 /// The command's name, as it stands in the line of a cause.
-pub(crate) fn command_of(words: &[String]) -> &str {
+pub fn command_of(words: &[String]) -> &str {
     match words.first() {
         Some(word) => word.as_str(),
         None => "",

@@ -1,7 +1,7 @@
 // Control files.
-use super::fault::LineFault;
-use super::line::number;
-use wal_base::Crc32c;
+use crate::entries::sum_of;
+use crate::fault::LineFault;
+use crate::line::number;
 
 /// How many bytes a control file has.
 pub(crate) const SIZE: usize = 8192;
@@ -80,17 +80,11 @@ fn put_fields(file: &mut [u8; SIZE], fields: &str) -> Result<(), LineFault> {
     Ok(())
 }
 
-fn checksum(file: &[u8; SIZE]) -> u32 {
-    let mut sum = Crc32c::new();
-    sum.add(&file[..CRC_AT]);
-    sum.value()
-}
-
 /// Lays into zeros the control file of a cluster that was shut down on timeline 1, with these fields changed
 /// (`NAME=VALUE ..`) and the checksum of them.
 pub(crate) fn lay_control(file: &mut [u8; SIZE], fields: &str) -> Result<(), LineFault> {
     put_fields(file, SHUT_DOWN)?;
     put_fields(file, fields)?;
-    let crc = checksum(file);
+    let crc = sum_of(&file[..CRC_AT]);
     put(file, CRC_AT, 4, u64::from(crc))
 }

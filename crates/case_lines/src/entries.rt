@@ -1,6 +1,6 @@
 // All that a tree holds, as a text.
-use super::fault::LineFault;
-use super::line::{below, path, zeros};
+use crate::fault::LineFault;
+use crate::line::{below, path, zeros};
 use cluster_tree::{Kind, Path, Tree};
 use memory_tree::MemoryTree;
 use std::alloc::Global;
@@ -9,18 +9,23 @@ use wal_base::Crc32c;
 // More entries than any case has.
 const MOST: usize = 1000;
 
-// The size of a file, and the CRC-32C of its bytes.
-fn size_and_sum(
+/// The bytes of a file.
+pub(crate) fn bytes_in(
     alloc: Global,
     tree: &mut MemoryTree,
     file: &Path,
-) -> Result<(usize, u32), LineFault> {
+) -> Result<Vec<u8>, LineFault> {
     let size = usize::try_from(tree.size(file)?).unwrap_or(0);
     let mut bytes = zeros(alloc, size)?;
     tree.read_at(file, 0, &mut bytes)?;
+    Ok(bytes)
+}
+
+/// The CRC-32C of bytes.
+pub(crate) fn sum_of(bytes: &[u8]) -> u32 {
     let mut sum = Crc32c::new();
-    sum.add(&bytes);
-    Ok((size, sum.value()))
+    sum.add(bytes);
+    sum.value()
 }
 
 // Adds the paths of what lies in a folder.
@@ -50,7 +55,8 @@ fn add_entry(
     match tree.kind(at)? {
         Kind::Absent => writeln!(lines, "nothing {at}")?,
         Kind::File => {
-            let (size, sum) = size_and_sum(alloc, tree, at)?;
+            let bytes = bytes_in(alloc, tree, at)?;
+            let (size, sum) = (bytes.len(), sum_of(&bytes));
             writeln!(lines, "file {at} {size} {sum:08X}")?;
         }
         Kind::Folder => {
@@ -62,7 +68,7 @@ fn add_entry(
 }
 
 /// A line for each entry of a tree: its kind and path, and of a file its size and checksum.
-pub(crate) fn inventory(alloc: Global, tree: &mut MemoryTree) -> Result<String, LineFault> {
+pub fn inventory(alloc: Global, tree: &mut MemoryTree) -> Result<String, LineFault> {
     let mut lines = String::new(alloc);
     let mut rest = Vec::new(alloc);
     rest.push(path(alloc, ".")?)?;

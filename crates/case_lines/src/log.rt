@@ -1,7 +1,7 @@
 // Logs, record by record.
-use super::fault::LineFault;
-use super::line::{below, bytes, first_word, narrow, number, path};
-use super::setup::add_file;
+use crate::fault::LineFault;
+use crate::line::{below, bytes, first_word, narrow, number, path};
+use crate::setup::add_file;
 use cluster_tree::Path;
 use memory_tree::MemoryTree;
 use std::alloc::Global;
@@ -10,7 +10,7 @@ use wal_records::LogWriter;
 
 /// A log that is being written, and where its segments go.
 #[derive(Drop)]
-pub(crate) struct NewLog {
+pub struct NewLog {
     folder: Path,
     tli: u32,
     start: u64,
@@ -56,7 +56,7 @@ impl NewLog {
     /// `log FOLDER [at=X/X] [tli=N] [size=BYTES] [system=N]`: a log of no records yet, from a
     /// segment's start on; without these of the segment at 0/100000, timeline 1, segments of 1 MB, and
     /// the system 7300000000000000001.
-    pub(crate) fn new(alloc: Global, behind: &str) -> Result<NewLog, LineFault> {
+    pub fn new(alloc: Global, behind: &str) -> Result<NewLog, LineFault> {
         let (folder, fields) = first_word(behind);
         let tli = narrow(value_of(fields, "tli=", "1"))?;
         let start = start_of(fields)?;
@@ -81,7 +81,7 @@ impl NewLog {
     }
 
     /// `record XID INFO MANAGER HEX`: appends a record with this body.
-    pub(crate) fn add_record(&mut self, alloc: Global, behind: &str) -> Result<(), LineFault> {
+    pub fn add_record(&mut self, alloc: Global, behind: &str) -> Result<(), LineFault> {
         let (xid, behind) = first_word(behind);
         let (info, behind) = first_word(behind);
         let (manager, body) = first_word(behind);
@@ -90,7 +90,7 @@ impl NewLog {
     }
 
     /// `filler SIZE`: appends a NOOP of so many bytes in all, which say nothing.
-    pub(crate) fn add_filler(&mut self, alloc: Global, behind: &str) -> Result<(), LineFault> {
+    pub fn add_filler(&mut self, alloc: Global, behind: &str) -> Result<(), LineFault> {
         let total: u32 = narrow(behind)?;
         let main = total.saturating_sub(29);
         let [a, b, c, d] = main.to_le_bytes();
@@ -113,7 +113,7 @@ impl NewLog {
     }
 
     /// Puts the segments that the log has so far into its folder.
-    pub(crate) fn put(&self, alloc: Global, tree: &mut MemoryTree) -> Result<(), LineFault> {
+    pub fn put(&self, alloc: Global, tree: &mut MemoryTree) -> Result<(), LineFault> {
         let size = self.size.bytes();
         let mut at = self.start;
         for bytes in self.writer.bytes().chunks(size as usize) {

@@ -1,11 +1,11 @@
 // Names for what many lines say, and for lines that many cases have.
-use super::fault::LineFault;
-use super::line::first_word;
+use crate::fault::LineFault;
+use crate::line::first_word;
 use std::alloc::{AllocError, Global};
 
 /// Names, each with what it stands for: a text, or the lines of a part.
 #[derive(Drop)]
-pub(crate) struct Named {
+pub struct Named {
     /// The name, a blank, and what it stands for.
     entries: Vec<String>,
     /// Whether the last one is a part whose lines are being told.
@@ -24,7 +24,7 @@ fn ended(alloc: Global, text: &str) -> Result<String, AllocError> {
 
 impl Named {
     /// No name.
-    pub(crate) fn new(alloc: Global) -> Named {
+    pub fn new(alloc: Global) -> Named {
         Named {
             entries: Vec::new(alloc),
             is_open: false,
@@ -32,7 +32,7 @@ impl Named {
     }
 
     /// `name NAME TEXT`: the name stands for the text.
-    pub(crate) fn add(&mut self, alloc: Global, entry: &str) -> Result<(), LineFault> {
+    pub fn add(&mut self, alloc: Global, entry: &str) -> Result<(), LineFault> {
         self.entries.push(String::from_str(alloc, entry)?)?;
         Ok(())
     }
@@ -71,7 +71,7 @@ impl Named {
     }
 
     /// Keeps a line that belongs to a part, if it does.
-    pub(crate) fn keep(&mut self, alloc: Global, line: &str) -> Result<bool, LineFault> {
+    pub fn keep(&mut self, alloc: Global, line: &str) -> Result<bool, LineFault> {
         if self.is_open {
             self.keep_in(alloc, line)?;
             return Ok(true);
@@ -95,7 +95,7 @@ impl Named {
     }
 
     /// What `$NAME` stands for; every other text is itself, but that `␣` at its end is a blank.
-    pub(crate) fn text_of(&self, alloc: Global, text: &str) -> Result<String, LineFault> {
+    pub fn text_of(&self, alloc: Global, text: &str) -> Result<String, LineFault> {
         let Some(name) = text.strip_prefix('$') else {
             return Ok(ended(alloc, text)?);
         };
@@ -104,7 +104,7 @@ impl Named {
     }
 
     /// `take NAME ROOT`: the lines of a part, with a root in the place of each `%`.
-    pub(crate) fn lines_of(&self, alloc: Global, behind: &str) -> Result<String, LineFault> {
+    pub fn lines_of(&self, alloc: Global, behind: &str) -> Result<String, LineFault> {
         let (name, root) = first_word(behind);
         let lines = self.meant(name).ok_or(LineFault::NotNamed)?;
         Ok(lines.replace(alloc, '%', root)?)

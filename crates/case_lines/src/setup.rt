@@ -1,7 +1,7 @@
 // The lines that describe a tree.
-use super::control::{SIZE, lay_control};
-use super::fault::LineFault;
-use super::line::{below, bytes, first_word, narrow, number, zeros};
+use crate::control::{SIZE, lay_control};
+use crate::fault::LineFault;
+use crate::line::{below, bytes, first_word, narrow, number, zeros};
 use cluster_tree::{Path, Tree};
 use memory_tree::MemoryTree;
 use std::alloc::Global;
@@ -80,7 +80,7 @@ fn set_up_alone(tree: &mut MemoryTree, verb: &str, path: &Path) -> Result<(), Li
 }
 
 /// Carries out a line that describes a tree at a path. Answers `NotALine` where it says something else.
-pub(crate) fn set_up(
+pub fn set_up(
     alloc: Global,
     tree: &mut MemoryTree,
     verb: &str,
