@@ -32,3 +32,8 @@ pub(crate) fn shows<T: Debug, R: Abort>(rt: &R, out: &mut String, before: &str, 
 pub(crate) fn tell_sum<R: Abort>(rt: &R, out: &mut String, sum: u32) {
     write!(out, " {sum:08X}").expect(rt, "no memory");
 }
+
+/// Tells bytes by their runs, each behind a blank.
+pub(crate) fn tell_runs<R: Abort>(rt: &R, out: &mut String, bytes: &[u8]) {
+    tree_lines::tell_runs(out, bytes).expect(rt, "no memory");
+}

@@ -2,7 +2,7 @@
 ghost use Rattle.std.specs.Prelude.{◌≤◌, length};
 
 use cluster_tree::{Names, Path, Tree};
-use memory_tree::MemoryTree;
+use memory_tree::{FailPlan, MemoryTree};
 use std::process::Abort;
 
 /// The path of a text.
@@ -15,6 +15,11 @@ pub(crate) fn root_of<R: AllocGlobal + Abort>(rt: &R, text: &str) -> Path
     ensures { length result.parts ≤ 61 }
 {
     tree_lines::root_of(rt.alloc(), text).expect(rt, "no root")
+}
+
+/// The plan where the call of a number fails, none for 0.
+pub(crate) fn plan_of<R: Abort>(rt: &R, number: &str) -> FailPlan {
+    tree_lines::plan_of(number).expect(rt, "no plan")
 }
 
 /// The names in a folder.
