@@ -5,6 +5,7 @@ mod filling;
 mod freeing;
 mod listing;
 mod loose;
+mod order;
 mod pages;
 mod restoring;
 
