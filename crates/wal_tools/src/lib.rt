@@ -3,10 +3,8 @@
 
 mod commanded;
 mod ending;
-mod plain;
 mod program;
 mod words;
 
 pub use ending::finish;
-pub use plain::run;
-pub use program::run_with;
+pub use program::{run, run_with};

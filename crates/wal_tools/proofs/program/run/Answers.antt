@@ -2,7 +2,7 @@ use Rattle.std.proofs.Common.{FitsSigned, None, map, rules, string_bytes, w64}
 use Rattle.std.proofs.lemmas.Int.{to_z-of_z}
 use Rattle.tool_words.specs.Command.{command_of}
 use Rattle.wal_tools.proofs.RunLemmas.{runs_at}
-use Rattle.wal_tools.proofs.plain.run.Goals as goal
+use Rattle.wal_tools.proofs.program.run.Goals as goal
 
 pub returns-clause-runs : goal.returns-clause-runs
 returns-clause-runs g c =
