@@ -180,9 +180,9 @@ module _ (custom : Option Extension) (root other : PathValue) where
       by None None false h = absurd cc
 
   -- pages of one folder's files, wherever the folder is
-  pages_moved : (spans : List Span) (size : SegSize) (files : Folder) (at : ℕ) → page_at (log_at root spans size) files at ≡ page_at (log_at other spans size) files at
+  pages_moved : (system : Option ℕ) (spans : List Span) (size : SegSize) (files : Folder) (at : ℕ) → page_at (log_at root system spans size) files at ≡ page_at (log_at other system spans size) files at
   unfolding page_at first_bad_field
-  pages_moved spans size files at = refl
+  pages_moved system spans size files at = refl
 
 -- ---- what stands at alike paths
 
@@ -233,10 +233,10 @@ module _ (custom : Option Extension) (per : ℕ) (root other : PathValue) (c d :
   folder_same name free =
       file_told (entry_at c (below (wal_folder root) (name ∷ []))) ∙ ap bytes_of_file (wal_same name free) ∙ sym (file_told (entry_at d (below (wal_folder other) (name ∷ []))))
 
-  pages_same : (spans : List Span) (size : SegSize) → pages_of (log_at root spans size) c ≡ pages_of (log_at other spans size) d
-  pages_same spans size = fun_ext (λ at.
-      same_pages (log_at root spans size) (folder_of c (wal_folder root)) (folder_of d (wal_folder other)) (λ number. folder_same (name_of (segment_of (log_at root spans size) number)) (segment_free (log_at root spans size) number)) at
-      ∙ pages_moved custom root other spans size (folder_of d (wal_folder other)) at)
+  pages_same : (system : Option ℕ) (spans : List Span) (size : SegSize) → pages_of (log_at root system spans size) c ≡ pages_of (log_at other system spans size) d
+  pages_same system spans size = fun_ext (λ at.
+      same_pages (log_at root system spans size) (folder_of c (wal_folder root)) (folder_of d (wal_folder other)) (λ number. folder_same (name_of (segment_of (log_at root system spans size) number)) (segment_free (log_at root system spans size) number)) at
+      ∙ pages_moved custom root other system spans size (folder_of d (wal_folder other)) at)
 
   unfinished_same : unfinished c root ≡ None → unfinished d other ≡ None
   unfolding unfinished
@@ -291,16 +291,16 @@ module _ (custom : Option Extension) (per : ℕ) (root other : PathValue) (c d :
   abbrev OkStart : Start → Result Start ReplayFault
   OkStart s = Ok s
 
-  records_start : (v : Control) (places : LabelPlaces) (spans : List Span) (size : SegSize) (s : Start)
-      → in_log custom c root v places (Some (log_at root spans size)) ≡ Ok s → From s (in_log custom d other v places (Some (log_at other spans size)))
-  records_start v places spans size s h =
-      let records : List LogRecord = (log_of (pages_of (log_at root spans size) c) (bytes_of size) places.start.0).records in
-      let here : Start = record { control = v; label = places; log = log_at root spans size; records = records } in
-      let there : Start = record { control = v; label = places; log = log_at other spans size; records = records } in
+  records_start : (v : Control) (places : LabelPlaces) (system : Option ℕ) (spans : List Span) (size : SegSize) (s : Start)
+      → in_log custom c root v places (Some (log_at root system spans size)) ≡ Ok s → From s (in_log custom d other v places (Some (log_at other system spans size)))
+  records_start v places system spans size s h =
+      let records : List LogRecord = (log_of (pages_of (log_at root system spans size) c) (bytes_of size) places.start.0).records in
+      let here : Start = record { control = v; label = places; log = log_at root system spans size; records = records } in
+      let there : Start = record { control = v; label = places; log = log_at other system spans size; records = records } in
       let two = not-refused (log_refusal custom root v places records) (Ok here) s h in
       let told : here ≡ s = one_start here s two.1 in
-      as_by s (in_log custom d other v places (Some (log_at other spans size))) (with_records custom other v places (log_at other spans size) records)
-      (ap (λ (pages : Pages). with_records custom other v places (log_at other spans size) (log_of pages (bytes_of size) places.start.0).records) (sym (pages_same spans size)))
+      as_by s (in_log custom d other v places (Some (log_at other system spans size))) (with_records custom other v places (log_at other system spans size) records)
+      (ap (λ (pages : Pages). with_records custom other v places (log_at other system spans size) (log_of pages (bytes_of size) places.start.0).records) (sym (pages_same system spans size)))
       (record {
         start = there;
         is = ap (λ o. unless o (Ok there)) (refusal_same custom root other v places records two.0);
@@ -312,10 +312,10 @@ module _ (custom : Option Extension) (per : ℕ) (root other : PathValue) (c d :
       one_start : (a b : Start) → OkStart a ≡ Ok b → a ≡ b
       one_start a b e = cc
 
-  log_start : (v : Control) (places : LabelPlaces) (spans : List Span) (s : Start) (size : Option SegSize)
-      → in_log custom c root v places (option_map (log_at root spans) size) ≡ Ok s → From s (in_log custom d other v places (option_map (log_at other spans) size))
-  log_start v places spans s None h = absurd cc
-  log_start v places spans s (Some size) h = records_start v places spans size s h
+  log_start : (v : Control) (places : LabelPlaces) (system : Option ℕ) (spans : List Span) (s : Start) (size : Option SegSize)
+      → in_log custom c root v places (option_map (log_at root system spans) size) ≡ Ok s → From s (in_log custom d other v places (option_map (log_at other system spans) size))
+  log_start v places system spans s None h = absurd cc
+  log_start v places system spans s (Some size) h = records_start v places system spans size s h
 
   label_start : (v : Control) (places : LabelPlaces) (s : Start) → from_label custom c root v places ≡ Ok s → From s (from_label custom d other v places)
   unfolding from_label
@@ -323,7 +323,7 @@ module _ (custom : Option Extension) (per : ℕ) (root other : PathValue) (c d :
       let spans = given-ok (told_by (history_at c root (timeline_of v))) (λ spans. in_log custom c root v places (log_with root v spans)) s h in
       as_by s (from_label custom d other v places) (in_log custom d other v places (log_with other v spans.0))
       (ap (λ r. given (told_by r) (λ spans. in_log custom d other v places (log_with other v spans))) (history_same (timeline_of v) spans.0 (told_ok custom root other (history_at c root (timeline_of v)) spans.0 spans.1)))
-      (log_start v places spans.0 s (size_of_bytes v.walSegSize) spans.2)
+      (log_start v places (Some v.sysid) spans.0 s (size_of_bytes v.walSegSize) spans.2)
 
   control_start : (v : Control) (s : Start) → from_control custom c root v ≡ Ok s → From s (from_control custom d other v)
   unfolding from_control

@@ -26,22 +26,23 @@ pub fn segment_size(control: &Control) -> SegSize
     }
 }
 
-/// Where the log of a cluster lies, of these timelines and this size: in `pg_wal`. Answers
-/// `OutOfMemory` only for want of memory.
+/// Where the log of a cluster lies, of these timelines and this size: in `pg_wal`, written by this
+/// system where one is wanted. Answers `OutOfMemory` only for want of memory.
 pub fn log_path(
     alloc: Global,
     root: &Path,
+    system: Option<u64>,
     spans: Spans,
     size: SegSize,
 ) -> Result<LogPath, ClusterFault>
     requires { length root.now.parts ≤ 61 }
-    ensures value { IfOk result (λ log. log ≡ log_at root.now spans size) }
+    ensures value { IfOk result (λ log. log ≡ log_at root.now system spans size) }
     ensures memory { IfErr result (λ e. e ≡ ClusterFault.OutOfMemory) }
 {
     Ok(LogPath {
         folder: wal_folder(alloc, root)?,
         spans,
         size,
-        system: None,
+        system,
     })
 }

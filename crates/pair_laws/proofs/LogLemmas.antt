@@ -1,5 +1,5 @@
 -- The log of a pair's target lies in its one segment, and so is read.
-use Rattle.std.proofs.Common.{◌≡◌, ℕ, [], ◌∷◌, Some, refl, ap, ◌∙◌, append_assoc, codes, lit<, lit≤}
+use Rattle.std.proofs.Common.{◌≡◌, ℕ, [], ◌∷◌, None, Some, refl, ap, ◌∙◌, append_assoc, codes, lit<, lit≤}
 use Rattle.cluster_tree.specs.Contents.{Contents, FileEntry, entry_at}
 use Rattle.cluster_tree.specs.PathValue.{PathValue, below, kept_parts, path_of}
 use Rattle.clusters.specs.RootLog.{log_at}
@@ -20,7 +20,7 @@ use Rattle.pair_laws.proofs.ReadLemmas.{side-read}
 
 module _ (root : PathValue) (seed blocks : ℕ) (c : Contents) (pair : HasPair root seed blocks c) where
   abbrev log : LogPath
-  log = log_at (target_of root) target_spans megabyte
+  log = log_at (target_of root) None target_spans megabyte
 
   is_path : IsPathOf log (origin_of Target)
   is_path = record { size = refl; timeline = lit< tt; later = λ number from. lit≤ tt; system = λ wanted h. absurd (cc) }

@@ -171,7 +171,7 @@ module _ (root : PathValue) (seed blocks : ℕ) (c : Contents) (pair : HasPair r
         (sym (pair-at-s root seed blocks c pair.stands parts) ∙ there);
   }
 
-module _ (root : PathValue) (seed blocks : ℕ) (c : Contents) (pair : HasPair root seed blocks c) (read : IsRead (pages_of (log_at (target_of root) target_spans megabyte) c) Target (records_of Target seed blocks)) (low : last_place Source seed blocks < 2 ^ 64) (now : ℤ) where
+module _ (root : PathValue) (seed blocks : ℕ) (c : Contents) (pair : HasPair root seed blocks c) (read : IsRead (pages_of (log_at (target_of root) None target_spans megabyte) c) Target (records_of Target seed blocks)) (low : last_place Source seed blocks < 2 ^ 64) (now : ℤ) where
   one : IsCluster c (target_of root) (relation_bytes Target seed blocks)
   one = target-cluster root seed blocks c pair
 

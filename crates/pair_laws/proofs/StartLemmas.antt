@@ -67,7 +67,7 @@ copy-path other = record {
   size = refl;
   timeline = lit< tt;
   later = λ number from. omega (arith, tli-from other number (omega (arith, from)));
-  system = λ wanted e. absurd (cc e);
+  system = λ wanted e. cc;
 }
 
 label-name : is_long_name (start_file pair_label) ≡ true
@@ -145,7 +145,7 @@ module _ (other : PathValue) (seed blocks : ℕ) (c : Contents) (few : blocks �
   unfolding from_label
   label-passes =
       ap (λ h. given (told_by h) (λ spans. in_log None c other control label (log_with other control spans))) history-said
-      ∙ ap (λ size. in_log None c other control label (option_map (log_at other copy_spans) size)) size-is
+      ∙ ap (λ size. in_log None c other control label (option_map (log_at other (Some control.sysid) copy_spans) size)) size-is
       ∙ log-passes
 
   control-passes : from_control None c other control ≡ Ok (copy_start other seed blocks)

@@ -1,5 +1,5 @@
 -- What a survey of a pair finds: the two have parted where the common checkpoint ends.
-use Rattle.std.proofs.Common.{◌≡◌, ℕ, ◌<◌, ◌^◌, Ok, option_map, refl, ap, ◌∙◌, arith}
+use Rattle.std.proofs.Common.{◌≡◌, ℕ, ◌<◌, ◌^◌, None, Ok, option_map, refl, ap, ◌∙◌, arith}
 use Rattle.cluster_tree.specs.Causes.{first_of, given as given_read, unless}
 use Rattle.cluster_tree.specs.Contents.{Contents}
 use Rattle.cluster_tree.specs.PathValue.{PathValue}
@@ -29,7 +29,7 @@ use Rattle.pair_laws.proofs.PlaceLemmas.{source-finished, target-finished}
 use Rattle.pair_laws.proofs.RecordLemmas.{AllHaveNames, all-given}
 use Rattle.pair_laws.proofs.WalkLemmas.{parted-found, place-low}
 
-module _ (root : PathValue) (seed blocks : ℕ) (c : Contents) (pair : HasPair root seed blocks c) (read : IsRead (pages_of (log_at (target_of root) target_spans megabyte) c) Target (records_of Target seed blocks)) (low : last_place Source seed blocks < 2 ^ 64) where
+module _ (root : PathValue) (seed blocks : ℕ) (c : Contents) (pair : HasPair root seed blocks c) (read : IsRead (pages_of (log_at (target_of root) None target_spans megabyte) c) Target (records_of Target seed blocks)) (low : last_place Source seed blocks < 2 ^ 64) where
   abbrev target : PathValue
   target = target_of root
 
@@ -62,7 +62,7 @@ module _ (root : PathValue) (seed blocks : ℕ) (c : Contents) (pair : HasPair r
       ap (λ r. given_read (told_by r) (λ a. given_read (told_by (history_at c source 2)) (λ b. given_read (fork_in (divergence_of a b)) (λ fork. in_log c target t fork (target_log target t a))))) (target-history_at root seed blocks c pair.stands)
       ∙ ap (λ r. given_read (told_by r) (λ b. given_read (fork_in (divergence_of target_spans b)) (λ fork. in_log c target t fork (target_log target t target_spans)))) (source-history_at root seed blocks c pair.stands)
       ∙ ap (λ a. given_read (fork_in a) (λ fork. in_log c target t fork (target_log target t target_spans))) forks-apart
-      ∙ ap (λ o. in_log c target t pair_fork (option_map (log_at target target_spans) o)) size-is
+      ∙ ap (λ o. in_log c target t pair_fork (option_map (log_at target None target_spans) o)) size-is
       ∙ parted-found target target_spans c seed blocks read (names_of_log Target seed blocks) pair-names
 
   controls_pass : from_controls c target source t s ≡ from_histories c target source t s

@@ -145,9 +145,9 @@ and_false false = refl
 
 -- ---- the log of a pair's target, wherever its folder is
 
-module _ (root : PathValue) (spans : List Span) (c : Contents) (seed blocks : ℕ) (read : IsRead (pages_of (log_at root spans megabyte) c) Target (records_of Target seed blocks)) where
+module _ (root : PathValue) (spans : List Span) (c : Contents) (seed blocks : ℕ) (read : IsRead (pages_of (log_at root None spans megabyte) c) Target (records_of Target seed blocks)) where
   abbrev log : LogPath
-  log = log_at root spans megabyte
+  log = log_at root None spans megabyte
 
   abbrev pages : Pages
   pages = pages_of log c

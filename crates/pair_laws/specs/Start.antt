@@ -1,5 +1,5 @@
 -- What the replay of a pair's copy begins from: PostgreSQL 16, src/backend/access/transam/xlogrecovery.c, InitWalRecovery. Own: "A pair from a number".
-use Rattle.std.specs.Prelude.{None, ◌≡◌, ℕ, pos, ◌≤◌, List, [], ◌∷◌, Ok}
+use Rattle.std.specs.Prelude.{None, Some, ◌≡◌, ℕ, pos, ◌≤◌, List, [], ◌∷◌, Ok}
 use Rattle.backup_label.specs.Text.{places_of}
 use Rattle.cluster_tree.specs.Contents.{Contents}
 use Rattle.cluster_tree.specs.PathValue.{PathValue}
@@ -11,7 +11,7 @@ use Rattle.wal_base.specs.Spans.{ended, open_span}
 use Rattle.wal_base.specs.declared.spans.Span.{Span}
 use Rattle.wal_pages.specs.declared.log_path.LogPath.{LogPath}
 use Rattle.pair_maker.specs.Files.{control_of, pair_label}
-use Rattle.pair_maker.specs.Logs.{made_at, megabyte}
+use Rattle.pair_maker.specs.Logs.{made_at, megabyte, system}
 use Rattle.pair_maker.specs.declared.side.Side.TheVariants.{Source}
 use Rattle.pair_laws.specs.Life.{side_records}
 use Rattle.pair_laws.specs.Stands.{CopyStands}
@@ -25,7 +25,7 @@ abbrev pub copy_spans : List Span
 copy_spans = ended (record { 0 = 0x10_00A0 }) (open_span 1 (record { 0 = 0 })) ∷ open_span 2 (record { 0 = 0x10_00A0 }) ∷ []
 
 abbrev pub copy_log : PathValue → LogPath
-copy_log other = log_at other copy_spans megabyte
+copy_log other = log_at other (Some system) copy_spans megabyte
 
 -- the source's whole log, from the common checkpoint on
 abbrev pub copy_start : PathValue → (seed blocks : ℕ) → Start

@@ -1,5 +1,5 @@
 -- The log of a cluster that was checked before a replay is one of records that replay takes.
-use Rattle.std.proofs.Common.{◌≡◌, List, [], ◌∷◌, Option, None, Some, Result, Ok, refl, ap, sym, subst, arith}
+use Rattle.std.proofs.Common.{◌≡◌, ℕ, List, [], ◌∷◌, Option, None, Some, Result, Ok, refl, ap, sym, subst, arith}
 use Rattle.rmgr_hooks.specs.Custom.{Extension}
 use Rattle.std.specs.Option.{option_map}
 use Rattle.backup_label.specs.declared.reading.LabelPlaces.{LabelPlaces}
@@ -55,9 +55,9 @@ one_start : (a b : Start) → OkStart a ≡ OkStart b → a ≡ b
 one_start a b e = cc
 
 -- a log lies in the folder of its cluster's log
-log_lies : (root : PathValue) (spans : List Span) (size : Option SegSize) (log : LogPath) → option_map (log_at root spans) size ≡ Some log → log.folder ≡ wal_folder root
-log_lies root spans None log e = absurd cc
-log_lies root spans (Some size) log e = let same : log_at root spans size ≡ log = cc in ap (λ (l : LogPath). l.folder) (sym same)
+log_lies : (root : PathValue) (system : Option ℕ) (spans : List Span) (size : Option SegSize) (log : LogPath) → option_map (log_at root system spans) size ≡ Some log → log.folder ≡ wal_folder root
+log_lies root system spans None log e = absurd cc
+log_lies root system spans (Some size) log e = let same : log_at root system spans size ≡ log = cc in ap (λ (l : LogPath). l.folder) (sym same)
 
 module _ (custom : Option Extension) (c : Contents) (root : PathValue) (start : Start) (holds : HoldsBytes c root) where
   abbrev Taken : Start → Type 0
@@ -80,7 +80,7 @@ module _ (custom : Option Extension) (c : Contents) (root : PathValue) (start : 
   unfolding from_label
   label_taken control label e =
       let spans = given-ok (told_by (history_at c root (timeline_of control))) (λ spans. in_log custom c root control label (log_with root control spans)) start e in
-      log_taken control label (log_with root control spans.0) (log_lies root spans.0 (size_of_bytes control.walSegSize)) spans.2
+      log_taken control label (log_with root control spans.0) (log_lies root (Some control.sysid) spans.0 (size_of_bytes control.walSegSize)) spans.2
 
   control_taken : (control : Control) → from_control custom c root control ≡ Ok start → Taken start
   unfolding from_control

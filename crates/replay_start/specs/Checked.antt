@@ -62,9 +62,9 @@ label_in root (Err _) = Err (fault.NoLabel root)
 unfoldable pub label_at : Contents → PathValue → Result LabelPlaces ReplayFault
 label_at c root = label_in root (file_of (entry_at c (below root (codes "backup_label" ∷ []))))
 
--- where the log lies, by the history and the size of its segments
+-- where the log lies, by the history and the size of its segments; the control file's system wrote it
 abbrev pub log_with : PathValue → Control → List Span → Option LogPath
-log_with root control spans = option_map (log_at root spans) (size_of_bytes control.walSegSize)
+log_with root control spans = option_map (log_at root (Some control.sysid) spans) (size_of_bytes control.walSegSize)
 
 -- the whole log passes, from the label's start on
 abbrev pub with_records : Option Extension → PathValue → Control → LabelPlaces → LogPath → List LogRecord → Result Start ReplayFault

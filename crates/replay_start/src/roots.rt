@@ -97,7 +97,8 @@ pub(crate) fn history_at<F: Tree>(
     }
 }
 
-/// A cursor over the log of a cluster, which lies where its history and its control file say.
+/// A cursor over the log of a cluster, which lies where its history and its control file say, and
+/// which the control file's system wrote.
 pub(crate) fn log_cursor(
     alloc: Global,
     root: &Path,
@@ -114,6 +115,12 @@ pub(crate) fn log_cursor(
     ensures memory { IfErr result (λ e. e ≡ ReplayFault.Cluster cluster.OutOfMemory) }
 {
     let spans = history.spans().copy(alloc)?;
-    let log = log_path(alloc, root, spans, segment_size(control))?;
+    let log = log_path(
+        alloc,
+        root,
+        Some(control.sysid),
+        spans,
+        segment_size(control),
+    )?;
     Ok(RecordCursor::at(alloc, log, start)?)
 }

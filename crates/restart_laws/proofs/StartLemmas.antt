@@ -82,22 +82,22 @@ module _ (custom : Option Extension) (root : PathValue) (c d : Contents) (same :
   unfolding history_at
   history-same tli = ap (λ o. if tli == 1 then Ok (open_span 1 record { 0 = 0 } ∷ []) else history_in root tli (file_of o)) (same.log (below (wal_folder root) (history_name tli ∷ [])) (holds-below (wal_folder root) (history_name tli ∷ [])))
 
-  pages-same : (spans : List Span) (size : SegSize) → pages_of (log_at root spans size) c ≡ pages_of (log_at root spans size) d
-  pages-same spans size =
-      same_log (log_at root spans size) c d (λ number. ap file_in (same.log (below (wal_folder root) _) (holds-below (wal_folder root) _)))
+  pages-same : (system : Option ℕ) (spans : List Span) (size : SegSize) → pages_of (log_at root system spans size) c ≡ pages_of (log_at root system spans size) d
+  pages-same system spans size =
+      same_log (log_at root system spans size) c d (λ number. ap file_in (same.log (below (wal_folder root) _) (holds-below (wal_folder root) _)))
 
-  log-same : (v : Control) (places : LabelPlaces) (spans : List Span) (size : Option SegSize)
-      → in_log custom c root v places (option_map (log_at root spans) size) ≡ in_log custom d root v places (option_map (log_at root spans) size)
-  log-same v places spans None = refl
-  log-same v places spans (Some size) =
-      ap (λ (pages : Pages). with_records custom root v places (log_at root spans size) (log_of pages (bytes_of size) places.start.0).records) (pages-same spans size)
+  log-same : (v : Control) (places : LabelPlaces) (system : Option ℕ) (spans : List Span) (size : Option SegSize)
+      → in_log custom c root v places (option_map (log_at root system spans) size) ≡ in_log custom d root v places (option_map (log_at root system spans) size)
+  log-same v places system spans None = refl
+  log-same v places system spans (Some size) =
+      ap (λ (pages : Pages). with_records custom root v places (log_at root system spans size) (log_of pages (bytes_of size) places.start.0).records) (pages-same system spans size)
 
   from-label : (v : Control) (places : LabelPlaces) → from_label custom c root v places ≡ from_label custom d root v places
   unfolding from_label
   from-label v places =
       then-same (told_by (history_at c root (timeline_of v))) (told_by (history_at d root (timeline_of v)))
       (λ spans. in_log custom c root v places (log_with root v spans)) (λ spans. in_log custom d root v places (log_with root v spans))
-      (ap told_by (history-same (timeline_of v))) (λ spans. log-same v places spans (size_of_bytes v.walSegSize))
+      (ap told_by (history-same (timeline_of v))) (λ spans. log-same v places (Some v.sysid) spans (size_of_bytes v.walSegSize))
 
   from-control : (v : Control) → from_control custom c root v ≡ from_control custom d root v
   unfolding from_control

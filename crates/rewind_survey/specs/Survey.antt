@@ -71,9 +71,9 @@ past_fork pages size fork end = if nat_le end.0 fork.at.0 then Ok (AtFork fork) 
 unfoldable pub parted : Pages → ℕ → Control → Divergence → Result Survey RewindFault
 parted pages size t fork = given (walked (end_of_target pages size t)) (past_fork pages size fork)
 
--- where the target's log lies, by its history and the size of its segments
+-- where the target's log lies, by its history and the size of its segments; whatever system wrote it
 abbrev pub target_log : PathValue → Control → List Span → Option LogPath
-target_log target t spans = option_map (log_at target spans) (size_of_bytes t.walSegSize)
+target_log target t spans = option_map (log_at target None spans) (size_of_bytes t.walSegSize)
 
 -- in that log; a control file that was read has the size of a segment
 abbrev pub in_log : Contents → PathValue → Control → Divergence → Option LogPath → Result Survey RewindFault

@@ -110,6 +110,6 @@ pub(crate) fn target_log(
     ensures memory { IfErr result (λ e. e ≡ RewindFault.Cluster cluster.OutOfMemory) }
 {
     let spans = history.spans().copy(alloc)?;
-    let log = log_path(alloc, target, spans, segment_size(t))?;
+    let log = log_path(alloc, target, None, spans, segment_size(t))?;
     Ok(RecordCursor::at(alloc, log, Lsn(t.checkPoint))?)
 }

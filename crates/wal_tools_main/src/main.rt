@@ -1,6 +1,9 @@
 //! The program over the machine's files: its words and its exit.
 #![tactic(auto)]
 
+mod places;
+mod streams;
+
 use commands::{CommandName, named};
 use machine::{DirTree, StdSink};
 use run_acts::Cause;
@@ -10,6 +13,7 @@ use std::process::ExitCode;
 use std::rt::{Clock, Env};
 use std::time::{SystemTime, UNIX_EPOCH};
 use std::{env, io, str};
+use streams::Held;
 use wal_tools::{finish, run_with};
 
 // Longer than any command's name.
@@ -57,16 +61,20 @@ fn seconds_now(rt: &impl Clock) -> i64 {
 }
 
 fn main(rt: HostRuntime) -> ExitCode {
+    let _held = Held::open(&rt);
     let alloc = rt.alloc();
     let mut out = StdSink::new(rt.stdout());
     let mut err = StdSink::new(rt.stderr());
     let exit = match words_of(&rt) {
-        Ok(words) => {
-            let now = seconds_now(&rt);
-            let mut tree = DirTree::new(rt, alloc);
-            let custom = Some(&SampleManager);
-            run_with(alloc, &words, &mut tree, &mut out, &mut err, now, custom)
-        }
+        Ok(words) => match places::refusal(&rt, alloc, &words) {
+            Some(cause) => finish(alloc, first_name(&rt), cause, &mut err),
+            None => {
+                let now = seconds_now(&rt);
+                let mut tree = DirTree::new(rt, alloc);
+                let custom = Some(&SampleManager);
+                run_with(alloc, &words, &mut tree, &mut out, &mut err, now, custom)
+            }
+        },
         Err(error) => finish(alloc, first_name(&rt), unread_cause(&error), &mut err),
     };
     ExitCode::from(exit.status)
